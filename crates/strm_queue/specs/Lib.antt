@@ -1,0 +1,2 @@
+pub mod Queue
+pub mod Room

@@ -1,0 +1,48 @@
+//! A stream of one process: sends a message down an echo stream and takes it back.
+#![tactic(auto)]
+
+mod spell;
+
+use spell::CallLine;
+use std::alloc::Global;
+use strm_head::{Driver, Entry, Priority, Request, Stream, Wanted};
+use strm_msg::{Bytes, End, NoMem};
+
+/// What the process asks, in order.
+fn calls(alloc: Global) -> Result<Vec<(End, Request)>, NoMem> {
+    let ctl = Some(Bytes::from_slice(alloc, b"c")?);
+    let dat = Some(Bytes::from_slice(alloc, b"hello")?);
+    let flag = Priority::Norm;
+    let send = Request::Putmsg { ctl, dat, flag };
+    let take = Request::Getmsg {
+        maxctl: Some(64),
+        maxdat: Some(64),
+        flag: Wanted::Any,
+    };
+    let mut calls = Vec::with_capacity(alloc, 2)?;
+    calls.push((End::A, send))?;
+    calls.push((End::A, take))?;
+    Ok(calls)
+}
+
+/// Prints what happened to the stream, a line for each call.
+fn print(rt: &impl Print, entries: &[Entry]) -> anyhow::Result<()> {
+    println!(rt; "stream s")?;
+    for entry in entries {
+        let line = CallLine {
+            process: "p",
+            stream: "s",
+            entry,
+        };
+        println!(rt; "{line}")?;
+    }
+    println!(rt; "open a")?;
+    Ok(())
+}
+
+fn main(rt: HostRuntime) -> anyhow::Result<()> {
+    let alloc: Global = rt.alloc();
+    let mut stream = Stream::new(alloc, Driver::Echo, (16, 4), (16, 4))?;
+    let entries = stream.apply_all(alloc, calls(alloc)?)?;
+    print(&rt, entries.as_slice())
+}

@@ -1,1 +1,2 @@
 pub mod StreamLemmas
+mod WorkedExamples

@@ -1,2 +1,3 @@
 pub mod OrderLemmas
 pub mod RoomLemmas
+mod WorkedExamples

@@ -54,11 +54,11 @@ is_flushed (MError errno) = false
 abbrev pub flush_of : List Msg → List Msg
 flush_of q = filter (λ m. not (is_flushed m.kind)) q
 
--- what a flush of one band leaves: a high message counts as one of band 0 (flushband)
+-- what a flush of one band leaves; a high message is of band 0 (flushband)
 abbrev pub flush_band_of : ℕ → List Msg → List Msg
 flush_band_of band q = filter (λ m. not (is_flushed m.kind && (m.band == band))) q
 
--- what a message adds to a band: a high message counts as one of band 0
+-- what a message adds to a band; a high message is of band 0
 abbrev pub weight_in : ℕ → Msg → ℕ
 weight_in band m = if m.band == band then weight_of m else 0
 

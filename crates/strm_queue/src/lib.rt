@@ -7,6 +7,8 @@
 
 mod marks;
 mod queue;
+#[cfg(test)]
+mod tests;
 
 pub use marks::Marks;
 pub use queue::BandQueue;

@@ -134,9 +134,13 @@ impl BandQueue {
     }
 
     /// Makes room, so that the next `put` or `put_back` of a message of this rank succeeds.
+    ///
+    /// Refused for want of memory alone, and not where the room is there. No rank loses room.
     pub fn make_room(&mut self, rank: u16) -> Result<(), NoMem>
         requires { rank ≤ 256 }
         ensures room { OnOk result (0 < room_for self.new.room rank) }
+        ensures enough { 0 < room_for self.old.room rank → IsOk result }
+        ensures kept { (other : ℕ) → room_for self.old.room other ≤ room_for self.new.room other }
         ensures marks { self.new.marks ≡ self.old.marks }
         ensures messages { self.new.messages ≡ self.old.messages }
     {
@@ -178,19 +182,22 @@ impl BandQueue {
         self.items.is_empty()
     }
 
-    /// Removes data and protocol messages (flushq(9F) with FLUSHDATA). Takes no memory.
+    /// Removes data and protocol messages (flushq(9F) with FLUSHDATA). Takes no memory, and leaves
+    /// what room there was.
     pub fn flush(&mut self)
         ensures messages { self.new.messages ≡ flush_of self.old.messages }
         ensures marks { self.new.marks ≡ self.old.marks }
+        ensures room { (rank : ℕ) → room_for self.old.room rank ≤ room_for self.new.room rank }
     {
         self.items.retain(|m| stays(m));
     }
 
     /// Removes data and protocol messages of one band; `MPcproto` is of band 0 (flushband(9F) with
-    /// FLUSHDATA). Takes no memory.
+    /// FLUSHDATA). Takes no memory, and leaves what room there was.
     pub fn flush_band(&mut self, band: u8)
         ensures messages { self.new.messages ≡ flush_band_of band self.old.messages }
         ensures marks { self.new.marks ≡ self.old.marks }
+        ensures room { (rank : ℕ) → room_for self.old.room rank ≤ room_for self.new.room rank }
     {
         self.items.retain(|m| stays_in(m, band));
     }

@@ -1,8 +1,9 @@
-use Rattle.std.proofs.Common.{not, rules, refl}
+use Rattle.std.proofs.Common.{not, rules, refl, arith}
 use Rattle.std.proofs.lemmas.List.Elements.{filter_from_retain}
 use Rattle.strm_msg.specs.Message.{Msg}
 use Rattle.strm_queue.specs.Queue.{is_flushed}
 use Rattle.strm_queue.proofs.OrderLemmas.{is_ordered-filter}
+use Rattle.strm_queue.proofs.RoomLemmas.{room_for-same_room-le}
 use Rattle.strm_queue.proofs.queue.BandQueue.flush.Goals as goal
 
 pub invariant_of-self : goal.invariant_of-self
@@ -16,3 +17,7 @@ returns-clause-messages c =
     let test = λ (m : Msg). not (is_flushed m.kind) in
     let filtered = filter_from_retain _ test (λ p x b q r. search rules) _ c.self.inside.items.items c.retain.new.self.items c.retain.ensures.filtered in
     rw (← c.self.view_is, filtered) refl
+
+pub returns-clause-room : goal.returns-clause-room
+returns-clause-room c = λ rank.
+    rw (← c.self.view_is) (room_for-same_room-le _ _ rank (omega arith))

@@ -1,0 +1,193 @@
+//! What no clause says: that calls succeed where memory is ample, and whether the rules that the
+//! clauses state are the ones that were meant.
+use super::*;
+use std::alloc::Global;
+use std::process::Abort;
+use std::test::Fail;
+use strm_msg::{Errno, Message};
+
+fn empty_queue(rt: &impl Abort, alloc: Global) -> BandQueue {
+    BandQueue::new(alloc, Marks::new(16, 4).expect(rt, "marks"))
+}
+
+/// A queue in which the messages were put in this order.
+fn queue_of(rt: &impl Abort, alloc: Global, messages: &[&Message]) -> Result<BandQueue, Fail> {
+    let mut q = empty_queue(rt, alloc);
+    for m in messages {
+        q.put(m.copy(alloc)?)?;
+    }
+    Ok(q)
+}
+
+/// Takes the messages one by one: they are these, in this order, and no others.
+fn assert_holds(rt: &impl Abort, mut q: BandQueue, wanted: &[&Message]) {
+    assert_eq!(rt; q.len(), wanted.len());
+    for m in wanted {
+        assert!(rt;
+            *q.first().expect(rt, "a first message") == **m,
+            "first is {m:?}"
+        );
+        assert!(rt; q.get().expect(rt, "a message") == **m, "{m:?} is taken");
+    }
+    assert!(rt; q.is_empty());
+}
+
+// A worked example, worked out by hand from the rules of order: high before bands, a greater band
+// before a lesser one, put behind equals and put back before them.
+#[test]
+fn bands_in_a_worked_example(rt: HostRuntime) -> Result<(), Fail> {
+    let alloc = rt.alloc();
+    let a = Message::of_data(alloc, 0, b"a")?;
+    let b = Message::of_data(alloc, 3, b"b")?;
+    let h = Message::of_pcproto(alloc, b"h", None)?;
+    let c = Message::of_data(alloc, 3, b"c")?;
+    let z = Message::of_data(alloc, 3, b"z")?;
+    let puts = [&a, &b, &h, &c];
+    assert_holds(&rt, queue_of(&rt, alloc, &puts)?, &[&h, &b, &c, &a]);
+
+    let mut q = queue_of(&rt, alloc, &puts)?;
+    q.put_back(z.copy(alloc)?)?;
+    assert_eq!(rt; q.held(3), 3);
+    assert_eq!(rt; q.held(0), 2);
+    assert_eq!(rt; q.held(1), 0);
+    assert_holds(&rt, q, &[&h, &z, &b, &c, &a]);
+
+    let mut q = queue_of(&rt, alloc, &puts)?;
+    q.put_back(z)?;
+    q.flush_band(3);
+    assert_holds(&rt, q, &[&h, &a]);
+
+    let mut q = queue_of(&rt, alloc, &puts)?;
+    q.flush_band(3);
+    q.flush();
+    assert_holds(&rt, q, &[]);
+    Ok(())
+}
+
+// A worked example: control and data together are two bytes, and the copy is equal.
+#[test]
+fn a_copy_of_a_protocol_message_holds_two_bytes(rt: HostRuntime) -> Result<(), Fail> {
+    let alloc = rt.alloc();
+    let m = Message::of_proto(alloc, 3, b"c", Some(b"d".as_slice()))?;
+    assert_eq!(rt; m.weight(), 2);
+    let copy = m.copy(alloc)?;
+    assert!(rt; copy == m);
+    let q = queue_of(&rt, alloc, &[&m])?;
+    assert_eq!(rt; q.held(3), 2);
+    assert_holds(&rt, q, &[&copy]);
+    Ok(())
+}
+
+// A worked example with the marks 16 and 4: at most 4 bytes are slack, at least 16 are full, and
+// another band is not concerned.
+#[test]
+fn marks_in_a_worked_example(rt: HostRuntime) -> Result<(), Fail> {
+    let alloc = rt.alloc();
+    let mut q = empty_queue(&rt, alloc);
+    for (more, held, slack, full) in [
+        (None, 0, true, false),
+        (Some(b"xxxx".as_slice()), 4, true, false),
+        (Some(b"x".as_slice()), 5, false, false),
+        (Some(b"xxxxxxxxxx".as_slice()), 15, false, false),
+        (Some(b"x".as_slice()), 16, false, true),
+    ] {
+        if let Some(dat) = more {
+            q.put(Message::of_data(alloc, 0, dat)?)?;
+        }
+        assert_eq!(rt; q.held(0), held);
+        assert_eq!(rt; q.slack(0), slack, "slack at {held}");
+        assert_eq!(rt; q.full(0), full, "full at {held}");
+        assert!(rt; !q.full(1) && q.slack(1), "the other band at {held}");
+    }
+    Ok(())
+}
+
+// By the rule that the low mark is below the high one.
+#[test]
+fn marks_are_made_of_a_lower_and_a_higher_one(rt: HostRuntime) {
+    for (hi, lo, marks) in [
+        (4, 4, None),
+        (4, 5, None),
+        (0, 0, None),
+        (5, 4, Some(Marks { hi: 5, lo: 4 })),
+    ] {
+        assert_eq!(rt; Marks::new(hi, lo), marks, "at {hi} and {lo}");
+    }
+}
+
+// By the rule of flushes: they take data and protocol messages, and a high-priority one counts as
+// one of band 0.
+#[test]
+fn a_flush_takes_data_and_protocol_messages_alone(rt: HostRuntime) -> Result<(), Fail> {
+    let alloc = rt.alloc();
+    let data = Message::of_data(alloc, 0, b"a")?;
+    let proto = Message::of_proto(alloc, 3, b"c", None)?;
+    let pcproto = Message::of_pcproto(alloc, b"h", None)?;
+    let ioctl = Message::of_ioctl(alloc, 1, 9, None)?;
+    let ack = Message::of_ack(1, 0, None);
+    let nak = Message::of_nak(2, Errno::EINVAL);
+    let flush = Message::of_flush(true, true, None);
+    let hangup = Message::of_hangup();
+    let error = Message::of_error(Errno::EIO);
+    let puts = [
+        &data, &ioctl, &proto, &ack, &nak, &pcproto, &flush, &hangup, &error,
+    ];
+
+    let mut q = queue_of(&rt, alloc, &puts)?;
+    q.flush();
+    assert_holds(&rt, q, &[&ack, &nak, &flush, &hangup, &error, &ioctl]);
+
+    let mut q = queue_of(&rt, alloc, &puts)?;
+    q.flush_band(0);
+    assert_holds(
+        &rt,
+        q,
+        &[&ack, &nak, &flush, &hangup, &error, &proto, &ioctl],
+    );
+
+    let mut q = queue_of(&rt, alloc, &puts)?;
+    q.flush_band(3);
+    assert_holds(
+        &rt,
+        q,
+        &[&ack, &nak, &pcproto, &flush, &hangup, &error, &data, &ioctl],
+    );
+    Ok(())
+}
+
+// By hand: another high message is none, and a flush takes the one that is there.
+#[test]
+fn a_high_protocol_message_is_found(rt: HostRuntime) -> Result<(), Fail> {
+    let alloc = rt.alloc();
+    let mut q = empty_queue(&rt, alloc);
+    assert!(rt; !q.has_pcproto());
+    q.put(Message::of_ack(1, 0, None))?;
+    q.put(Message::of_proto(alloc, 0, b"c", None)?)?;
+    assert!(rt; !q.has_pcproto());
+    q.put(Message::of_pcproto(alloc, b"h", None)?)?;
+    assert!(rt; q.has_pcproto());
+    q.flush();
+    assert!(rt; !q.has_pcproto());
+    Ok(())
+}
+
+// By hand: an empty queue has no first message, and room is made and used.
+#[test]
+fn an_empty_queue_takes_what_room_was_made_for(rt: HostRuntime) -> Result<(), Fail> {
+    let alloc = rt.alloc();
+    let mut q = empty_queue(&rt, alloc);
+    assert!(rt; q.first().is_none());
+    assert!(rt; q.get().is_none());
+    assert_eq!(rt; q.len(), 0);
+    assert!(rt; q.is_empty());
+    q.make_room(0)?;
+    assert!(rt; q.is_empty());
+    let a = Message::of_data(alloc, 0, b"a")?;
+    q.put(a.copy(alloc)?)?;
+    q.make_room(256)?;
+    let h = Message::of_pcproto(alloc, b"h", None)?;
+    q.put_back(h.copy(alloc)?)?;
+    assert!(rt; !q.is_empty());
+    assert_holds(&rt, q, &[&h, &a]);
+    Ok(())
+}

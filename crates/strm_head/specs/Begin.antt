@@ -7,17 +7,14 @@ use Rattle.strm_msg.specs.declared.errno.Errno.{Errno}
 use Rattle.strm_msg.specs.declared.errno.Errno.TheVariants.{EBADF, ENOSR, EINVAL, ERANGE, ENXIO, EAGAIN}
 use Rattle.strm_msg.specs.declared.words.End.{End}
 use Rattle.strm_queue.specs.Queue.{is_full, put_back_in}
-use Rattle.strm_head.specs.declared.place.Driver.TheVariants.{Echo}
 use Rattle.strm_head.specs.declared.request.Priority.{Priority}
 use Rattle.strm_head.specs.declared.request.Priority.TheVariants.{Norm, Hipri}
 use Rattle.strm_head.specs.declared.request.Wanted.{Wanted}
-use Rattle.strm_head.specs.declared.request.Wanted.TheVariants as Wanted
 use Rattle.strm_head.specs.declared.request.More.TheVariants.{Nothing}
 use Rattle.strm_head.specs.declared.request.Request.{Request}
 use Rattle.strm_head.specs.declared.request.Request.TheVariants.{Putmsg, Getmsg}
 use Rattle.strm_head.specs.declared.answer.Refusal.{Refusal}
 use Rattle.strm_head.specs.declared.answer.Reply.{Reply}
-use Rattle.strm_head.specs.declared.answer.Reply.TheVariants as Reply
 use Rattle.strm_head.specs.Image.{Image, EndImage, end_of, with_end}
 use Rattle.strm_head.specs.Deliver.{sent_on, down, with_head}
 use Rattle.strm_head.specs.Cut.{Most, cut_of}

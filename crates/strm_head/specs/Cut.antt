@@ -1,5 +1,5 @@
 -- What a read takes of a message, and what stays (getmsg(2)).
-use Rattle.std.specs.Prelude.{ℕ, nat_le, Bool, true, false, Option, Some, None, List, length, take, drop, if◌then◌else◌, option_map}
+use Rattle.std.specs.Prelude.{ℕ, nat_le, Option, Some, None, length, take, drop, if◌then◌else◌, option_map}
 use Rattle.strm_msg.specs.Message.{Msg, Part, data_msg}
 use Rattle.strm_head.specs.declared.request.More.{More}
 use Rattle.strm_head.specs.declared.request.More.TheVariants.{Nothing, Ctl, Data, Both}

@@ -5,3 +5,4 @@ pub mod Move
 pub mod Cut
 pub mod Begin
 pub mod Step
+pub mod Fault

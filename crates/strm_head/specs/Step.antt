@@ -17,7 +17,7 @@ use Rattle.strm_head.specs.declared.answer.Answer.TheVariants.{Done, Refused, Br
 use Rattle.strm_head.specs.declared.history.Event.{Event}
 use Rattle.strm_head.specs.declared.history.Event.TheVariants.{Asked, Arrived}
 use Rattle.strm_head.specs.declared.history.Entry.{Entry}
-use Rattle.strm_head.specs.Image.{Image, EndImage, end_of, with_end}
+use Rattle.strm_head.specs.Image.{Image, end_of, with_end}
 use Rattle.strm_head.specs.Deliver.{with_driver, up}
 use Rattle.strm_head.specs.Move.{Settles}
 use Rattle.strm_head.specs.Begin.{refusal_of, begun_of}

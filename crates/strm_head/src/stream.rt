@@ -9,6 +9,7 @@ ghost use Rattle.strm_head.specs.Inside.{is_sent, IsEcho};
 ghost use Rattle.strm_head.specs.Deliver.{down, sent_on, with_head};
 ghost use Rattle.strm_head.specs.Move.{may, move, IsQuiet, Settles};
 ghost use Rattle.strm_head.specs.Begin.{refusal_of, putmsg_refusal, getmsg_refusal, begun_of, message_of, got_of, put_back_if, priority_of};
+ghost use Rattle.strm_head.specs.Fault.{fault_number};
 ghost use Rattle.strm_head.specs.Step.{Step, Answers, Finishes, Breaks, SameEnds, Legal};
 
 use crate::answer::{Answer, Outcome, Refusal, Reply};
@@ -25,12 +26,24 @@ use thiserror::Error;
 /// Why a stream was not made.
 #[derive(Clone, Copy, Debug, PartialEq, Eq, Error)]
 pub enum NewFault {
-    /// A low water mark is not below its high one.
+    /// A low water mark is not below its high one. Looked at first.
     #[error("a low water mark is not below its high one")]
     Marks,
-    /// Want of memory.
+    /// Want of memory. Not met by an echo stream without modules, which takes none.
     #[error("no memory")]
     NoMem,
+}
+
+impl NewFault {
+    /// The number of the fault: 1 for marks, 2 for want of memory.
+    pub fn number(self) -> u8
+        ensures { result ≡ fault_number self }
+    {
+        match self {
+            NewFault::Marks => 1,
+            NewFault::NoMem => 2,
+        }
+    }
 }
 
 /// A stream: a driver, and a stream head at each of its ends.
@@ -114,8 +127,7 @@ impl Stream {
     /// A stream that was just opened, with the marks of its head and of its driver as
     /// `(high, low)`, in bytes.
     ///
-    /// Refused with `Marks` exactly where a low mark is not below its high one, and else for want
-    /// of memory alone.
+    /// Refused with `Marks` exactly where a low mark is not below its high one. Takes no memory.
     pub fn new(
         alloc: Global,
         driver: Driver,

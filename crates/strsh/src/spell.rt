@@ -133,12 +133,14 @@ impl fmt::Display for Spelt<'_> {
     fn fmt<W: fmt::Write>(&self, f: &mut fmt::Formatter<W>) -> fmt::Result {
         match self.0 {
             Answer::Done(Reply::Putmsg) => f.write_str("0"),
-            Answer::Done(Reply::Getmsg {
-                ctl,
-                dat,
-                flag,
-                more,
-            }) => {
+            Answer::Done(
+                Reply::Getmsg {
+                    ctl,
+                    dat,
+                    flag,
+                    more,
+                },
+            ) => {
                 let (ctl, dat) = (Part(ctl), Part(dat));
                 let (flag, more) = (priority_word(*flag), more_word(*more));
                 write!(f, "{ctl} {dat} {flag} {more}")

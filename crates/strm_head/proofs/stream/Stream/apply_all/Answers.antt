@@ -1,6 +1,5 @@
-use Rattle.std.proofs.Common.{◌≡◌, ◌∙◌, arith, append_assoc, length-append}
+use Rattle.std.proofs.Common.{arith, append_assoc, length-append}
 use Rattle.std.proofs.lemmas.List.{map-append}
-use Rattle.std.proofs.lemmas.Grind.{common_steps}
 use Rattle.strm_head.proofs.StreamLemmas.{Legal-push}
 use Rattle.strm_head.proofs.stream.Stream.apply_all.Goals as goal
 

@@ -1,7 +1,6 @@
 use Rattle.std.proofs.Common.{◌≡◌, ◌≤◌, ◌++◌, map, length, vec_len, vec_capacity}
 use Rattle.std.specs.Vec.Iter.{into_iter_items}
 use Rattle.strm_head.specs.declared.history.Event.TheVariants.{Asked}
-use Rattle.strm_head.specs.Image.{Image}
 use Rattle.strm_head.specs.Step.{Legal}
 use Rattle.strm_head.proofs.stream.Stream.apply_all.Given as goal
 

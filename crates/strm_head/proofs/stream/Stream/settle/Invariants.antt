@@ -1,4 +1,4 @@
-use Rattle.std.proofs.Common.{◌≡◌, length}
+use Rattle.std.proofs.Common.{length}
 use Rattle.strm_head.specs.Move.{Moves}
 use Rattle.strm_head.specs.Step.{SameEnds}
 use Rattle.strm_head.proofs.stream.Stream.settle.Given as goal

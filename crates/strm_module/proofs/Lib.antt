@@ -1,0 +1,2 @@
+pub mod ActLemmas
+pub mod WorkedExamples

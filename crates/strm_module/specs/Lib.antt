@@ -1,0 +1,4 @@
+pub mod Bytes
+pub mod Shape
+pub mod Act
+pub mod Module

@@ -1,0 +1,68 @@
+-- The shape of a module: its name, its marks and what it keeps (qinit(9S), module_info(9S)).
+use Rattle.std.specs.Prelude.{◌≡◌, ℕ, ◌==◌, ◌&&◌, ◌||◌, nat_le, nat_lt, Bool, true, Option, Some, None, List, length, if◌then◌else◌, is_some, option_map}
+use Rattle.std.specs.Char.{is_ascii_alphanumeric}
+use Rattle.std.specs.List.{list_all}
+use Rattle.strm_msg.specs.declared.words.Side.{Side}
+use Rattle.strm_msg.specs.declared.words.Side.TheVariants.{Rd, Wr}
+use Rattle.strm_queue.specs.Queue.{WaterMarks}
+use Rattle.strm_module.specs.declared.shape.Shape.{Shape}
+use Rattle.strm_module.specs.declared.shape.Kind.{Kind}
+use Rattle.strm_module.specs.declared.shape.MakeFault.{MakeFault}
+use Rattle.strm_module.specs.declared.shape.MakeFault.TheVariants.{Name, Marks}
+
+-- the marks of a side's queue, where the module has a queue there
+abbrev pub marks_on : Shape → Side → Option WaterMarks
+marks_on s Rd = s.rd
+marks_on s Wr = s.wr
+
+-- whether the module queues ordinary messages of that side
+abbrev pub queues_on : Shape → Side → Bool
+queues_on s side = is_some (marks_on s side)
+
+-- a letter, a digit or `_`
+abbrev pub is_name_byte : ℕ → Bool
+is_name_byte b = is_ascii_alphanumeric b || (b == 95)
+
+-- 1 to 8 of these
+abbrev pub is_name : List ℕ → Bool
+is_name name = nat_le 1 (length name) && nat_le (length name) 8 && list_all is_name_byte name
+
+-- the high mark and the low mark of a side, where there is a queue
+abbrev pub MarkPair : Type 0
+MarkPair = Option (ℕ × ℕ)
+
+-- the low mark is below the high one
+abbrev pub are_marks : MarkPair → Bool
+are_marks None = true
+are_marks (Some pair) = nat_lt pair.1 pair.0
+
+abbrev pub marks_of : MarkPair → Option WaterMarks
+marks_of pair = option_map (λ p. record { hi = p.0; lo = p.1 }) pair
+
+-- why no module is made: the name is judged before the marks
+abbrev pub make_fault : List ℕ → MarkPair → MarkPair → Option MakeFault
+make_fault name rd wr =
+    if is_name name then (if are_marks rd && are_marks wr then None else Some Marks) else Some Name
+
+-- the number of a fault
+abbrev pub number_of : MakeFault → ℕ
+number_of Name = 1
+number_of Marks = 2
+
+-- the shape of a new module
+abbrev pub new_shape : ℕ → List ℕ → MarkPair → MarkPair → Kind → Shape
+new_shape serial name rd wr kind =
+    record {
+      serial = serial;
+      name = record { items = name };
+      rd = marks_of rd;
+      wr = marks_of wr;
+      kind = kind;
+    }
+
+-- the same module with the same queues: only what its kind keeps can differ
+pub record IsSameModule (old new : Shape) : Type 0 where
+  pub serial : new.serial ≡ old.serial
+  pub name : new.name ≡ old.name
+  pub rd : new.rd ≡ old.rd
+  pub wr : new.wr ≡ old.wr

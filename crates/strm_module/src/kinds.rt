@@ -1,0 +1,402 @@
+//! The eight kinds of module. Each object acts by the shape that it is handed and keeps nothing.
+ghost use Rattle.std.specs.Prelude.{◌≡◌, [], is_ok, is_none, IfOk, IfErr, Some};
+ghost use Rattle.strm_module.specs.declared.shape.Kind.TheVariants as Kind;
+ghost use Rattle.strm_module.specs.Shape.{make_fault, new_shape};
+
+use crate::module::{Instance, Module, Outs, Put};
+use crate::shape::{Kind as ShapeKind, MakeFault, Shape};
+use std::alloc::Global;
+use strm_msg::{Message, NoMem, Side};
+
+/// Sends each message on unchanged.
+#[derive(Debug, Drop)]
+pub struct Pass;
+
+impl Pass {
+    /// A new module with this name, and with a queue on each side for which a high and a low mark
+    /// are given. Takes no memory.
+    ///
+    /// Refused for the name first, then for the marks of either side.
+    pub fn new(
+        serial: u64,
+        name: &[u8],
+        rd: Option<(u32, u32)>,
+        wr: Option<(u32, u32)>,
+    ) -> Result<Instance<Pass>, MakeFault>
+        ensures ok { IfOk result (λ it. it.shape ≡ new_shape serial name.now rd wr Kind.Pass) }
+        ensures err { IfErr result (λ fault. make_fault name.now rd wr ≡ Some fault) }
+        ensures variant { is_ok result ≡ is_none (make_fault name.now rd wr) }
+    {
+        let shape = Shape::new(serial, name, rd, wr, ShapeKind::Pass)?;
+        Ok(Instance {
+            shape,
+            module: Pass,
+        })
+    }
+}
+
+impl Module for Pass {
+    fn put(
+        &mut self,
+        alloc: Global,
+        shape: &mut Shape,
+        side: Side,
+        m: Message,
+    ) -> Result<Put, NoMem> {
+        shape.put(alloc, side, m)
+    }
+
+    fn serve(
+        &mut self,
+        alloc: Global,
+        shape: &mut Shape,
+        side: Side,
+        m: Message,
+    ) -> Result<Outs, NoMem> {
+        shape.serve(alloc, side, m)
+    }
+}
+
+/// Maps data on its way down byte by byte.
+#[derive(Debug, Drop)]
+pub struct Table;
+
+impl Table {
+    /// A new module with this name, and with a queue on each side for which a high and a low mark
+    /// are given. `map` has what stands for each byte. Takes no memory.
+    ///
+    /// Refused for the name first, then for the marks of either side.
+    pub fn new(
+        serial: u64,
+        name: &[u8],
+        rd: Option<(u32, u32)>,
+        wr: Option<(u32, u32)>,
+        map: [u8; 256],
+    ) -> Result<Instance<Table>, MakeFault>
+        ensures ok { IfOk result (λ it. it.shape ≡ new_shape serial name.now rd wr (Kind.Table map)) }
+        ensures err { IfErr result (λ fault. make_fault name.now rd wr ≡ Some fault) }
+        ensures variant { is_ok result ≡ is_none (make_fault name.now rd wr) }
+    {
+        let shape = Shape::new(serial, name, rd, wr, ShapeKind::Table { map })?;
+        Ok(Instance {
+            shape,
+            module: Table,
+        })
+    }
+}
+
+impl Module for Table {
+    fn put(
+        &mut self,
+        alloc: Global,
+        shape: &mut Shape,
+        side: Side,
+        m: Message,
+    ) -> Result<Put, NoMem> {
+        shape.put(alloc, side, m)
+    }
+
+    fn serve(
+        &mut self,
+        alloc: Global,
+        shape: &mut Shape,
+        side: Side,
+        m: Message,
+    ) -> Result<Outs, NoMem> {
+        shape.serve(alloc, side, m)
+    }
+}
+
+/// Turns LF into CR LF in data on its way down, and CR LF into LF in data on its way up.
+#[derive(Debug, Drop)]
+pub struct CrNl;
+
+impl CrNl {
+    /// A new module with this name, and with a queue on each side for which a high and a low mark
+    /// are given. Takes no memory.
+    ///
+    /// Refused for the name first, then for the marks of either side.
+    pub fn new(
+        serial: u64,
+        name: &[u8],
+        rd: Option<(u32, u32)>,
+        wr: Option<(u32, u32)>,
+    ) -> Result<Instance<CrNl>, MakeFault>
+        ensures ok { IfOk result (λ it. it.shape ≡ new_shape serial name.now rd wr Kind.CrNl) }
+        ensures err { IfErr result (λ fault. make_fault name.now rd wr ≡ Some fault) }
+        ensures variant { is_ok result ≡ is_none (make_fault name.now rd wr) }
+    {
+        let shape = Shape::new(serial, name, rd, wr, ShapeKind::CrNl)?;
+        Ok(Instance {
+            shape,
+            module: CrNl,
+        })
+    }
+}
+
+impl Module for CrNl {
+    fn put(
+        &mut self,
+        alloc: Global,
+        shape: &mut Shape,
+        side: Side,
+        m: Message,
+    ) -> Result<Put, NoMem> {
+        shape.put(alloc, side, m)
+    }
+
+    fn serve(
+        &mut self,
+        alloc: Global,
+        shape: &mut Shape,
+        side: Side,
+        m: Message,
+    ) -> Result<Outs, NoMem> {
+        shape.serve(alloc, side, m)
+    }
+}
+
+/// Gathers data on its way up into whole lines.
+#[derive(Debug, Drop)]
+pub struct Line;
+
+impl Line {
+    /// A new module with this name, and with a queue on each side for which a high and a low mark
+    /// are given. No line has begun, so `alloc` is only noted. Takes no memory.
+    ///
+    /// Refused for the name first, then for the marks of either side.
+    pub fn new(
+        alloc: Global,
+        serial: u64,
+        name: &[u8],
+        rd: Option<(u32, u32)>,
+        wr: Option<(u32, u32)>,
+    ) -> Result<Instance<Line>, MakeFault>
+        ensures ok { IfOk result (λ it. it.shape ≡ new_shape serial name.now rd wr (Kind.Line [])) }
+        ensures err { IfErr result (λ fault. make_fault name.now rd wr ≡ Some fault) }
+        ensures variant { is_ok result ≡ is_none (make_fault name.now rd wr) }
+    {
+        let partial = Vec::new(alloc).into();
+        let shape = Shape::new(serial, name, rd, wr, ShapeKind::Line { partial })?;
+        Ok(Instance {
+            shape,
+            module: Line,
+        })
+    }
+}
+
+impl Module for Line {
+    fn put(
+        &mut self,
+        alloc: Global,
+        shape: &mut Shape,
+        side: Side,
+        m: Message,
+    ) -> Result<Put, NoMem> {
+        shape.put(alloc, side, m)
+    }
+
+    fn serve(
+        &mut self,
+        alloc: Global,
+        shape: &mut Shape,
+        side: Side,
+        m: Message,
+    ) -> Result<Outs, NoMem> {
+        shape.serve(alloc, side, m)
+    }
+}
+
+/// Counts data messages on their way down.
+#[derive(Debug, Drop)]
+pub struct Count;
+
+impl Count {
+    /// A new module with this name, and with a queue on each side for which a high and a low mark
+    /// are given. Its count is 0. Takes no memory.
+    ///
+    /// Refused for the name first, then for the marks of either side.
+    pub fn new(
+        serial: u64,
+        name: &[u8],
+        rd: Option<(u32, u32)>,
+        wr: Option<(u32, u32)>,
+    ) -> Result<Instance<Count>, MakeFault>
+        ensures ok { IfOk result (λ it. it.shape ≡ new_shape serial name.now rd wr (Kind.Count 0)) }
+        ensures err { IfErr result (λ fault. make_fault name.now rd wr ≡ Some fault) }
+        ensures variant { is_ok result ≡ is_none (make_fault name.now rd wr) }
+    {
+        let shape = Shape::new(serial, name, rd, wr, ShapeKind::Count { n: 0 })?;
+        Ok(Instance {
+            shape,
+            module: Count,
+        })
+    }
+}
+
+impl Module for Count {
+    fn put(
+        &mut self,
+        alloc: Global,
+        shape: &mut Shape,
+        side: Side,
+        m: Message,
+    ) -> Result<Put, NoMem> {
+        shape.put(alloc, side, m)
+    }
+
+    fn serve(
+        &mut self,
+        alloc: Global,
+        shape: &mut Shape,
+        side: Side,
+        m: Message,
+    ) -> Result<Outs, NoMem> {
+        shape.serve(alloc, side, m)
+    }
+}
+
+/// Puts data and protocol messages on their way down into a band.
+#[derive(Debug, Drop)]
+pub struct Band;
+
+impl Band {
+    /// A new module with this name, and with a queue on each side for which a high and a low mark
+    /// are given. `b` is the band that it gives. Takes no memory.
+    ///
+    /// Refused for the name first, then for the marks of either side.
+    pub fn new(
+        serial: u64,
+        name: &[u8],
+        rd: Option<(u32, u32)>,
+        wr: Option<(u32, u32)>,
+        b: u8,
+    ) -> Result<Instance<Band>, MakeFault>
+        ensures ok { IfOk result (λ it. it.shape ≡ new_shape serial name.now rd wr (Kind.Band b)) }
+        ensures err { IfErr result (λ fault. make_fault name.now rd wr ≡ Some fault) }
+        ensures variant { is_ok result ≡ is_none (make_fault name.now rd wr) }
+    {
+        let shape = Shape::new(serial, name, rd, wr, ShapeKind::Band { b })?;
+        Ok(Instance {
+            shape,
+            module: Band,
+        })
+    }
+}
+
+impl Module for Band {
+    fn put(
+        &mut self,
+        alloc: Global,
+        shape: &mut Shape,
+        side: Side,
+        m: Message,
+    ) -> Result<Put, NoMem> {
+        shape.put(alloc, side, m)
+    }
+
+    fn serve(
+        &mut self,
+        alloc: Global,
+        shape: &mut Shape,
+        side: Side,
+        m: Message,
+    ) -> Result<Outs, NoMem> {
+        shape.serve(alloc, side, m)
+    }
+}
+
+/// Sends a copy of data on its way down up too.
+#[derive(Debug, Drop)]
+pub struct Tee;
+
+impl Tee {
+    /// A new module with this name, and with a queue on each side for which a high and a low mark
+    /// are given. Takes no memory.
+    ///
+    /// Refused for the name first, then for the marks of either side.
+    pub fn new(
+        serial: u64,
+        name: &[u8],
+        rd: Option<(u32, u32)>,
+        wr: Option<(u32, u32)>,
+    ) -> Result<Instance<Tee>, MakeFault>
+        ensures ok { IfOk result (λ it. it.shape ≡ new_shape serial name.now rd wr Kind.Tee) }
+        ensures err { IfErr result (λ fault. make_fault name.now rd wr ≡ Some fault) }
+        ensures variant { is_ok result ≡ is_none (make_fault name.now rd wr) }
+    {
+        let shape = Shape::new(serial, name, rd, wr, ShapeKind::Tee)?;
+        Ok(Instance { shape, module: Tee })
+    }
+}
+
+impl Module for Tee {
+    fn put(
+        &mut self,
+        alloc: Global,
+        shape: &mut Shape,
+        side: Side,
+        m: Message,
+    ) -> Result<Put, NoMem> {
+        shape.put(alloc, side, m)
+    }
+
+    fn serve(
+        &mut self,
+        alloc: Global,
+        shape: &mut Shape,
+        side: Side,
+        m: Message,
+    ) -> Result<Outs, NoMem> {
+        shape.serve(alloc, side, m)
+    }
+}
+
+/// Drops data on its way down.
+#[derive(Debug, Drop)]
+pub struct Mute;
+
+impl Mute {
+    /// A new module with this name, and with a queue on each side for which a high and a low mark
+    /// are given. Takes no memory.
+    ///
+    /// Refused for the name first, then for the marks of either side.
+    pub fn new(
+        serial: u64,
+        name: &[u8],
+        rd: Option<(u32, u32)>,
+        wr: Option<(u32, u32)>,
+    ) -> Result<Instance<Mute>, MakeFault>
+        ensures ok { IfOk result (λ it. it.shape ≡ new_shape serial name.now rd wr Kind.Mute) }
+        ensures err { IfErr result (λ fault. make_fault name.now rd wr ≡ Some fault) }
+        ensures variant { is_ok result ≡ is_none (make_fault name.now rd wr) }
+    {
+        let shape = Shape::new(serial, name, rd, wr, ShapeKind::Mute)?;
+        Ok(Instance {
+            shape,
+            module: Mute,
+        })
+    }
+}
+
+impl Module for Mute {
+    fn put(
+        &mut self,
+        alloc: Global,
+        shape: &mut Shape,
+        side: Side,
+        m: Message,
+    ) -> Result<Put, NoMem> {
+        shape.put(alloc, side, m)
+    }
+
+    fn serve(
+        &mut self,
+        alloc: Global,
+        shape: &mut Shape,
+        side: Side,
+        m: Message,
+    ) -> Result<Outs, NoMem> {
+        shape.serve(alloc, side, m)
+    }
+}

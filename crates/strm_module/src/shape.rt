@@ -1,0 +1,205 @@
+//! What a module is and what it keeps.
+ghost use Rattle.std.specs.Prelude.{◌≡◌, ◌&&◌, nat_le, length, is_some, is_ok, is_none, IfSome, IfOk, IfErr, Some};
+ghost use Rattle.std.specs.List.{list_all};
+ghost use Rattle.strm_module.specs.Shape.{queues_on, is_name_byte, is_name, are_marks, marks_of, make_fault, number_of, new_shape};
+
+use arrayvec::ArrayVec;
+use std::alloc::Global;
+use strm_msg::{Bytes, NoMem, Side};
+use strm_queue::Marks;
+use thiserror::Error;
+
+/// What a module does with messages, and what it keeps for that.
+///
+/// Only ordinary messages are meant. High ones go on unchanged, whatever the kind.
+#[derive(Debug, Drop, PartialEq, Eq)]
+pub enum Kind {
+    /// Each message goes on unchanged.
+    Pass,
+    /// Data on its way down is mapped byte by byte. Ioctl 3 answers with its own data mapped, and
+    /// the length of that data as its value.
+    Table {
+        /// What stands for each byte.
+        map: [u8; 256],
+    },
+    /// In data on its way down each LF becomes CR LF. In data on its way up each CR that an LF
+    /// directly follows in the same message is removed.
+    CrNl,
+    /// Data of band 0 on its way up is kept until its line ends: whole lines go up, each with its
+    /// LF, several in one message. A rest of over 4096 bytes goes up with all that stands before
+    /// it. A flush of the read side that is of all bands or of band 0 drops what is kept.
+    Line {
+        /// What came since the last LF. No service leaves more than 4096 bytes of it.
+        partial: Bytes,
+    },
+    /// Data messages on their way down are counted. Ioctl 1 answers with the count, and ioctl 2
+    /// too, which then sets it to 0.
+    Count {
+        /// How many came, up to the greatest `u64`.
+        n: u64,
+    },
+    /// Data and protocol messages on their way down are put into a band.
+    Band {
+        /// The band.
+        b: u8,
+    },
+    /// A copy of each data message on its way down goes up, and then the message goes on.
+    Tee,
+    /// Data messages on their way down are dropped.
+    Mute,
+}
+
+/// A module as others see it: its name, its queues, its kind and what it keeps (module_info(9S)).
+///
+/// It is plain data, which whoever runs the module keeps beside the module's object.
+#[derive(Debug, Drop, PartialEq, Eq)]
+pub struct Shape {
+    /// Which module this is, among those of a program.
+    pub serial: u64,
+    /// 1 to 8 letters, digits and `_`.
+    pub name: ArrayVec<u8, 8>,
+    /// The water marks of the read queue, where ordinary messages of that side are queued.
+    pub rd: Option<Marks>,
+    /// The water marks of the write queue, where ordinary messages of that side are queued.
+    pub wr: Option<Marks>,
+    /// What the module does, and what it keeps.
+    pub kind: Kind,
+}
+
+/// Why a module was not made.
+#[derive(Clone, Copy, Debug, PartialEq, Eq, Error)]
+pub enum MakeFault {
+    /// The name is not of 1 to 8 letters, digits and `_`. It is looked at before the marks.
+    #[error("a module's name must be 1 to 8 letters, digits or `_`")]
+    Name,
+    /// The low mark of a side is not below the high one.
+    #[error("the low mark of a queue must be below its high mark")]
+    Marks,
+}
+
+impl MakeFault {
+    /// The number of the fault: 1 for a name, 2 for marks.
+    pub fn number(self) -> u8
+        ensures { result ≡ number_of self }
+    {
+        match self {
+            MakeFault::Name => 1,
+            MakeFault::Marks => 2,
+        }
+    }
+}
+
+/// Whether a byte may stand in a name.
+fn is_name_byte(b: u8) -> bool
+    ensures { result ≡ is_name_byte b }
+{
+    b.is_ascii_alphanumeric() || b == b'_'
+}
+
+/// Whether each byte may stand in a name.
+fn are_name_bytes(bytes: &[u8]) -> bool
+    ensures { result ≡ list_all is_name_byte bytes.now }
+{
+    bytes.iter().all(|b| is_name_byte(*b))
+}
+
+/// A name of these bytes, if they make one.
+fn name_of(bytes: &[u8]) -> Option<ArrayVec<u8, 8>>
+    ensures some { IfSome result (λ name. name.items ≡ bytes.now) }
+    ensures variant { is_some result ≡ is_name bytes.now }
+{
+    if bytes.is_empty() || !are_name_bytes(bytes) {
+        return None;
+    }
+    ArrayVec::try_from(bytes).ok()
+}
+
+/// The marks of a side, from the high one and the low one.
+fn marks_of(pair: Option<(u32, u32)>) -> Result<Option<Marks>, MakeFault>
+    ensures ok { IfOk result (λ marks. marks ≡ marks_of pair) }
+    ensures err { IfErr result (λ fault. fault ≡ MakeFault.Marks) }
+    ensures variant { is_ok result ≡ are_marks pair }
+{
+    match pair {
+        Some((hi, lo)) => match Marks::new(hi, lo) {
+            Some(marks) => Ok(Some(marks)),
+            None => Err(MakeFault::Marks),
+        },
+        None => Ok(None),
+    }
+}
+
+impl Kind {
+    /// An equal kind. Refused for want of memory alone, which only a partial line takes.
+    fn copy(&self, alloc: Global) -> Result<Kind, NoMem>
+        ensures { IfOk result (λ copy. copy ≡ self.now) }
+    {
+        Ok(match self {
+            Kind::Pass => Kind::Pass,
+            Kind::Table { map } => Kind::Table { map: *map },
+            Kind::CrNl => Kind::CrNl,
+            Kind::Line { partial } => Kind::Line {
+                partial: partial.copy(alloc)?,
+            },
+            Kind::Count { n } => Kind::Count { n: *n },
+            Kind::Band { b } => Kind::Band { b: *b },
+            Kind::Tee => Kind::Tee,
+            Kind::Mute => Kind::Mute,
+        })
+    }
+}
+
+impl Shape {
+    /// The shape of a new module, where `rd` and `wr` are the high and the low mark of each side
+    /// that queues. Takes no memory.
+    ///
+    /// Refused for the name first, then for the marks of either side.
+    pub fn new(
+        serial: u64,
+        name: &[u8],
+        rd: Option<(u32, u32)>,
+        wr: Option<(u32, u32)>,
+        kind: Kind,
+    ) -> Result<Shape, MakeFault>
+        ensures ok { IfOk result (λ shape. shape ≡ new_shape serial name.now rd wr kind) }
+        ensures err { IfErr result (λ fault. make_fault name.now rd wr ≡ Some fault) }
+        ensures variant { is_ok result ≡ is_none (make_fault name.now rd wr) }
+    {
+        let Some(name) = name_of(name) else {
+            return Err(MakeFault::Name);
+        };
+        let rd = marks_of(rd)?;
+        let wr = marks_of(wr)?;
+        Ok(Shape {
+            serial,
+            name,
+            rd,
+            wr,
+            kind,
+        })
+    }
+
+    /// An equal shape. Refused for want of memory alone.
+    pub fn copy(&self, alloc: Global) -> Result<Shape, NoMem>
+        ensures { IfOk result (λ copy. copy ≡ self.now) }
+    {
+        Ok(Shape {
+            serial: self.serial,
+            name: self.name.clone()?,
+            rd: self.rd,
+            wr: self.wr,
+            kind: self.kind.copy(alloc)?,
+        })
+    }
+
+    /// Whether the module queues ordinary messages of a side, which it does exactly where it has
+    /// marks for that side.
+    pub fn queues(&self, side: Side) -> bool
+        ensures { result ≡ queues_on self.now side }
+    {
+        match side {
+            Side::Rd => self.rd.is_some(),
+            Side::Wr => self.wr.is_some(),
+        }
+    }
+}

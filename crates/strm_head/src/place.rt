@@ -22,7 +22,9 @@ pub enum Place {
     },
 }
 
-/// The places that moved, in the order in which they did; contracts see a list.
+/// The places that moved, in the order in which they did, which contracts see as a list.
+///
+/// Made from a `Vec` and turned back into it without taking memory.
 #[derive(Debug, Drop)]
 pub struct Moves {
     places: Vec<Place>,
@@ -37,6 +39,14 @@ impl Model for Moves {
     ghost view = { λ moves. moves.places.items };
 }
 
+impl From<Vec<Place>> for Moves {
+    ghost from_gives = { λ places moves. moves ≡ places.items };
+
+    fn from(places: Vec<Place>) -> Self {
+        Moves { places }
+    }
+}
+
 impl Moves {
     /// No move. Takes no memory.
     pub fn new(alloc: Global) -> Self
@@ -47,13 +57,12 @@ impl Moves {
         }
     }
 
-    /// Notes one more move. Refused for want of memory alone.
-    pub fn push(&mut self, place: Place) -> Result<(), NoMem>
-        ensures ok { OnOk result (self.new ≡ self.old ++ place ∷ []) }
-        ensures err { OnErr result (self.new ≡ self.old) }
+    /// The vector that these moves were made from. Takes no memory.
+    pub fn into_vec(self) -> Vec<Place>
+        ensures { result.items ≡ self }
     {
-        self.places.push(place)?;
-        Ok(())
+        let Moves { places } = self;
+        places
     }
 
     /// The places in order.
@@ -61,5 +70,14 @@ impl Moves {
         ensures { result.now ≡ self.now }
     {
         self.places.as_slice()
+    }
+
+    /// Notes one more move. Refused for want of memory alone.
+    pub(crate) fn push(&mut self, place: Place) -> Result<(), NoMem>
+        ensures ok { OnOk result (self.new ≡ self.old ++ place ∷ []) }
+        ensures err { OnErr result (self.new ≡ self.old) }
+    {
+        self.places.push(place)?;
+        Ok(())
     }
 }

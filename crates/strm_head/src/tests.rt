@@ -1,6 +1,7 @@
 //! Worked examples of putmsg and getmsg on an echo stream, as tables of calls and their answers.
 use crate::{
-    Answer, Driver, Entry, Event, More, NewFault, Place, Priority, Reply, Request, Stream, Wanted,
+    Answer, Driver, Entry, Event, More, Moves, NewFault, Place, Priority, Reply, Request, Stream,
+    Wanted,
 };
 use std::alloc::Global;
 use std::process::Abort;
@@ -222,6 +223,16 @@ fn low_marks_are_below_high_ones(rt: HostRuntime) {
         let fault = Stream::new(alloc, Driver::Echo, head, drv).err();
         assert!(rt; fault == Some(NewFault::Marks));
     }
+}
+
+#[test]
+fn moves_give_their_vector_back(rt: HostRuntime) -> Result<(), Fail> {
+    let mut places = Vec::new(rt.alloc());
+    places.push(Place::Drv { end: End::B })?;
+    let moves = Moves::from(places);
+    assert!(rt; moves.as_slice() == [Place::Drv { end: End::B }].as_slice());
+    assert!(rt; moves.into_vec().as_slice() == [Place::Drv { end: End::B }].as_slice());
+    Ok(())
 }
 
 /// Whether an entry is of a call on end A with this answer.

@@ -1,0 +1,73 @@
+-- What the calls of a chain change in an end, and the chain that begins (streamio(7): I_PUSH, I_POP, I_STR; close(2)).
+use Rattle.std.specs.Prelude.{ℕ, ◌+◌, ◌==◌, ◌&&◌, nat_lt, Bool, false, Option, Some, None, List, [], ◌∷◌, length, drop, map, option_map, if◌then◌else◌}
+use Rattle.strm_msg.specs.declared.words.End.TheVariants.{A, B}
+use Rattle.strm_msg.specs.declared.words.ReadMode.{ReadMode}
+use Rattle.strm_msg.specs.declared.words.ReadMode.TheVariants.{Rnorm}
+use Rattle.strm_msg.specs.declared.words.Prot.{Prot}
+use Rattle.strm_msg.specs.declared.words.Prot.TheVariants.{Norm}
+use Rattle.strm_queue.specs.Queue.{WaterMarks}
+use Rattle.strm_module.specs.declared.shape.Shape.{Shape}
+use Rattle.strm_module.specs.declared.module.Instance.{Instance}
+use Rattle.strm_chain.specs.declared.driver.Driver.{Driver}
+use Rattle.strm_chain.specs.declared.record.Record.{Record}
+use Rattle.strm_chain.specs.Image.{Image, EndState, QueuePair, has_end}
+
+-- a module with empty queues
+abbrev pub fresh_pair : Shape → QueuePair
+fresh_pair s = record { shape = s; rd = []; wr = [] }
+
+-- a module is pushed just below the head (I_PUSH)
+abbrev pub inserted : EndState → Shape → EndState
+inserted e s = record e { modules = fresh_pair s ∷ e.modules }
+
+-- the topmost module is popped, and what its queues held is discarded (I_POP)
+abbrev pub removed : EndState → EndState
+removed e = record e { modules = drop 1 e.modules }
+
+-- whether another module may be pushed: on an open end with fewer than eight
+abbrev pub has_room : EndState → Bool
+has_room e = e.is_open && nat_lt (length e.modules) 8
+
+-- a closed end: without modules, and without messages in its head (close(2)); the driver's list stays
+abbrev pub closed : EndState → EndState
+closed e = record e { is_open = false; head = []; modules = [] }
+
+-- the shapes of modules that are handed back
+abbrev pub shapes_in : {M : Type 0} → List (Option (Instance M)) → List (Option Shape)
+shapes_in instances = map (option_map (λ i. i.shape)) instances
+
+-- how a head reads from now on (I_SRDOPT)
+abbrev pub with_mode : Record → ReadMode → Prot → Record
+with_mode r mode prot = record r { mode = mode; prot = prot }
+
+-- the id after this one, none after the greatest u64
+abbrev pub id_after : ℕ → Option ℕ
+id_after id = if id == 18446744073709551615 then None else Some (id + 1)
+
+-- the next id is taken, and an answer to it is awaited (I_STR)
+abbrev pub begun_with : Record → Option ℕ → Record
+begun_with r None = r
+begun_with r (Some id) = record r { next = id_after id; pending = Some id }
+
+abbrev pub begun : Record → Record
+begun r = begun_with r r.next
+
+-- the id that was taken last is given back
+abbrev pub undone : Record → Record
+undone r = record r { next = r.pending; pending = None }
+
+-- no answer is awaited or kept any longer
+abbrev pub ended : Record → Record
+ended r = record r { pending = None; kept = None }
+
+-- the record of a new stream's head
+abbrev pub fresh_record : Record
+fresh_record = record { hung = false; errno = None; mode = Rnorm; prot = Norm; next = Some 1; pending = None; kept = None }
+
+abbrev pub fresh_end : Bool → EndState
+fresh_end is_open = record { is_open = is_open; head = []; state = fresh_record; modules = []; drv = [] }
+
+-- a new stream: each end that the driver has is open
+abbrev pub fresh : Driver → WaterMarks → WaterMarks → Image
+fresh d head drv =
+    record { driver = d; head_marks = head; drv_marks = drv; broken = false; a = fresh_end (has_end d A); b = fresh_end (has_end d B) }

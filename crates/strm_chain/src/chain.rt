@@ -213,10 +213,13 @@ impl<M: Module> Chain<M> {
     }
 
     /// Makes room in a head's list, so that the next `put_back_head` of a message of this rank
-    /// succeeds. Refused for want of memory alone.
+    /// succeeds. Refused for want of memory alone, and not where the room is there. No rank loses
+    /// room.
     pub fn head_room(&mut self, end: End, rank: u16) -> Result<(), NoMem>
         requires { rank ≤ 256 }
         ensures room { OnOk result (0 < room_for (room_of self.new end) rank) }
+        ensures enough { 0 < room_for (room_of self.old end) rank → IsOk result }
+        ensures kept { (other : ℕ) → room_for (room_of self.old end) other ≤ room_for (room_of self.new end) other }
         ensures image { self.new.image ≡ self.old.image }
     {
         match end {

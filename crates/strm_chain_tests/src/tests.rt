@@ -2,9 +2,9 @@
 //! rules, beside it.
 use std::alloc::Global;
 use std::process::Abort;
-use strm_chain::{Chain, ChainFault, Driver, Place, Spot};
+use strm_chain::{Chain, Driver, Moves, Place, Spot};
 use strm_module::{Instance, Kind, Module, Outs, Put, Shape};
-use strm_msg::{End, Errno, Message, NoMem, Prot, ReadMode, Side};
+use strm_msg::{End, Message, NoMem, Prot, ReadMode, Side};
 use strm_queue::Marks;
 
 mod faults;
@@ -270,4 +270,33 @@ fn reads_as_it_was_set(rt: HostRuntime) {
     let state = chain.state(End::A);
     assert_eq!(rt; (state.mode, state.prot), (ReadMode::Rnorm, Prot::Norm));
     assert_eq!(rt; (state.hung, state.errno), (false, None));
+}
+
+/// With one module there are the spots 1 and 2 down, and 0 and 1 up.
+#[test]
+fn end_has_its_spots(rt: HostRuntime) {
+    let alloc = rt.alloc();
+    let mut chain = made(&rt, alloc, Driver::Line);
+    push(&rt, &mut chain, End::A, Kind::Pass, (None, None));
+    assert_eq!(rt; chain.count(End::A), 1);
+    let end = End::A;
+    for (i, down, up) in [
+        (0, false, true),
+        (1, true, true),
+        (2, true, false),
+        (3, false, false),
+    ] {
+        assert_eq!(rt; chain.has_spot(Spot::Down { end, i }), down, "down {i}");
+        assert_eq!(rt; chain.has_spot(Spot::Up { end, i }), up, "up {i}");
+    }
+}
+
+#[test]
+fn moves_are_a_list(rt: HostRuntime) -> Result<(), std::test::Fail> {
+    let alloc = rt.alloc();
+    assert!(rt; Moves::new(alloc).is_empty());
+    let moves = Moves::from(vec![in alloc; DRV_A, DRV_A]?);
+    assert_eq!(rt; (moves.len(), moves.is_empty()), (2, false));
+    assert_eq!(rt; moves.into_vec().as_slice(), [DRV_A, DRV_A].as_slice());
+    Ok(())
 }

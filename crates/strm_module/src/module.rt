@@ -45,8 +45,8 @@ pub enum Put {
 /// message of a side with marks it is `Queue`, with the message unchanged, and the shape stays as
 /// it is. The caller then puts the message into the queue of that side, which flow control is
 /// about. For every other message it is `Sent`: high ones go on at once, and so does what the
-/// module makes of ordinary ones on a side without marks. A flush has emptied the module's queues
-/// before `put` sees it.
+/// module makes of ordinary ones on a side without marks. A flush also empties the module's queues,
+/// which is the caller's work.
 ///
 /// `serve` is called with a message that was taken from the module's queue, once the queue ahead
 /// is not full in the message's band. It sends what the module makes of it.

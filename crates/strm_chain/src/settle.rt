@@ -148,6 +148,7 @@ impl<M: Module> Chain<M> {
     pub fn settle(&mut self, alloc: Global) -> Result<Settled, ChainFault>
         ensures moves { IfOk result (λ settled. Leads self.old.image settled.moves self.new.image) }
         ensures quiet { OnOk result (IsQuiet self.new.image) }
+        ensures looks { IfOk result (λ settled. settled.looks ≡ 0) }
         ensures whole { OnOk result (self.old.image.broken ≡ false) }
         ensures same { OnOk result (SameModules self.old.image self.new.image) }
         ensures refused { IfErr result (λ fault. Refuses fault self.old.image self.new.image) }

@@ -70,7 +70,6 @@ sends_nothing e image m = image
 
 -- for kinds of any meaning
 module _ {K : Type 0} (means : Meaning K) where
-
   -- a message comes to a module
   abbrev pub put_at : Image K → End → ℕ → Side → Msg → Passing K
   put_at image e i side m = passing image e (end_gets means (end_of image e) i side m)

@@ -5,9 +5,10 @@ use Rattle.strm_msg.specs.declared.words.End.{End}
 use Rattle.strm_msg.specs.declared.words.Side.{Side}
 use Rattle.strm_msg.specs.declared.words.Side.TheVariants.{Rd, Wr}
 use Rattle.strm_module.specs.Kinds.{Meaning}
-use Rattle.strm_chain.specs.declared.hop.Hop.{Hop}
+use Rattle.strm_chain.specs.declared.chain.hop.Hop.{Hop}
 use Rattle.strm_chain.specs.declared.place.Place.TheVariants as Places
-use Rattle.strm_chain.specs.Image.{Image}
+use Rattle.strm_chain.specs.declared.place.Place.{Place}
+use Rattle.strm_chain.specs.Image.{Image, count_of}
 use Rattle.strm_chain.specs.Deliver.{up, down}
 use Rattle.strm_chain.specs.Service.{may}
 
@@ -24,6 +25,16 @@ hop_of head_sent Rd e i below out = up_hop head_sent e (i - 1) out.1
 hop_of head_sent Wr e i below (Wr, m) = down_hop head_sent e below m
 hop_of head_sent Wr e i below (Rd, m) = up_hop head_sent e (i - 1) m
 
+-- the number of the module that is next on a way of so many modules
+abbrev pub next_module : {K : Type 0} → Image K → Side → End → ℕ → ℕ
+next_module image Rd e n = n
+next_module image Wr e n = count_of image e - (n - 1)
+
+-- the place of a queue of a module
+abbrev pub module_place : Side → End → ℕ → Place
+module_place Rd e i = Places.Rd e i
+module_place Wr e i = Places.Wr e i
+
 -- how far a message may still go
 abbrev pub side_rank : Side → ℕ → ℕ
 side_rank Rd n = n + 1
@@ -33,12 +44,11 @@ abbrev pub rank : Hop → ℕ
 rank h = (if h.head_sent then 0 else 100) + side_rank h.side h.ahead
 
 -- a measure that falls where one message makes way for two that go less far
-abbrev pub load : List Hop → ℕ
+unfoldable pub load : List Hop → ℕ
 load hops = sum_by (λ h. 3 ^ rank h) hops
 
 -- for kinds of any meaning
 module _ {K : Type 0} (means : Meaning K) where
-
   -- a message carried to its end
   abbrev pub carry_on : Side → Hop → Image K → Image K
   carry_on Rd h image = up means h.head_sent h.end h.ahead image h.m

@@ -28,6 +28,10 @@ abbrev pub room_of : {K : Type 0} → ChainValue K → End → List ℕ
 room_of c A = c.room_a
 room_of c B = c.room_b
 
+abbrev pub other_end : End → End
+other_end A = B
+other_end B = A
+
 -- no rank loses room in the list of a head
 pub record KeepsHeadRoom {K : Type 0} (old new : ChainValue K) : Type 0 where
   pub on_a : KeepsRoom old.room_a new.room_a

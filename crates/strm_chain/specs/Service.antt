@@ -40,7 +40,6 @@ NoneMay image = (place : Place) → may image place ≡ false
 
 -- for kinds of any meaning
 module _ {K : Type 0} (means : Meaning K) where
-
   -- a module serves the first message of its queue of a side
   abbrev pub serve_at : Image K → End → ℕ → Side → Passing K
   serve_at image e i side = passing image e (end_serves means (end_of image e) i side)

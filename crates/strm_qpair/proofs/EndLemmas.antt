@@ -33,7 +33,6 @@ pub pair_at-found : {K : Type 0} (xs : List (QueuePair K)) (i : ℕ) (d : QueueP
 pair_at-found xs i d h l at = pair_at-index xs i h ∙ slice_get_read xs (length xs) (i - 1) d refl l at
 
 module _ {K : Type 0} (means : Meaning K) where
-
   -- what the module that is found gets and serves
   pub gets_found : (e : EndState K) (i : ℕ) (d : QueuePair K) (side : Side) (m : Msg) → 0 < i → pair_at e.modules i ≡ Some d → end_gets means e i side m ≡ record { state = record e { modules = slice_set e.modules (i - 1) (pair_gets means d side m).pair }; outs = (pair_gets means d side m).outs }
   gets_found e i d side m h found = rw (found, set_pair-index e.modules i (pair_gets means d side m).pair h) refl

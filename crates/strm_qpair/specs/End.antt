@@ -67,7 +67,6 @@ pub record EndStep (K : Type 0) : Type 0 where
 
 -- for kinds of any meaning
 module _ {K : Type 0} (means : Meaning K) where
-
   abbrev pub found_gets : EndState K → ℕ → Option (QueuePair K) → Side → Msg → EndStep K
   found_gets e i None side m = record { state = e; outs = [] }
   found_gets e i (Some s) side m =

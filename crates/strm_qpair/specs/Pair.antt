@@ -64,7 +64,6 @@ after_put s side (Sent outs) = record { pair = s; outs = outs.items }
 
 -- for kinds of any meaning
 module _ {K : Type 0} (means : Meaning K) where
-
   -- a message comes to a module: a flush passes its queues first, and then its put procedure has it
   abbrev pub pair_gets : QueuePair K → Side → Msg → PairStep K
   pair_gets s side m =

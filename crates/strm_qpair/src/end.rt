@@ -141,13 +141,7 @@ impl<M: ModuleOf> StreamEnd<M> {
 
     /// The module with this number takes a message that comes to it on a side; without one it is
     /// dropped. Refused for want of memory alone: then nothing is changed.
-    pub fn put_at(
-        &mut self,
-        alloc: Global,
-        i: usize,
-        side: Side,
-        m: Message,
-    ) -> Result<Outs, NoMem>
+    pub fn put_at(&mut self, alloc: Global, i: usize, side: Side, m: Message) -> Result<Outs, NoMem>
         ensures outs { IfOk result (λ outs. outs.items ≡ (end_gets M.Kind.means self.old.state i side m).outs) }
         ensures state { OnOk result (self.new.state ≡ (end_gets M.Kind.means self.old.state i side m).state) }
         ensures err { OnErr result (self.new.state ≡ self.old.state) }

@@ -1,0 +1,3 @@
+pub mod HopLemmas
+pub mod LoadLemmas
+pub mod QuietLemmas

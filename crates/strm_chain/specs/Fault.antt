@@ -1,5 +1,5 @@
 -- What no message changes about a chain, and what a refused call leaves.
-use Rattle.std.specs.Prelude.{◌≡◌, ℕ, true, false, List}
+use Rattle.std.specs.Prelude.{◌≡◌, ℕ, true, false, List, codes}
 use Rattle.strm_qpair.specs.Modules.{SameEnd}
 use Rattle.strm_chain.specs.declared.fault.ChainFault.{ChainFault}
 use Rattle.strm_chain.specs.declared.fault.ChainFault.TheVariants.{NoMem, Broken}
@@ -35,3 +35,8 @@ Refuses Broken old new = Breaks old new
 abbrev pub number_of : ChainFault → ℕ
 number_of NoMem = 1
 number_of Broken = 2
+
+-- the text that a fault prints
+abbrev pub text_of : ChainFault → List ℕ
+text_of NoMem = codes "no memory"
+text_of Broken = codes "the chain is broken"

@@ -4,3 +4,4 @@ pub mod Path
 pub mod Service
 pub mod Fault
 pub mod Hop
+pub mod HeadFlush

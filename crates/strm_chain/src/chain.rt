@@ -20,6 +20,8 @@ mod line;
 mod serve;
 mod settle;
 
+pub use deliver::head_sends_once;
+
 /// The queues of a stream, with its modules and what its heads remember.
 ///
 /// A contract sees its image: the driver, whether the chain is broken, and for each end whether it

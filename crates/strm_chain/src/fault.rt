@@ -1,18 +1,18 @@
 //! Why a chain refuses.
-ghost use Rattle.std.specs.Prelude.{◌≡◌};
-ghost use Rattle.strm_chain.specs.Fault.{number_of};
+ghost use Rattle.std.specs.Prelude.{◌≡◌, Some};
+ghost use Rattle.std.specs.Fmt.{padded};
+ghost use Rattle.strm_chain.specs.Fault.{number_of, text_of};
 
+use std::fmt;
 use thiserror::Error;
 
 /// Why a message was not delivered, or a place not served.
 #[derive(Clone, Copy, Debug, PartialEq, Eq, Error)]
 pub enum ChainFault {
     /// No memory, and nothing was changed.
-    #[error("no memory")]
     NoMem,
     /// Memory was wanting after a change, now or earlier: the chain is broken, and refuses from then
     /// on.
-    #[error("the chain is broken")]
     Broken,
 }
 
@@ -25,5 +25,26 @@ impl ChainFault {
             ChainFault::NoMem => 1,
             ChainFault::Broken => 2,
         }
+    }
+
+    /// What the fault prints.
+    pub fn text(self) -> &'static str
+        ensures { result.now ≡ text_of self }
+    {
+        match self {
+            ChainFault::NoMem => "no memory",
+            ChainFault::Broken => "the chain is broken",
+        }
+    }
+}
+
+/// Printed by its text.
+impl fmt::Display for ChainFault {
+    ghost output = { λ fault. Some (text_of fault) };
+
+    ghost styled_output = { λ fault spec. Some (padded spec (text_of fault)) };
+
+    fn fmt<W: fmt::Write>(&self, f: &mut fmt::Formatter<W>) -> fmt::Result {
+        f.pad(self.text())
     }
 }

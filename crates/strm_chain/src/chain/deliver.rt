@@ -2,6 +2,7 @@
 ghost use Rattle.std.specs.Prelude.{◌≡◌, OnOk, IfErr, true, false};
 ghost use Rattle.strm_chain.specs.Deliver.{deliver, is_there};
 ghost use Rattle.strm_chain.specs.Fault.{SameModules, Refuses};
+ghost use Rattle.strm_chain.specs.HeadFlush.{HeadSendsOnce};
 ghost use Rattle.strm_chain.specs.Hop.{carry};
 
 use super::hop::Hop;
@@ -75,3 +76,10 @@ impl<M: ModuleOf> Chain<M> {
         }
     }
 }
+
+/// A law, which nothing is done for: with the eight kinds, what a head sends down comes back to no
+/// head that would send anything again. So to let a head send nothing there, by which delivery ends
+/// for kinds of any meaning, changes nothing.
+pub fn head_sends_once()
+    ensures { HeadSendsOnce }
+{}

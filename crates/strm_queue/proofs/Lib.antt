@@ -1,3 +1,4 @@
+pub mod BandLemmas
 pub mod OrderLemmas
 pub mod RoomLemmas
 mod WorkedExamples

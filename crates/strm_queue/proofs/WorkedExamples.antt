@@ -1,7 +1,8 @@
 -- The definitions of queues, computed on worked examples.
 use Rattle.std.proofs.Common.{◌≡◌, ℕ, true, false, List, [], ◌∷◌, Some, None, replicate, refl}
 use Rattle.strm_msg.specs.Message.{Msg, data_msg, proto_msg, pcproto_msg, ioctl_msg, weight_of}
-use Rattle.strm_queue.specs.Queue.{WaterMarks, put_in, put_back_in, behind_last, flush_of, flush_band_of, held_of, is_full, is_slack}
+use Rattle.strm_queue.specs.Queue.{WaterMarks, put_in, put_back_in, behind_last, flush_of, flush_band_of, held_of, is_full, is_slack, has_band}
+use Rattle.strm_queue.specs.Room.{same_room, room_for}
 
 -- messages of one byte: one of band 0, three of band 3, and a high one
 abbrev in_band_0 : Msg
@@ -72,3 +73,14 @@ full_at_16 = refl
 
 other_band_not_full : is_full marks (holding 16) 1 ≡ false
 other_band_not_full = refl
+
+band_3_is_there : has_band four 3 ≡ true
+band_3_is_there = refl
+
+-- a high message is of no band that is asked for
+no_band_of_a_high_message : has_band (high ∷ []) 0 ≡ false
+no_band_of_a_high_message = refl
+
+-- a rank that no message has counts as 256
+room_above_256 : room_for (same_room 2) 65535 ≡ room_for (same_room 2) 256
+room_above_256 = refl

@@ -2,6 +2,7 @@
 use Rattle.std.specs.Prelude.{ℕ, ◌+◌, ◌-◌, ◌==◌, ◌&&◌, not, nat_le, nat_lt, Bool, true, false, List, [], ◌∷◌, length, if◌then◌else◌, filter, sum_by, insert}
 use Rattle.std.specs.List.{prefix_len, suffix_len, list_any, list_all}
 use Rattle.strm_msg.specs.Message.{Msg, rank_of, weight_of}
+use Rattle.strm_msg.specs.Kind.{is_high}
 use Rattle.strm_msg.specs.declared.kind.MsgKind.{MsgKind}
 use Rattle.strm_msg.specs.declared.kind.MsgKind.TheVariants.{MData, MProto, MPcproto, MIoctl, MIocack, MIocnak, MFlush, MHangup, MError}
 
@@ -54,13 +55,17 @@ is_flushed (MError errno) = false
 abbrev pub flush_of : List Msg → List Msg
 flush_of q = filter (λ m. not (is_flushed m.kind)) q
 
--- what a flush of one band leaves; a high message is of band 0 (flushband)
-abbrev pub flush_band_of : ℕ → List Msg → List Msg
-flush_band_of band q = filter (λ m. not (is_flushed m.kind && (m.band == band))) q
+-- a band has its ordinary messages, and band 0 the high ones too
+abbrev pub is_of_band : ℕ → Msg → Bool
+is_of_band band m = if is_high m.kind then band == 0 else (m.band == band)
 
--- what a message adds to a band; a high message is of band 0
+-- what a flush of one band leaves (flushband)
+abbrev pub flush_band_of : ℕ → List Msg → List Msg
+flush_band_of band q = filter (λ m. not (is_flushed m.kind && is_of_band band m)) q
+
+-- what a message adds to a band
 abbrev pub weight_in : ℕ → Msg → ℕ
-weight_in band m = if m.band == band then weight_of m else 0
+weight_in band m = if is_of_band band m then weight_of m else 0
 
 -- the weights of a band's messages together
 abbrev pub held_of : List Msg → ℕ → ℕ
@@ -81,3 +86,7 @@ is_pcproto kind = false
 -- whether high-priority protocol information is there
 abbrev pub has_pcproto : List Msg → Bool
 has_pcproto q = list_any (λ m. is_pcproto m.kind) q
+
+-- whether an ordinary message of a band is there
+abbrev pub has_band : List Msg → ℕ → Bool
+has_band q band = list_any (λ m. not (is_high m.kind) && (m.band == band)) q

@@ -1,10 +1,10 @@
 -- How many more messages of each rank a queue takes without memory.
-use Rattle.std.specs.Prelude.{ℕ, List, slice_index, replicate}
+use Rattle.std.specs.Prelude.{ℕ, List, slice_index, replicate, min}
 
 -- the number for each of the ranks 0 to 256, where it is the same for all of them
 unfoldable pub same_room : ℕ → List ℕ
 same_room n = replicate 257 n
 
--- the number for a rank
+-- the number for a rank, where a rank above 256, which no message has, counts as 256
 abbrev pub room_for : List ℕ → ℕ → ℕ
-room_for room rank = slice_index room rank
+room_for room rank = slice_index room (min rank 256)

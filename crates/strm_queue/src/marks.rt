@@ -5,6 +5,9 @@ use std::marker::Model;
 
 /// The water marks of a queue, in bytes. They hold for each band by itself, and the low mark is
 /// below the high one.
+///
+/// What waits behind a full band must stay, and behind a slack one it must move. Between the marks
+/// it may move and need not, so the low mark shows only in what must move.
 #[derive(Clone, Copy, Debug, PartialEq, Eq)]
 pub struct Marks {
     /// A band is full where it holds at least this many bytes.

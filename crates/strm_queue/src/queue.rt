@@ -1,6 +1,6 @@
 //! A queue with bands and water marks.
 ghost use Rattle.std.specs.Prelude.{◌≡◌, ◌↔◌, ◌+◌, ◌<◌, ◌≤◌, ◌∷◌, ◌&&◌, ◌==◌, ℕ, [], not, true, length, insert, IsTrue, IsOk, OnOk, IfErr, OnErr, MatchOption, option_copied, slice_get};
-ghost use Rattle.strm_queue.specs.Queue.{front_len, put_in, put_back_in, behind_last, is_ordered, is_flushed, flush_of, flush_band_of, held_of, is_full, is_slack, has_pcproto};
+ghost use Rattle.strm_queue.specs.Queue.{front_len, put_in, put_back_in, behind_last, is_ordered, is_flushed, is_of_band, flush_of, flush_band_of, held_of, is_full, is_slack, has_pcproto, has_band};
 ghost use Rattle.strm_msg.specs.Message.{rank_of};
 ghost use Rattle.strm_queue.specs.Room.{room_for};
 
@@ -41,13 +41,20 @@ fn place_behind(items: &[Message], least: u16) -> usize
     items.len()
 }
 
+/// Whether the message is of the band. High messages are of band 0, as their type keeps.
+fn is_of_band(m: &Message, band: u8) -> bool
+    ensures { result ≡ is_of_band band m.now }
+{
+    m.band == band
+}
+
 /// The weights of one band.
 fn weight_of_band(items: &Vec<Message>, band: u8) -> u128
     ensures { result ≡ held_of items.now.items band }
 {
     let mut sum: u128 = 0;
     for m in items {
-        if m.band == band {
+        if is_of_band(m, band) {
             sum += m.weight();
         }
     }
@@ -70,9 +77,9 @@ fn stays(m: &Message) -> bool
 
 /// Whether a flush of one band leaves the message.
 fn stays_in(m: &Message, band: u8) -> bool
-    ensures { result ≡ not (is_flushed m.now.kind && (m.now.band == band)) }
+    ensures { result ≡ not (is_flushed m.now.kind && is_of_band band m.now) }
 {
-    !(is_flushed(m.kind) && m.band == band)
+    !(is_flushed(m.kind) && is_of_band(m, band))
 }
 
 impl BandQueue {
@@ -87,9 +94,11 @@ impl BandQueue {
         }
     }
 
-    /// Puts a message behind those of its rank (putq(9F)).
+    /// Puts a message behind those of its rank (putq(9F)). The marks hold nothing back: a full queue
+    /// takes messages too.
     ///
-    /// Refused for want of memory alone: the message comes back, and the queue is as before.
+    /// Refused for want of memory alone: the message comes back, and the queue is as before. Each
+    /// rank loses room for one message at most, and none where the message is refused.
     pub fn put(&mut self, m: Message) -> Result<(), Message>
         ensures place { put_in self.old.messages m ≡ behind_last self.old.messages m }
         ensures ok { OnOk result (self.new.messages ≡ put_in self.old.messages m) }
@@ -97,20 +106,25 @@ impl BandQueue {
         ensures back { IfErr result (λ same. same ≡ m) }
         ensures marks { self.new.marks ≡ self.old.marks }
         ensures room { 0 < room_for self.old.room (rank_of m) → IsOk result }
+        ensures spent { OnOk result ((other : ℕ) → room_for self.old.room other ≤ room_for self.new.room other + 1) }
+        ensures unspent { OnErr result ((other : ℕ) → room_for self.old.room other ≤ room_for self.new.room other) }
     {
         let at = place_behind(self.items.as_slice(), m.rank());
         self.insert(at, m)
     }
 
-    /// Puts a message before those of its rank (putbq(9F)).
+    /// Puts a message before those of its rank (putbq(9F)), also where the queue is full.
     ///
-    /// Refused for want of memory alone: the message comes back, and the queue is as before.
+    /// Refused for want of memory alone: the message comes back, and the queue is as before. Each
+    /// rank loses room for one message at most, and none where the message is refused.
     pub fn put_back(&mut self, m: Message) -> Result<(), Message>
         ensures ok { OnOk result (self.new.messages ≡ put_back_in self.old.messages m) }
         ensures err { OnErr result (self.new.messages ≡ self.old.messages) }
         ensures back { IfErr result (λ same. same ≡ m) }
         ensures marks { self.new.marks ≡ self.old.marks }
         ensures room { 0 < room_for self.old.room (rank_of m) → IsOk result }
+        ensures spent { OnOk result ((other : ℕ) → room_for self.old.room other ≤ room_for self.new.room other + 1) }
+        ensures unspent { OnErr result ((other : ℕ) → room_for self.old.room other ≤ room_for self.new.room other) }
     {
         let at = place_behind(self.items.as_slice(), m.rank() + 1);
         self.insert(at, m)
@@ -120,12 +134,13 @@ impl BandQueue {
     fn insert(&mut self, at: usize, m: Message) -> Result<(), Message>
         requires within { at ≤ length self.old.messages }
         requires ordered { is_ordered (insert self.old.messages at m) ≡ true }
-        requires rank { rank_of m ≤ 256 }
         ensures ok { OnOk result (self.new.messages ≡ insert self.old.messages at m) }
         ensures err { OnErr result (self.new.messages ≡ self.old.messages) }
         ensures back { IfErr result (λ same. same ≡ m) }
         ensures marks { self.new.marks ≡ self.old.marks }
         ensures room { 0 < room_for self.old.room (rank_of m) → IsOk result }
+        ensures spent { OnOk result ((other : ℕ) → room_for self.old.room other ≤ room_for self.new.room other + 1) }
+        ensures unspent { OnErr result ((other : ℕ) → room_for self.old.room other ≤ room_for self.new.room other) }
     {
         match self.items.insert(at, m) {
             Ok(()) => Ok(()),
@@ -133,11 +148,11 @@ impl BandQueue {
         }
     }
 
-    /// Makes room, so that the next `put` or `put_back` of a message of this rank succeeds.
+    /// Makes room, so that the next `put` or `put_back` of a message of this rank succeeds. A rank
+    /// above 256, which no message has, counts as 256.
     ///
     /// Refused for want of memory alone, and not where the room is there. No rank loses room.
     pub fn make_room(&mut self, rank: u16) -> Result<(), NoMem>
-        requires { rank ≤ 256 }
         ensures room { OnOk result (0 < room_for self.new.room rank) }
         ensures enough { 0 < room_for self.old.room rank → IsOk result }
         ensures kept { (other : ℕ) → room_for self.old.room other ≤ room_for self.new.room other }
@@ -192,8 +207,8 @@ impl BandQueue {
         self.items.retain(|m| stays(m));
     }
 
-    /// Removes data and protocol messages of one band; `MPcproto` is of band 0 (flushband(9F) with
-    /// FLUSHDATA). Takes no memory, and leaves what room there was.
+    /// Removes the ordinary data and protocol messages of one band, and `MPcproto` where that is band
+    /// 0 (flushband(9F) with FLUSHDATA). Takes no memory, and leaves what room there was.
     pub fn flush_band(&mut self, band: u8)
         ensures messages { self.new.messages ≡ flush_band_of band self.old.messages }
         ensures marks { self.new.marks ≡ self.old.marks }
@@ -202,15 +217,17 @@ impl BandQueue {
         self.items.retain(|m| stays_in(m, band));
     }
 
-    /// What a band holds, in bytes, where a message without bytes counts as one. High messages
-    /// count for band 0.
+    /// What a band holds, in bytes: the weights of its ordinary messages, and for band 0 those of the
+    /// high ones too. A message without bytes counts as one byte, which is a choice of this project.
     pub fn held(&self, band: u8) -> u128
         ensures { result ≡ held_of self.now.messages band }
     {
         weight_of_band(&self.items, band)
     }
 
-    /// Whether a band holds the high water mark or more (bcanput(9F)).
+    /// Whether a band holds the high water mark or more, so that no more is to be put there.
+    ///
+    /// This is the opposite of bcanput(9F), which answers whether a message may be put.
     pub fn full(&self, band: u8) -> bool
         ensures { result ≡ is_full self.now.marks self.now.messages band }
     {
@@ -218,7 +235,7 @@ impl BandQueue {
     }
 
     /// Whether a band holds the low water mark or less, so that what waits behind the queue must
-    /// move.
+    /// move. Between the marks, where a band is neither slack nor full, it may move and need not.
     pub fn slack(&self, band: u8) -> bool
         ensures { result ≡ is_slack self.now.marks self.now.messages band }
     {
@@ -232,5 +249,13 @@ impl BandQueue {
         self.items
             .iter()
             .any(|m| matches!(m.kind, MsgKind::MPcproto))
+    }
+
+    /// Whether an ordinary message of the band is there (streamio(7), I_CKBAND). High messages count
+    /// for no band here, not even for band 0.
+    pub fn has_band(&self, band: u8) -> bool
+        ensures { result ≡ has_band self.now.messages band }
+    {
+        self.items.iter().any(|m| !m.is_high() && m.band == band)
     }
 }

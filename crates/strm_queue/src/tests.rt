@@ -171,6 +171,59 @@ fn a_high_protocol_message_is_found(rt: HostRuntime) -> Result<(), Fail> {
     Ok(())
 }
 
+// By hand: a high message is of no band that is asked for, and a flush takes the others.
+#[test]
+fn an_ordinary_message_of_a_band_is_found(rt: HostRuntime) -> Result<(), Fail> {
+    let alloc = rt.alloc();
+    let mut q = empty_queue(&rt, alloc);
+    q.put(Message::of_pcproto(alloc, b"h", None)?)?;
+    q.put(Message::of_ack(1, 0, None))?;
+    assert!(rt; !q.has_band(0));
+    q.put(Message::of_proto(alloc, 3, b"c", None)?)?;
+    assert!(rt; q.has_band(3) && !q.has_band(0) && !q.has_band(2) && !q.has_band(4));
+    q.put(Message::of_ioctl(alloc, 1, 9, None)?)?;
+    assert!(rt; q.has_band(0));
+    q.flush();
+    assert!(rt; q.has_band(0) && !q.has_band(3));
+    Ok(())
+}
+
+// By hand, with the marks 16 and 4: putq(9F) puts whatever the marks say, so a band that holds 16
+// bytes, and then 17, takes one more each time.
+#[test]
+fn a_full_queue_takes_messages(rt: HostRuntime) -> Result<(), Fail> {
+    let alloc = rt.alloc();
+    let mut q = empty_queue(&rt, alloc);
+    q.put(Message::of_data(alloc, 0, b"0123456789abcdef")?)?;
+    assert!(rt; q.full(0));
+    assert_eq!(rt; q.held(0), 16);
+    q.put(Message::of_data(alloc, 0, b"x")?)?;
+    assert!(rt; q.full(0));
+    assert_eq!(rt; q.held(0), 17);
+    q.make_room(0)?;
+    q.put(Message::of_data(alloc, 0, b"y")?)?;
+    assert_eq!(rt; q.held(0), 18);
+    q.make_room(256)?;
+    q.put_back(Message::of_pcproto(alloc, b"h", None)?)?;
+    assert_eq!(rt; q.held(0), 19);
+    assert_eq!(rt; q.len(), 4);
+    Ok(())
+}
+
+// By the rule that a rank above 256 counts as 256: room for it is room for a high message.
+#[test]
+fn room_for_a_rank_that_no_message_has(rt: HostRuntime) -> Result<(), Fail> {
+    let alloc = rt.alloc();
+    for rank in [257, 65535] {
+        let mut q = empty_queue(&rt, alloc);
+        q.make_room(rank)?;
+        assert!(rt; q.is_empty());
+        q.put(Message::of_hangup())?;
+        assert_eq!(rt; q.len(), 1);
+    }
+    Ok(())
+}
+
 // By hand: an empty queue has no first message, and room is made and used.
 #[test]
 fn an_empty_queue_takes_what_room_was_made_for(rt: HostRuntime) -> Result<(), Fail> {

@@ -5,7 +5,7 @@ use Rattle.strm_queue.proofs.queue.BandQueue.make_room.Goals as goal
 
 pub returns-clause-room : goal.returns-clause-room
 returns-clause-room c =
-    rw (room_for-same_room (vec_capacity c.reserve.new.self - vec_len c.reserve.new.self) c.args.rank c.requires) (omega (arith, c.in_ok-reserve.ensures.ok))
+    rw (room_for-same_room (vec_capacity c.reserve.new.self - vec_len c.reserve.new.self) c.args.rank) (omega (arith, c.in_ok-reserve.ensures.ok))
 
 pub returns-clause-kept : goal.returns-clause-kept
 returns-clause-kept c = λ other.
@@ -14,5 +14,5 @@ returns-clause-kept c = λ other.
 pub returns-in_err-reserve-clause-enough : goal.returns-in_err-reserve-clause-enough
 returns-in_err-reserve-clause-enough c = λ room.
     let here = rw (← c.self.view_is) at room in
-    let spare : 0 < vec_capacity c.self.inside.items - vec_len c.self.inside.items = room_for-same_room-some _ c.args.rank c.requires here in
+    let spare : 0 < vec_capacity c.self.inside.items - vec_len c.self.inside.items = room_for-same_room-some _ c.args.rank here in
     absurd (omega (arith, c.in_err-reserve.ensures.full))

@@ -3,11 +3,10 @@ use Rattle.std.proofs.Common.{◌≡◌, ◌&&◌, not, Bool, true, false, cond,
 use Rattle.strm_msg.specs.Kind.{is_high}
 use Rattle.strm_msg.specs.Message.{Msg}
 use Rattle.strm_msg.specs.declared.words.Side.{Side}
-use Rattle.strm_module.specs.Kinds.{Meaning, all_go_up}
+use Rattle.strm_module.specs.Kinds.{Meaning}
 use Rattle.strm_module.specs.Shape.{queues_on, IsSameModule}
-use Rattle.strm_module.specs.Module.{serve_of, Taken, put_of, is_queued, sends_up, IsQueued}
+use Rattle.strm_module.specs.Module.{serve_of, Taken, put_of, is_queued, IsQueued}
 use Rattle.strm_module.specs.declared.shape.Shape.{Shape}
-use Rattle.strm_module.specs.declared.outs.Put.{Put}
 use Rattle.strm_module.specs.declared.outs.Put.TheVariants.{Queue, Sent}
 
 is_ordinary : (high queues : Bool) → (not high && queues) ≡ true → high ≡ false

@@ -1,6 +1,6 @@
 -- What each of the eight kinds makes of a message that it doesn't queue (Programmer's Guide: STREAMS,
 -- "Modules" and "Message Types").
-use Rattle.std.specs.Prelude.{ℕ, ◌+◌, ◌==◌, nat_lt, min, Bool, true, false, Some, None, List, [], ◌∷◌, ◌++◌, if◌then◌else◌, length, option_map, unwrap_or}
+use Rattle.std.specs.Prelude.{ℕ, ◌+◌, ◌==◌, nat_lt, min, true, Some, None, List, [], ◌∷◌, ◌++◌, if◌then◌else◌, length, option_map, unwrap_or}
 use Rattle.strm_msg.specs.Kind.{is_high}
 use Rattle.strm_msg.specs.Message.{Msg, part_len, data_msg}
 use Rattle.strm_msg.specs.declared.kind.MsgKind.{MsgKind}

@@ -1,5 +1,5 @@
 -- The shape of a module: its name, its marks and what it keeps (qinit(9S), module_info(9S)).
-use Rattle.std.specs.Prelude.{◌≡◌, ℕ, ◌==◌, ◌&&◌, ◌||◌, nat_le, nat_lt, Bool, true, Option, Some, None, List, length, if◌then◌else◌, is_some, option_map}
+use Rattle.std.specs.Prelude.{◌≡◌, ℕ, ◌==◌, ◌&&◌, ◌||◌, nat_le, nat_lt, Bool, true, Option, Some, None, List, length, if◌then◌else◌, is_some, option_map, codes}
 use Rattle.std.specs.Char.{is_ascii_alphanumeric}
 use Rattle.std.specs.List.{list_all}
 use Rattle.strm_msg.specs.declared.words.Side.{Side}
@@ -47,6 +47,11 @@ make_fault name rd wr =
 abbrev pub number_of : MakeFault → ℕ
 number_of Name = 1
 number_of Marks = 2
+
+-- what a fault is printed as
+abbrev pub text_of : MakeFault → List ℕ
+text_of Name = codes "a module's name must be 1 to 8 letters, digits or `_`"
+text_of Marks = codes "the low mark of a queue must be below its high mark"
 
 -- the shape of a new module
 abbrev pub new_shape : {K : Type 0} → ℕ → List ℕ → MarkPair → MarkPair → K → Shape K

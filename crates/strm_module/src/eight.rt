@@ -21,8 +21,8 @@ impl Module for Plain {}
 pub struct Pass;
 
 impl Pass {
-    /// A new module with this name, and with a queue on each side for which a high and a low mark
-    /// are given. Takes no memory.
+    /// A new module of this serial and name, with a queue on each side for which a high and a low
+    /// mark are given, in bytes. Takes no memory.
     ///
     /// Refused for the name first, then for the marks of either side.
     pub fn new(
@@ -47,8 +47,8 @@ impl Module for Pass {}
 pub struct Table;
 
 impl Table {
-    /// A new module with this name, and with a queue on each side for which a high and a low mark
-    /// are given. `map` has what stands for each byte. Takes no memory.
+    /// A new module of this serial and name, with a queue on each side for which a high and a low
+    /// mark are given, in bytes. `map` has what stands for each byte. Takes no memory.
     ///
     /// Refused for the name first, then for the marks of either side.
     pub fn new(
@@ -74,8 +74,8 @@ impl Module for Table {}
 pub struct CrNl;
 
 impl CrNl {
-    /// A new module with this name, and with a queue on each side for which a high and a low mark
-    /// are given. Takes no memory.
+    /// A new module of this serial and name, with a queue on each side for which a high and a low
+    /// mark are given, in bytes. Takes no memory.
     ///
     /// Refused for the name first, then for the marks of either side.
     pub fn new(
@@ -100,8 +100,8 @@ impl Module for CrNl {}
 pub struct Line;
 
 impl Line {
-    /// A new module with this name, and with a queue on each side for which a high and a low mark
-    /// are given. No line has begun, so `alloc` is only noted. Takes no memory.
+    /// A new module of this serial and name, with a queue on each side for which a high and a low
+    /// mark are given, in bytes. No line has begun, so `alloc` is only noted. Takes no memory.
     ///
     /// Refused for the name first, then for the marks of either side.
     pub fn new(
@@ -128,8 +128,8 @@ impl Module for Line {}
 pub struct Count;
 
 impl Count {
-    /// A new module with this name, and with a queue on each side for which a high and a low mark
-    /// are given. Its count is 0. Takes no memory.
+    /// A new module of this serial and name, with a queue on each side for which a high and a low
+    /// mark are given, in bytes. Its count is 0. Takes no memory.
     ///
     /// Refused for the name first, then for the marks of either side.
     pub fn new(
@@ -154,8 +154,8 @@ impl Module for Count {}
 pub struct Band;
 
 impl Band {
-    /// A new module with this name, and with a queue on each side for which a high and a low mark
-    /// are given. `b` is the band that it gives. Takes no memory.
+    /// A new module of this serial and name, with a queue on each side for which a high and a low
+    /// mark are given, in bytes. `b` is the band that it gives. Takes no memory.
     ///
     /// Refused for the name first, then for the marks of either side.
     pub fn new(
@@ -181,8 +181,8 @@ impl Module for Band {}
 pub struct Tee;
 
 impl Tee {
-    /// A new module with this name, and with a queue on each side for which a high and a low mark
-    /// are given. Takes no memory.
+    /// A new module of this serial and name, with a queue on each side for which a high and a low
+    /// mark are given, in bytes. Takes no memory.
     ///
     /// Refused for the name first, then for the marks of either side.
     pub fn new(
@@ -207,8 +207,8 @@ impl Module for Tee {}
 pub struct Mute;
 
 impl Mute {
-    /// A new module with this name, and with a queue on each side for which a high and a low mark
-    /// are given. Takes no memory.
+    /// A new module of this serial and name, with a queue on each side for which a high and a low
+    /// mark are given, in bytes. Takes no memory.
     ///
     /// Refused for the name first, then for the marks of either side.
     pub fn new(

@@ -13,13 +13,15 @@ pub const MOST_KEPT: usize = 4096;
 
 /// Eight kinds of module: what each does with messages, and what it keeps for that.
 ///
-/// Only ordinary messages are meant. High ones go on unchanged, whatever the kind.
+/// Only ordinary messages are meant, and what is not named goes on unchanged, along its side. High
+/// ones go on unchanged, whatever the kind.
 #[derive(Debug, Drop, PartialEq, Eq)]
 pub enum Kind {
     /// Each message goes on unchanged.
     Pass,
-    /// Data on its way down is mapped byte by byte. Ioctl 3 answers with its own data mapped, and
-    /// the length of that data as its value.
+    /// Data on its way down is mapped byte by byte. An ioctl of command 3 on its way down is
+    /// answered with its own data mapped, and the length of that data as value, which is 0 without
+    /// data.
     Table {
         /// What stands for each byte.
         map: [u8; 256],
@@ -29,13 +31,14 @@ pub enum Kind {
     CrNl,
     /// Data of band 0 on its way up is kept until its line ends: whole lines go up, each with its
     /// LF, several in one message. A rest of over `MOST_KEPT` bytes goes up with all that stands
-    /// before it. A flush of the read side that is of all bands or of band 0 drops what is kept.
+    /// before it. A flush of the read side that is of all bands or of band 0 drops what is kept,
+    /// whichever way it passes.
     Line {
         /// What came since the last LF. No service leaves more than `MOST_KEPT` bytes of it.
         partial: Bytes,
     },
-    /// Data messages on their way down are counted. Ioctl 1 answers with the count, and ioctl 2
-    /// too, which then sets it to 0.
+    /// Data messages on their way down are counted. An ioctl of command 1 on its way down is
+    /// answered with the count as value, and so is one of command 2, which then sets it to 0.
     Count {
         /// How many came, up to the greatest `u64`.
         n: u64,

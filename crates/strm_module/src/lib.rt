@@ -3,8 +3,12 @@
 //!
 //! A module stands between the stream head and the driver. Messages come to it on two sides: on
 //! the write side on their way down, to the driver, and on the read side on their way up, to the
-//! head (Programmer's Guide: STREAMS, "Modules"). `Module` says how one of the eight kinds is
-//! written, and `Kinds` how a program gets kinds of its own.
+//! head (Programmer's Guide: STREAMS, "Modules").
+//!
+//! A module is an `Instance`: a `Shape`, which is plain data and decides every answer, and an object
+//! that acts by it. For the eight kinds of `Kind` there are objects to take, as `Pass` and `Count`,
+//! and `Module` says how to write one that does more beside. `Kinds` says how a program gets kinds
+//! of its own, and `ModuleOf` how their objects are written.
 #![tactic(auto)]
 
 mod acts;

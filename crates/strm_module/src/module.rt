@@ -49,9 +49,16 @@ use strm_msg::{Message, NoMem, Side};
 ///
 /// After `Ok` the answer and the shape are those that `put_of` and `serve_of` give for the shape
 /// before: `Shape::put` and `Shape::serve` do just that, and so do both procedures where an
-/// implementation leaves them out. After `Err`, which is for want of memory alone, the shape is as
-/// before and the message is dropped. An object that is lent the shape of another kind does what
-/// that shape says.
+/// implementation leaves them out:
+///
+/// ```
+/// impl ModuleOf for Terminal {
+///     type Kind = Discipline;
+/// }
+/// ```
+///
+/// After `Err`, which is for want of memory alone, the shape is as before and the message is
+/// dropped. An object that is lent the shape of another kind does what that shape says.
 ///
 /// # Opening and closing
 ///

@@ -1,12 +1,14 @@
 //! What a module is and what it keeps.
 ghost use Rattle.std.specs.Prelude.{◌≡◌, ◌&&◌, nat_le, length, is_some, is_ok, is_none, IfSome, IfOk, IfErr, Some};
+ghost use Rattle.std.specs.Fmt.{padded};
 ghost use Rattle.std.specs.List.{list_all};
-ghost use Rattle.strm_module.specs.Shape.{queues_on, is_name_byte, is_name, are_marks, marks_of, make_fault, number_of, new_shape};
+ghost use Rattle.strm_module.specs.Shape.{queues_on, is_name_byte, is_name, are_marks, marks_of, make_fault, number_of, text_of, new_shape};
 
 use crate::kind::Kind;
 use crate::vocabulary::Kinds;
 use arrayvec::ArrayVec;
 use std::alloc::Global;
+use std::fmt;
 use strm_msg::{NoMem, Side};
 use strm_queue::Marks;
 use thiserror::Error;
@@ -16,19 +18,18 @@ pub const LONGEST_NAME: usize = 8;
 
 /// A module as others see it: its name, its queues, its kind and what it keeps (module_info(9S)).
 ///
-/// It is plain data. `Shape::new` judges the name and the marks; whoever writes the fields out may
-/// also make a name that no call would make, or a partial line longer than one that is ever kept,
-/// and nothing is promised of where these come from: a module then does with them what its meaning
-/// says.
+/// It is plain data. `Shape::new` judges the name and the marks. Written out by its fields a shape
+/// may also have a name that `Shape::new` refuses, or a partial line longer than any that is kept:
+/// a module of that shape still does what the meaning of its kind says.
 #[derive(Debug, Drop, PartialEq, Eq)]
 pub struct Shape<K = Kind> {
-    /// Which module this is, among those of a program.
+    /// Which module this is, among those of a program, which chooses the number.
     pub serial: u64,
     /// 1 to 8 letters, digits and `_`, where `Shape::new` made it.
     pub name: ArrayVec<u8, LONGEST_NAME>,
-    /// The water marks of the read queue, where ordinary messages of that side are queued.
+    /// The water marks of the read queue, in bytes, where ordinary messages of that side wait.
     pub rd: Option<Marks>,
-    /// The water marks of the write queue, where ordinary messages of that side are queued.
+    /// The water marks of the write queue, in bytes, where ordinary messages of that side wait.
     pub wr: Option<Marks>,
     /// What the module does, and what it keeps.
     pub kind: K,
@@ -38,10 +39,8 @@ pub struct Shape<K = Kind> {
 #[derive(Clone, Copy, Debug, PartialEq, Eq, Error)]
 pub enum MakeFault {
     /// The name is not of 1 to 8 letters, digits and `_`. It is looked at before the marks.
-    #[error("a module's name must be 1 to 8 letters, digits or `_`")]
     Name,
     /// The low mark of a side is not below the high one.
-    #[error("the low mark of a queue must be below its high mark")]
     Marks,
 }
 
@@ -54,6 +53,27 @@ impl MakeFault {
             MakeFault::Name => 1,
             MakeFault::Marks => 2,
         }
+    }
+
+    /// What was asked for and not given.
+    fn text(self) -> &'static str
+        ensures { result.now ≡ text_of self }
+    {
+        match self {
+            MakeFault::Name => "a module's name must be 1 to 8 letters, digits or `_`",
+            MakeFault::Marks => "the low mark of a queue must be below its high mark",
+        }
+    }
+}
+
+/// Printed as what a name or marks must be.
+impl fmt::Display for MakeFault {
+    ghost output = { λ fault. Some (text_of fault) };
+
+    ghost styled_output = { λ fault spec. Some (padded spec (text_of fault)) };
+
+    fn fmt<W: fmt::Write>(&self, f: &mut fmt::Formatter<W>) -> fmt::Result {
+        f.pad(self.text())
     }
 }
 
@@ -99,7 +119,7 @@ fn marks_of(pair: Option<(u32, u32)>) -> Result<Option<Marks>, MakeFault>
 
 impl<K: Kinds> Shape<K> {
     /// The shape of a new module, where `rd` and `wr` are the high and the low mark of each side
-    /// that queues. Takes no memory.
+    /// that queues, in bytes. Takes no memory.
     ///
     /// Refused for the name first, then for the marks of either side.
     pub fn new(

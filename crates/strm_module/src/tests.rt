@@ -1,47 +1,97 @@
-//! Worked examples, by the public calls alone.
+//! Worked examples, by the public calls alone: tables of messages with what is answered to each.
 use crate::{
-    Band, Count, CrNl, Instance, Kind, Line, MakeFault, Module, Mute, Outs, Pass, Put, Table, Tee,
+    Band, Count, CrNl, Instance, Kind, Kinds, Line, MakeFault, Module, Mute, Outs, Pass, Plain,
+    Put, Shape, Table, Tee,
 };
+use Keeps::{Counted, Partial, Same};
+use Sample::{Ack, Data, Flush, Hangup, Ioctl, Proto};
+use Want::{GoesOn, Nothing, Sends, Twice, Waits};
 use std::alloc::Global;
 use std::process::Abort;
-use strm_msg::{Message, Side};
+use strm_msg::Side::{Rd, Wr};
+use strm_msg::{Bytes, Message, NoMem, Side};
 use strm_queue::Marks;
 
 mod user;
 
-/// Data of a band.
-fn data(rt: &impl Abort, alloc: Global, band: u8, bytes: &[u8]) -> Message {
-    Message::of_data(alloc, band, bytes).expect(rt, "no memory for data")
+/// A message, written out. Each ioctl and each answer to one has number 7.
+#[derive(Clone, Copy, Drop)]
+enum Sample<'a> {
+    /// A band, and data.
+    Data(u8, &'a [u8]),
+    /// A band, and control without data.
+    Proto(u8, &'a [u8]),
+    /// A command, and its data.
+    Ioctl(u32, Option<&'a [u8]>),
+    /// A value, and data.
+    Ack(u64, Option<&'a [u8]>),
+    /// The sides, and the band.
+    Flush(bool, bool, Option<u8>),
+    Hangup,
 }
 
-/// A protocol message without data.
-fn proto(rt: &impl Abort, alloc: Global, band: u8, bytes: &[u8]) -> Message {
-    Message::of_proto(alloc, band, bytes, None).expect(rt, "no memory for a protocol message")
+/// Which procedure a message is handed to.
+#[derive(Clone, Copy, Drop)]
+enum Call {
+    Put,
+    Serve,
 }
 
-/// An ioctl of number 7.
-fn ioctl(rt: &impl Abort, alloc: Global, cmd: u32, dat: Option<&[u8]>) -> Message {
-    Message::of_ioctl(alloc, 7, cmd, dat).expect(rt, "no memory for an ioctl")
+/// What is answered.
+#[derive(Clone, Copy, Drop)]
+enum Want<'a> {
+    /// The message waits, as it came.
+    Waits,
+    /// Nothing leaves.
+    Nothing,
+    /// The message goes on, as it came.
+    GoesOn,
+    /// This leaves in its place.
+    Sends(Side, Sample<'a>),
+    /// A copy goes up, and then the message on.
+    Twice,
 }
 
-/// The answer to the ioctl of number 7.
-fn ack(rt: &impl Abort, alloc: Global, rval: u64, dat: Option<&[u8]>) -> Message {
-    let dat = match dat {
-        Some(bytes) => Some(
-            Vec::from_slice(alloc, bytes)
-                .expect(rt, "no memory for an answer")
-                .into(),
-        ),
+/// What the module keeps afterwards.
+#[derive(Clone, Copy, Drop)]
+enum Keeps<'a> {
+    /// What it kept before.
+    Same,
+    /// This number of messages.
+    Counted(u64),
+    /// This partial line.
+    Partial(&'a [u8]),
+}
+
+/// A message that comes on a side, what is answered, and what is kept then.
+type Row<'a> = (Side, Sample<'a>, Want<'a>, Keeps<'a>);
+
+fn bytes(rt: &impl Abort, alloc: Global, bytes: &[u8]) -> Bytes {
+    Bytes::from_slice(alloc, bytes).expect(rt, "no memory for bytes")
+}
+
+fn part(rt: &impl Abort, alloc: Global, part: Option<&[u8]>) -> Option<Bytes> {
+    match part {
+        Some(part) => Some(bytes(rt, alloc, part)),
         None => None,
-    };
-    Message::of_ack(7, rval, dat)
+    }
 }
 
-/// A line discipline with this partial line.
-fn line_with(rt: &impl Abort, alloc: Global, bytes: &[u8]) -> Kind {
-    let partial = Vec::from_slice(alloc, bytes).expect(rt, "no memory for a line");
+fn message(rt: &impl Abort, alloc: Global, sample: Sample<'_>) -> Message {
+    match sample {
+        Data(band, dat) => Message::of_data(alloc, band, dat),
+        Proto(band, ctl) => Message::of_proto(alloc, band, ctl, None),
+        Ioctl(cmd, dat) => Message::of_ioctl(alloc, 7, cmd, dat),
+        Ack(rval, dat) => Ok(Message::of_ack(7, rval, part(rt, alloc, dat))),
+        Flush(r, w, band) => Ok(Message::of_flush(r, w, band)),
+        Hangup => Ok(Message::of_hangup()),
+    }
+    .expect(rt, "no memory for a message")
+}
+
+fn line(rt: &impl Abort, alloc: Global, partial: &[u8]) -> Kind {
     Kind::Line {
-        partial: partial.into(),
+        partial: bytes(rt, alloc, partial),
     }
 }
 
@@ -62,346 +112,316 @@ fn made<M: Module>(rt: &impl Abort, made: Result<Instance<M>, MakeFault>) -> Ins
     made.expect(rt, "a good name and good marks")
 }
 
-/// One message that leaves.
-fn one(side: Side, m: Message) -> Outs {
+fn sent(side: Side, m: Message) -> Put {
     let mut outs = Outs::new();
     outs.push((side, m));
-    outs
+    Put::Sent(outs)
 }
 
-fn sends(side: Side, m: Message) -> Put {
-    Put::Sent(one(side, m))
+fn sent_twice(first: Message, second: Message) -> Put {
+    let mut outs = Outs::new();
+    outs.push((Rd, first));
+    outs.push((Wr, second));
+    Put::Sent(outs)
 }
 
-fn sends_nothing() -> Put {
-    Put::Sent(Outs::new())
+fn wanted(rt: &impl Abort, alloc: Global, side: Side, came: Sample<'_>, want: Want<'_>) -> Put {
+    match want {
+        Waits => Put::Queue(message(rt, alloc, came)),
+        Nothing => Put::Sent(Outs::new()),
+        GoesOn => sent(side, message(rt, alloc, came)),
+        Sends(side, sample) => sent(side, message(rt, alloc, sample)),
+        Twice => sent_twice(message(rt, alloc, came), message(rt, alloc, came)),
+    }
 }
 
-/// A put that is answered like this, though nothing was wanting.
-fn answers<M: Module>(
+/// The kind that is to be there, where this one was before.
+fn kept(rt: &impl Abort, alloc: Global, before: &Kind, keeps: Keeps<'_>) -> Kind {
+    match keeps {
+        Same => before.copy(alloc).expect(rt, "no memory for a kind"),
+        Counted(n) => Kind::Count { n },
+        Partial(partial) => line(rt, alloc, partial),
+    }
+}
+
+/// What a call answers. A service only sends.
+fn called<M: Module>(
+    alloc: Global,
+    it: &mut Instance<M>,
+    call: Call,
+    side: Side,
+    m: Message,
+) -> Result<Put, NoMem> {
+    match call {
+        Call::Put => it.put(alloc, side, m),
+        Call::Serve => Ok(Put::Sent(it.serve(alloc, side, m)?)),
+    }
+}
+
+/// Hands a module each message of a table in its turn.
+fn play<M: Module>(
     rt: &impl Abort,
     alloc: Global,
     it: &mut Instance<M>,
-    (side, m): (Side, Message),
-    want: Put,
+    call: Call,
+    rows: &[Row<'_>],
 ) {
-    let answer = it.module.put(alloc, &mut it.shape, side, m);
-    assert_eq!(rt; answer, Ok(want));
-}
-
-#[test]
-fn count_counts_what_is_served(rt: HostRuntime) {
-    let alloc = rt.alloc();
-    let mut count = made(&rt, Count::new(1, b"cnt", None, None));
-    let x = (Side::Wr, data(&rt, alloc, 0, b"x"));
-    let onward = sends(Side::Wr, data(&rt, alloc, 0, b"x"));
-    answers(&rt, alloc, &mut count, x, onward);
-    assert_eq!(rt; count.shape.kind, Kind::Count { n: 1 });
-
-    let asked = (Side::Wr, ioctl(&rt, alloc, 1, None));
-    let answer = sends(Side::Rd, ack(&rt, alloc, 1, None));
-    answers(&rt, alloc, &mut count, asked, answer);
-    assert_eq!(rt; count.shape.kind, Kind::Count { n: 1 });
-
-    let reset = (Side::Wr, ioctl(&rt, alloc, 2, None));
-    let answer = sends(Side::Rd, ack(&rt, alloc, 1, None));
-    answers(&rt, alloc, &mut count, reset, answer);
-    assert_eq!(rt; count.shape.kind, Kind::Count { n: 0 });
-}
-
-#[test]
-fn count_with_a_queue_counts_at_service(rt: HostRuntime) {
-    let alloc = rt.alloc();
-    let mut count = made(&rt, Count::new(1, b"cnt", None, Some((5, 4))));
-    let x = (Side::Wr, data(&rt, alloc, 0, b"x"));
-    let queued = Put::Queue(data(&rt, alloc, 0, b"x"));
-    answers(&rt, alloc, &mut count, x, queued);
-    assert_eq!(rt; count.shape.kind, Kind::Count { n: 0 });
-
-    let x = data(&rt, alloc, 0, b"x");
-    let served = count.module.serve(alloc, &mut count.shape, Side::Wr, x);
-    assert_eq!(rt; served, Ok(one(Side::Wr, data(&rt, alloc, 0, b"x"))));
-    assert_eq!(rt; count.shape.kind, Kind::Count { n: 1 });
-}
-
-#[test]
-fn line_gathers_lines(rt: HostRuntime) {
-    let alloc = rt.alloc();
-    let mut line = made(&rt, Line::new(alloc, 1, b"ln", None, None));
-    for (came, went, kept) in [
-        (b"ab".as_slice(), b"".as_slice(), b"ab".as_slice()),
-        (b"c\nd", b"abc\n", b"d"),
-        (b"\n\ne\n", b"d\n\ne\n", b""),
-    ] {
-        let want = if went.is_empty() {
-            sends_nothing()
-        } else {
-            sends(Side::Rd, data(&rt, alloc, 0, went))
-        };
-        let came = (Side::Rd, data(&rt, alloc, 0, came));
-        answers(&rt, alloc, &mut line, came, want);
-        assert_eq!(rt; line.shape.kind, line_with(&rt, alloc, kept));
+    for (i, (side, came, want, keeps)) in rows.iter().enumerate() {
+        let kind = kept(rt, alloc, &it.shape().kind, *keeps);
+        let want = wanted(rt, alloc, *side, *came, *want);
+        let m = message(rt, alloc, *came);
+        let answer = called(alloc, it, call, *side, m);
+        assert!(rt; answer == Ok(want), "the answer to message {i}");
+        assert!(rt; it.shape().kind == kind, "what is kept after message {i}");
     }
 }
 
+/// A new module is put each message of a table.
+fn puts<M: Module>(
+    rt: &impl Abort,
+    alloc: Global,
+    new: Result<Instance<M>, MakeFault>,
+    rows: &[Row<'_>],
+) {
+    let mut it = made(rt, new);
+    play(rt, alloc, &mut it, Call::Put, rows);
+}
+
+/// A module of a kind, with these marks on both sides.
+fn plain(rt: &impl Abort, kind: Kind, marks: Option<(u32, u32)>) -> Instance<Plain> {
+    let shape = Shape::new(1, b"plain", marks, marks, kind).expect(rt, "a good name and marks");
+    Instance::new(shape, Plain)
+}
+
+const MARKS: Option<(u32, u32)> = Some((5, 4));
+
+const X: Sample<'static> = Data(0, b"x");
+
 #[test]
-fn line_leaves_other_data_alone(rt: HostRuntime) {
+fn count_counts_what_is_put(rt: HostRuntime) {
+    let told = Sends(Rd, Ack(1, None));
+    let rows = [
+        (Wr, X, GoesOn, Counted(1)),
+        (Wr, Ioctl(1, None), told, Counted(1)),
+        (Wr, Ioctl(2, None), told, Counted(0)),
+    ];
+    puts(&rt, rt.alloc(), Count::new(1, b"cnt", None, None), &rows);
+}
+
+#[test]
+fn count_with_a_queue_counts_what_is_served(rt: HostRuntime) {
     let alloc = rt.alloc();
-    let mut line = made(&rt, Line::new(alloc, 1, b"ln", None, None));
-    for (side, band) in [(Side::Rd, 3), (Side::Wr, 0)] {
-        let came = (side, data(&rt, alloc, band, b"e\nf"));
-        let onward = sends(side, data(&rt, alloc, band, b"e\nf"));
-        answers(&rt, alloc, &mut line, came, onward);
-        assert_eq!(rt; line.shape.kind, line_with(&rt, alloc, b""));
-    }
+    let mut count = made(&rt, Count::new(1, b"cnt", None, MARKS));
+    let put = [(Wr, X, Waits, Counted(0))];
+    play(&rt, alloc, &mut count, Call::Put, &put);
+    let served = [(Wr, X, GoesOn, Counted(1))];
+    play(&rt, alloc, &mut count, Call::Serve, &served);
+}
+
+#[test]
+fn line_gathers_lines_of_band_0(rt: HostRuntime) {
+    let alloc = rt.alloc();
+    let first = Sends(Rd, Data(0, b"abc\n"));
+    let three = Sends(Rd, Data(0, b"d\n\ne\n"));
+    let rows = [
+        (Rd, Data(0, b"ab"), Nothing, Partial(b"ab")),
+        (Rd, Data(0, b"c\nd"), first, Partial(b"d")),
+        (Rd, Data(3, b"e\nf"), GoesOn, Same),
+        (Wr, Data(0, b"e\nf"), GoesOn, Same),
+        (Rd, Data(0, b"\n\ne\n"), three, Partial(b"")),
+    ];
+    puts(&rt, alloc, Line::new(alloc, 1, b"ln", None, None), &rows);
 }
 
 #[test]
 fn line_keeps_at_most_4096_bytes(rt: HostRuntime) {
     let alloc = rt.alloc();
-    let mut line = made(&rt, Line::new(alloc, 1, b"ln", None, None));
-    line.shape.kind = line_with(&rt, alloc, &[b'a'; 4000]);
-    let more = (Side::Rd, data(&rt, alloc, 0, &[b'a'; 96]));
-    answers(&rt, alloc, &mut line, more, sends_nothing());
-    assert_eq!(rt; line.shape.kind, line_with(&rt, alloc, &[b'a'; 4096]));
-
-    let one_more = (Side::Rd, data(&rt, alloc, 0, b"a"));
-    let all = sends(Side::Rd, data(&rt, alloc, 0, &[b'a'; 4097]));
-    answers(&rt, alloc, &mut line, one_more, all);
-    assert_eq!(rt; line.shape.kind, line_with(&rt, alloc, b""));
+    let more = Data(0, &[b'a'; 96]);
+    let all = Sends(Rd, Data(0, &[b'a'; 4097]));
+    let rows = [
+        (Rd, more, Nothing, Partial(&[b'a'; 4096])),
+        (Rd, Data(0, b"a"), all, Partial(b"")),
+    ];
+    let mut it = plain(&rt, line(&rt, alloc, &[b'a'; 4000]), None);
+    play(&rt, alloc, &mut it, Call::Put, &rows);
 }
 
 #[test]
 fn flush_empties_a_partial_line(rt: HostRuntime) {
     let alloc = rt.alloc();
-    let mut line = made(&rt, Line::new(alloc, 1, b"ln", Some((5, 4)), Some((5, 4))));
-    for (r, w, band, kept) in [
-        (true, false, None, b"".as_slice()),
-        (true, true, Some(0), b""),
-        (true, true, Some(1), b"ab"),
-        (false, true, None, b"ab"),
-        (false, true, Some(0), b"ab"),
+    for (flush, keeps) in [
+        (Flush(true, false, None), Partial(b"")),
+        (Flush(true, true, Some(0)), Partial(b"")),
+        (Flush(true, true, Some(1)), Same),
+        (Flush(false, true, None), Same),
+        (Flush(false, true, Some(0)), Same),
     ] {
-        line.shape.kind = line_with(&rt, alloc, b"ab");
-        let came = (Side::Wr, Message::of_flush(r, w, band));
-        let onward = sends(Side::Wr, Message::of_flush(r, w, band));
-        answers(&rt, alloc, &mut line, came, onward);
-        assert_eq!(rt;
-            line.shape.kind,
-            line_with(&rt, alloc, kept),
-            "{r} {w} {band:?}"
-        );
+        let mut it = plain(&rt, line(&rt, alloc, b"ab"), MARKS);
+        let rows = [(Wr, flush, GoesOn, keeps)];
+        play(&rt, alloc, &mut it, Call::Put, &rows);
     }
 }
 
 #[test]
 fn crnl_changes_ends_of_lines(rt: HostRuntime) {
-    let alloc = rt.alloc();
-    let mut crnl = made(&rt, CrNl::new(1, b"c", None, None));
-    for (side, band, came, went) in [
-        (Side::Wr, 0, b"a\nb".as_slice(), b"a\r\nb".as_slice()),
-        (Side::Wr, 2, b"\r\n", b"\r\r\n"),
-        (Side::Rd, 0, b"a\r\nb\r", b"a\nb\r"),
-        (Side::Rd, 2, b"\r\r\n\n\ra", b"\r\n\n\ra"),
-    ] {
-        let came = (side, data(&rt, alloc, band, came));
-        let onward = sends(side, data(&rt, alloc, band, went));
-        answers(&rt, alloc, &mut crnl, came, onward);
-    }
+    let to_lf = Sends(Rd, Data(0, b"a\nb\r"));
+    let last_cr = Sends(Rd, Data(2, b"\r\n\n\ra"));
+    let rows = [
+        (Wr, Data(0, b"a\nb"), Sends(Wr, Data(0, b"a\r\nb")), Same),
+        (Wr, Data(2, b"\r\n"), Sends(Wr, Data(2, b"\r\r\n")), Same),
+        (Rd, Data(0, b"a\r\nb\r"), to_lf, Same),
+        (Rd, Data(2, b"\r\r\n\n\ra"), last_cr, Same),
+    ];
+    puts(&rt, rt.alloc(), CrNl::new(1, b"c", None, None), &rows);
 }
 
 #[test]
 fn table_maps_data_and_answers(rt: HostRuntime) {
-    let alloc = rt.alloc();
-    let mut table = made(&rt, Table::new(1, b"up", None, None, capitals()));
-    for (side, went) in [(Side::Wr, b"CAd".as_slice()), (Side::Rd, b"cad")] {
-        let came = (side, data(&rt, alloc, 2, b"cad"));
-        let onward = sends(side, data(&rt, alloc, 2, went));
-        answers(&rt, alloc, &mut table, came, onward);
-    }
-    let asked = (Side::Wr, ioctl(&rt, alloc, 3, Some(b"cab")));
-    let answer = sends(Side::Rd, ack(&rt, alloc, 3, Some(b"CAB")));
-    answers(&rt, alloc, &mut table, asked, answer);
-    let asked = (Side::Wr, ioctl(&rt, alloc, 3, None));
-    let answer = sends(Side::Rd, ack(&rt, alloc, 0, None));
-    answers(&rt, alloc, &mut table, asked, answer);
-}
-
-#[test]
-fn table_leaves_other_messages_alone(rt: HostRuntime) {
-    let alloc = rt.alloc();
-    let mut table = made(&rt, Table::new(1, b"up", None, None, capitals()));
-    let other = (Side::Wr, ioctl(&rt, alloc, 4, Some(b"cab")));
-    let onward = sends(Side::Wr, ioctl(&rt, alloc, 4, Some(b"cab")));
-    answers(&rt, alloc, &mut table, other, onward);
-    let protocol = (Side::Wr, proto(&rt, alloc, 1, b"cab"));
-    let onward = sends(Side::Wr, proto(&rt, alloc, 1, b"cab"));
-    answers(&rt, alloc, &mut table, protocol, onward);
+    let mapped = Sends(Wr, Data(2, b"CAd"));
+    let told = Sends(Rd, Ack(3, Some(b"CAB")));
+    let rows = [
+        (Wr, Data(2, b"cad"), mapped, Same),
+        (Rd, Data(2, b"cad"), GoesOn, Same),
+        (Wr, Ioctl(3, Some(b"cab")), told, Same),
+        (Wr, Ioctl(3, None), Sends(Rd, Ack(0, None)), Same),
+        (Wr, Ioctl(4, Some(b"cab")), GoesOn, Same),
+        (Wr, Proto(1, b"cab"), GoesOn, Same),
+    ];
+    let table = Table::new(1, b"up", None, None, capitals());
+    puts(&rt, rt.alloc(), table, &rows);
 }
 
 #[test]
 fn tee_sends_its_copy_first(rt: HostRuntime) {
-    let alloc = rt.alloc();
-    let mut tee = made(&rt, Tee::new(1, b"t", None, None));
-    let mut both = one(Side::Rd, data(&rt, alloc, 0, b"x"));
-    assert!(rt; both.len() == 1);
-    assert!(rt; both.try_push((Side::Wr, data(&rt, alloc, 0, b"x"))).is_ok());
-    let x = (Side::Wr, data(&rt, alloc, 0, b"x"));
-    answers(&rt, alloc, &mut tee, x, Put::Sent(both));
-    let x = (Side::Rd, data(&rt, alloc, 0, b"x"));
-    let onward = sends(Side::Rd, data(&rt, alloc, 0, b"x"));
-    answers(&rt, alloc, &mut tee, x, onward);
+    let rows = [(Wr, X, Twice, Same), (Rd, X, GoesOn, Same)];
+    puts(&rt, rt.alloc(), Tee::new(1, b"t", None, None), &rows);
 }
 
 #[test]
 fn band_gives_its_band(rt: HostRuntime) {
-    let alloc = rt.alloc();
-    let mut band = made(&rt, Band::new(1, b"v", None, None, 7));
-    for (side, given) in [(Side::Wr, 7), (Side::Rd, 2)] {
-        let x = (side, data(&rt, alloc, 2, b"x"));
-        let onward = sends(side, data(&rt, alloc, given, b"x"));
-        answers(&rt, alloc, &mut band, x, onward);
-        let protocol = (side, proto(&rt, alloc, 2, b"p"));
-        let onward = sends(side, proto(&rt, alloc, given, b"p"));
-        answers(&rt, alloc, &mut band, protocol, onward);
-    }
+    let rows = [
+        (Wr, Data(2, b"x"), Sends(Wr, Data(7, b"x")), Same),
+        (Wr, Proto(2, b"p"), Sends(Wr, Proto(7, b"p")), Same),
+        (Rd, Data(2, b"x"), GoesOn, Same),
+        (Rd, Proto(2, b"p"), GoesOn, Same),
+    ];
+    puts(&rt, rt.alloc(), Band::new(1, b"v", None, None, 7), &rows);
 }
 
 #[test]
 fn mute_drops_data_and_pass_sends_it(rt: HostRuntime) {
     let alloc = rt.alloc();
-    let mut mute = made(&rt, Mute::new(1, b"u", None, None));
-    let x = (Side::Wr, data(&rt, alloc, 0, b"x"));
-    answers(&rt, alloc, &mut mute, x, sends_nothing());
-    let x = (Side::Rd, data(&rt, alloc, 0, b"x"));
-    let onward = sends(Side::Rd, data(&rt, alloc, 0, b"x"));
-    answers(&rt, alloc, &mut mute, x, onward);
-
-    let mut pass = made(&rt, Pass::new(2, b"p", None, None));
-    let x = (Side::Wr, data(&rt, alloc, 0, b"x\n"));
-    let onward = sends(Side::Wr, data(&rt, alloc, 0, b"x\n"));
-    answers(&rt, alloc, &mut pass, x, onward);
+    let rows = [(Wr, X, Nothing, Same), (Rd, X, GoesOn, Same)];
+    puts(&rt, alloc, Mute::new(1, b"u", None, None), &rows);
+    let rows = [(Wr, X, GoesOn, Same), (Rd, X, GoesOn, Same)];
+    puts(&rt, alloc, Pass::new(2, b"p", None, None), &rows);
 }
 
-/// On a side with marks ordinary messages are queued and high ones go on, and both change nothing.
-fn queues_ordinary_alone<M: Module>(rt: &impl Abort, alloc: Global, mut it: Instance<M>) {
-    let before = it.shape.copy(alloc).expect(rt, "no memory for a shape");
-    let x = (Side::Rd, data(rt, alloc, 0, b"x\n"));
-    let queued = Put::Queue(data(rt, alloc, 0, b"x\n"));
-    answers(rt, alloc, &mut it, x, queued);
-    let command = (Side::Rd, ioctl(rt, alloc, 3, None));
-    let queued = Put::Queue(ioctl(rt, alloc, 3, None));
-    answers(rt, alloc, &mut it, command, queued);
-    let hangup = (Side::Rd, Message::of_hangup());
-    answers(
-        rt,
-        alloc,
-        &mut it,
-        hangup,
-        sends(Side::Rd, Message::of_hangup()),
-    );
-    assert_eq!(rt; it.shape, before);
-
-    let other_side = (Side::Wr, ioctl(rt, alloc, 99, None));
-    let onward = sends(Side::Wr, ioctl(rt, alloc, 99, None));
-    answers(rt, alloc, &mut it, other_side, onward);
-    let command = ioctl(rt, alloc, 99, None);
-    let served = it.module.serve(alloc, &mut it.shape, Side::Wr, command);
-    assert_eq!(rt; served, Ok(one(Side::Wr, ioctl(rt, alloc, 99, None))));
-    assert_eq!(rt; it.shape, before);
+/// One kind of each, with something kept where there is something to keep.
+fn one_of_each(rt: &impl Abort, alloc: Global) -> [Kind; 8] {
+    [
+        Kind::Pass,
+        Kind::Table { map: capitals() },
+        Kind::CrNl,
+        line(rt, alloc, b"ab"),
+        Kind::Count { n: 5 },
+        Kind::Band { b: 3 },
+        Kind::Tee,
+        Kind::Mute,
+    ]
 }
 
 #[test]
 fn each_kind_queues_ordinary_messages_alone(rt: HostRuntime) {
     let alloc = rt.alloc();
-    let rd = Some((5, 4));
-    queues_ordinary_alone(&rt, alloc, made(&rt, Pass::new(1, b"a", rd, None)));
-    let table = made(&rt, Table::new(2, b"b", rd, None, capitals()));
-    queues_ordinary_alone(&rt, alloc, table);
-    queues_ordinary_alone(&rt, alloc, made(&rt, CrNl::new(3, b"c", rd, None)));
-    queues_ordinary_alone(&rt, alloc, made(&rt, Line::new(alloc, 4, b"d", rd, None)));
-    queues_ordinary_alone(&rt, alloc, made(&rt, Count::new(5, b"e", rd, None)));
-    queues_ordinary_alone(&rt, alloc, made(&rt, Band::new(6, b"f", rd, None, 3)));
-    queues_ordinary_alone(&rt, alloc, made(&rt, Tee::new(7, b"g", rd, None)));
-    queues_ordinary_alone(&rt, alloc, made(&rt, Mute::new(8, b"h", rd, None)));
+    let put = [
+        (Rd, Data(0, b"x\n"), Waits, Same),
+        (Wr, Ioctl(3, None), Waits, Same),
+        (Rd, Hangup, GoesOn, Same),
+    ];
+    let served = [(Wr, Ioctl(99, None), GoesOn, Same)];
+    for kind in one_of_each(&rt, alloc) {
+        let mut it = plain(&rt, kind, MARKS);
+        play(&rt, alloc, &mut it, Call::Put, &put);
+        play(&rt, alloc, &mut it, Call::Serve, &served);
+    }
 }
+
+#[test]
+fn side_without_marks_has_no_queue(rt: HostRuntime) {
+    let rows = [(Rd, X, Waits, Same), (Wr, X, GoesOn, Same)];
+    puts(&rt, rt.alloc(), Pass::new(1, b"p", MARKS, None), &rows);
+}
+
+const EQUAL: Option<(u32, u32)> = Some((4, 4));
+
+const TURNED: Option<(u32, u32)> = Some((4, 5));
 
 #[test]
 fn faults_are_for_the_name_first(rt: HostRuntime) {
     for (name, rd, wr, fault) in [
-        (b"ninebytes".as_slice(), Some((4, 4)), None, MakeFault::Name),
-        (b"", None, None, MakeFault::Name),
-        (b"a-b", None, Some((4, 4)), MakeFault::Name),
-        (b"a", Some((4, 4)), None, MakeFault::Marks),
-        (b"eightbyt", Some((5, 4)), Some((4, 5)), MakeFault::Marks),
+        (b"ninebytes".as_slice(), EQUAL, None, Some(MakeFault::Name)),
+        (b"ninebytes", None, None, Some(MakeFault::Name)),
+        (b"ninebytes", MARKS, MARKS, Some(MakeFault::Name)),
+        (b"eightbyt", None, None, None),
+        (b"eightbyt", MARKS, MARKS, None),
+        (b"eightbyt", MARKS, TURNED, Some(MakeFault::Marks)),
+        (b"", None, None, Some(MakeFault::Name)),
+        (b"a-b", None, EQUAL, Some(MakeFault::Name)),
+        (b"a", EQUAL, None, Some(MakeFault::Marks)),
     ] {
-        assert_eq!(rt; Pass::new(1, name, rd, wr).err(), Some(fault));
+        let made = Pass::new(1, name, rd, wr);
+        assert!(rt; made.err() == fault, "{name:?} {rd:?} {wr:?}");
     }
-    assert_eq!(rt; MakeFault::Name.number(), 1);
-    assert_eq!(rt; MakeFault::Marks.number(), 2);
 }
 
 #[test]
-fn faults_are_told_in_words(rt: HostRuntime) {
-    for (fault, words) in [
-        (
-            MakeFault::Name,
-            "a module's name must be 1 to 8 letters, digits or `_`",
-        ),
-        (
-            MakeFault::Marks,
-            "the low mark of a queue must be below its high mark",
-        ),
-    ] {
+fn faults_have_numbers_and_words(rt: HostRuntime) {
+    let name = "a module's name must be 1 to 8 letters, digits or `_`";
+    let marks = "the low mark of a queue must be below its high mark";
+    for (fault, number, words) in [(MakeFault::Name, 1, name), (MakeFault::Marks, 2, marks)] {
+        assert_eq!(rt; fault.number(), number);
         let text = fault.to_string(rt.alloc()).expect(&rt, "no memory");
         assert_eq!(rt; text.as_str(), words);
     }
 }
 
+const NAME: &[u8] = b"A_z09";
+
+const OTHER: Option<(u32, u32)> = Some((16, 0));
+
 /// A new module has the shape that was asked for, and a copy of it is equal.
-fn has_shape<M: Module>(rt: &impl Abort, alloc: Global, it: Instance<M>, kind: Kind) {
-    assert_eq!(rt; it.shape.serial, 9);
-    assert_eq!(rt; it.shape.name.as_slice(), b"A_z09".as_slice());
-    assert_eq!(rt; it.shape.rd, Marks::new(5, 4));
-    assert_eq!(rt; it.shape.wr, Marks::new(16, 0));
-    assert_eq!(rt; it.shape.kind, kind);
-    let copy = it.shape.copy(alloc);
-    assert_eq!(rt; copy, Ok(it.shape));
+fn has_shape<M: Module>(
+    rt: &impl Abort,
+    alloc: Global,
+    new: Result<Instance<M>, MakeFault>,
+    kind: Kind,
+) {
+    let it = made(rt, new);
+    let shape = it.shape();
+    assert_eq!(rt; shape.serial, 9);
+    assert_eq!(rt; shape.name.as_slice(), NAME);
+    assert_eq!(rt; shape.rd, Marks::new(5, 4));
+    assert_eq!(rt; shape.wr, Marks::new(16, 0));
+    assert_eq!(rt; shape.kind, kind);
+    let copy = shape.copy(alloc).expect(rt, "no memory for a shape");
+    assert!(rt; copy == *shape, "a copy is equal");
 }
 
 #[test]
 fn new_modules_have_the_shape_asked_for(rt: HostRuntime) {
     let alloc = rt.alloc();
-    let name = b"A_z09";
-    let (rd, wr) = (Some((5, 4)), Some((16, 0)));
-    has_shape(
-        &rt,
-        alloc,
-        made(&rt, Pass::new(9, name, rd, wr)),
-        Kind::Pass,
-    );
-    let table = made(&rt, Table::new(9, name, rd, wr, capitals()));
-    has_shape(&rt, alloc, table, Kind::Table { map: capitals() });
-    has_shape(
-        &rt,
-        alloc,
-        made(&rt, CrNl::new(9, name, rd, wr)),
-        Kind::CrNl,
-    );
-    let line = made(&rt, Line::new(alloc, 9, name, rd, wr));
-    has_shape(&rt, alloc, line, line_with(&rt, alloc, b""));
-    let mut line = made(&rt, Line::new(alloc, 9, name, rd, wr));
-    line.shape.kind = line_with(&rt, alloc, b"ab");
-    has_shape(&rt, alloc, line, line_with(&rt, alloc, b"ab"));
-    let count = made(&rt, Count::new(9, name, rd, wr));
+    let (rd, wr, map) = (MARKS, OTHER, capitals());
+    let table = Table::new(9, NAME, rd, wr, map);
+    let gathering = Line::new(alloc, 9, NAME, rd, wr);
+    let count = Count::new(9, NAME, rd, wr);
+    let band = Band::new(9, NAME, rd, wr, 7);
+    has_shape(&rt, alloc, Pass::new(9, NAME, rd, wr), Kind::Pass);
+    has_shape(&rt, alloc, table, Kind::Table { map });
+    has_shape(&rt, alloc, CrNl::new(9, NAME, rd, wr), Kind::CrNl);
+    has_shape(&rt, alloc, gathering, line(&rt, alloc, b""));
     has_shape(&rt, alloc, count, Kind::Count { n: 0 });
-    let band = made(&rt, Band::new(9, name, rd, wr, 7));
     has_shape(&rt, alloc, band, Kind::Band { b: 7 });
-    has_shape(&rt, alloc, made(&rt, Tee::new(9, name, rd, wr)), Kind::Tee);
-    has_shape(
-        &rt,
-        alloc,
-        made(&rt, Mute::new(9, name, rd, wr)),
-        Kind::Mute,
-    );
+    has_shape(&rt, alloc, Tee::new(9, NAME, rd, wr), Kind::Tee);
+    has_shape(&rt, alloc, Mute::new(9, NAME, rd, wr), Kind::Mute);
 }

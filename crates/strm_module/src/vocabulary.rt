@@ -13,13 +13,20 @@ use strm_msg::{Message, NoMem, Side};
 /// module's queue and a high one never does, that a flush empties the queues it names, and that a
 /// module keeps its serial, its name and its marks. What is left to a kind is what it makes of a
 /// message that does not wait: what it keeps, and which messages leave.
+///
+/// An implementation gives that meaning as `means`, a function of the kind, the side and the
+/// message, and `process` is proved to do it. For a kind that turns each message round it is
+///
+/// ```
+/// ghost means = { λ kind side m. replied kind m };
+/// ```
 pub trait Kinds: Drop {
     ghost use Rattle.strm_module.specs.Kinds.{Meaning};
 
     ghost means: { Meaning Self };
 
     /// A message is processed: one that came and is not queued, or one that was queued and has its
-    /// turn. What comes up is only sent further up.
+    /// turn. `side` is the side on which it came. What comes up is only sent further up.
     ///
     /// Refused for want of memory alone: then the kind is as before, and the message is dropped.
     fn process(&mut self, alloc: Global, side: Side, m: Message) -> Result<Outs, NoMem>

@@ -1,6 +1,6 @@
 -- One end of a stream: the head, the modules with their queues, and the driver's list (Programmer's Guide: STREAMS, "Overview
 -- of STREAMS": stream head, modules, driver).
-use Rattle.std.specs.Prelude.{◌≤◌, ℕ, Bool, Option, Some, None, List, [], length, map, slice_get, slice_set, suc, zero}
+use Rattle.std.specs.Prelude.{◌≤◌, ◌+◌, ℕ, Bool, Option, Some, None, List, [], length, map, slice_get, slice_set, suc, zero}
 use Rattle.strm_msg.specs.Message.{Msg}
 use Rattle.strm_msg.specs.declared.words.Side.{Side}
 use Rattle.strm_queue.specs.Queue.{WaterMarks}
@@ -29,6 +29,10 @@ pub record EndValue (K : Type 0) : Type 0 where
 -- no rank loses room in a list
 abbrev pub KeepsRoom : List ℕ → List ℕ → Type 0
 KeepsRoom old new = (rank : ℕ) → room_for old rank ≤ room_for new rank
+
+-- each rank loses room for at most one message
+abbrev pub SpendsOne : List ℕ → List ℕ → Type 0
+SpendsOne old new = (rank : ℕ) → room_for old rank ≤ room_for new rank + 1
 
 abbrev pub in_head : {K : Type 0} → EndState K → List Msg → EndState K
 in_head e q = record e { head = q }

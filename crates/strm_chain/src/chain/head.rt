@@ -3,6 +3,7 @@ ghost use Rattle.std.specs.Prelude.{◌≡◌, ◌∷◌, [], ◌<◌, ◌≤◌
 ghost use Rattle.strm_msg.specs.Message.{rank_of};
 ghost use Rattle.strm_queue.specs.Queue.{put_back_in};
 ghost use Rattle.strm_queue.specs.Room.{room_for};
+ghost use Rattle.strm_qpair.specs.End.{KeepsRoom, SpendsOne};
 ghost use Rattle.strm_qpair.specs.Change.{with_mode, begun, undone, ended};
 ghost use Rattle.strm_chain.specs.Image.{end_of, with_head, with_state, room_of, other_end, KeepsHeadRoom};
 
@@ -39,7 +40,6 @@ impl<M: ModuleOf> Chain<M> {
     /// succeeds. Refused for want of memory alone, and not where the room is there. No list loses
     /// room.
     pub fn head_room(&mut self, end: End, rank: u16) -> Result<(), NoMem>
-        requires { rank ≤ 256 }
         ensures made { OnOk result (0 < room_for (room_of self.new end) rank) }
         ensures enough { 0 < room_for (room_of self.old end) rank → IsOk result }
         ensures image { self.new.image ≡ self.old.image }
@@ -52,8 +52,8 @@ impl<M: ModuleOf> Chain<M> {
         }
     }
 
-    /// Puts a message back into a head's list, before those of its rank (putbq(9F)). The other lists
-    /// keep their room.
+    /// Puts a message back into a head's list, before those of its rank (putbq(9F)). That takes room
+    /// for at most one message of each rank, and the other lists keep theirs.
     ///
     /// Refused for want of memory alone: the message comes back, and nothing is changed.
     pub fn put_back_head(&mut self, end: End, m: Message) -> Result<(), Message>
@@ -61,6 +61,8 @@ impl<M: ModuleOf> Chain<M> {
         ensures err { OnErr result (self.new.image ≡ self.old.image) }
         ensures back { IfErr result (λ same. same ≡ m) }
         ensures enough { 0 < room_for (room_of self.old end) (rank_of m) → IsOk result }
+        ensures spent { OnOk result (SpendsOne (room_of self.old end) (room_of self.new end)) }
+        ensures unspent { OnErr result (KeepsRoom (room_of self.old end) (room_of self.new end)) }
         ensures room { room_of self.new (other_end end) ≡ room_of self.old (other_end end) }
         ensures line_room { self.new.line_room ≡ self.old.line_room }
     {

@@ -5,7 +5,7 @@ ghost use Rattle.strm_msg.specs.Message.{rank_of};
 ghost use Rattle.strm_msg.specs.declared.words.End.TheVariants as Ends;
 ghost use Rattle.strm_queue.specs.Queue.{put_in, is_full};
 ghost use Rattle.strm_queue.specs.Room.{room_for};
-ghost use Rattle.strm_qpair.specs.End.{KeepsRoom};
+ghost use Rattle.strm_qpair.specs.End.{KeepsRoom, SpendsOne};
 ghost use Rattle.strm_qpair.specs.declared.driver.Driver.TheVariants as Drivers;
 ghost use Rattle.strm_chain.specs.Image.{with_drv};
 
@@ -27,8 +27,7 @@ impl<M: ModuleOf> Chain<M> {
     /// succeeds. To be called over a line driver. Refused for want of memory alone, and not where
     /// the room is there. No list loses room.
     pub fn line_room(&mut self, rank: u16) -> Result<(), NoMem>
-        requires driver { self.old.image.driver ≡ Drivers.Line }
-        requires rank { rank ≤ 256 }
+        requires { self.old.image.driver ≡ Drivers.Line }
         ensures made { OnOk result (0 < room_for self.new.line_room rank) }
         ensures enough { 0 < room_for self.old.line_room rank → IsOk result }
         ensures line_room { KeepsRoom self.old.line_room self.new.line_room }
@@ -50,6 +49,8 @@ impl<M: ModuleOf> Chain<M> {
         ensures err { OnErr result (self.new.image ≡ self.old.image) }
         ensures back { IfErr result (λ same. same ≡ m) }
         ensures enough { 0 < room_for self.old.line_room (rank_of m) → IsOk result }
+        ensures spent { OnOk result (SpendsOne self.old.line_room self.new.line_room) }
+        ensures unspent { OnErr result (KeepsRoom self.old.line_room self.new.line_room) }
         ensures room_a { self.new.room_a ≡ self.old.room_a }
         ensures room_b { self.new.room_b ≡ self.old.room_b }
     {

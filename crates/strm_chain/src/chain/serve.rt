@@ -15,7 +15,7 @@ use crate::fault::ChainFault;
 use crate::place::Place;
 use std::collections::VecDeque;
 use strm_module::{ModuleOf, Outs};
-use strm_msg::{Class, End, Message, NoMem, Side};
+use strm_msg::{End, Message, NoMem, Side};
 
 impl<M: ModuleOf> Chain<M> {
     /// Whether the first write place of an end is full in a band, where bcanput(9F) would answer the
@@ -64,7 +64,7 @@ impl<M: ModuleOf> Chain<M> {
         ensures { result ≡ may self.now.image place }
     {
         match self.front(place) {
-            Some(m) => m.class() == Class::High || !self.full_at(place, m.band),
+            Some(m) => m.is_high() || !self.full_at(place, m.band),
             None => false,
         }
     }

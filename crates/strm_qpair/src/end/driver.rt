@@ -3,7 +3,7 @@ ghost use Rattle.std.specs.Prelude.{◌≡◌, ◌∷◌, [], ◌<◌, ◌≤◌
 ghost use Rattle.strm_msg.specs.Message.{rank_of};
 ghost use Rattle.strm_queue.specs.Queue.{put_in};
 ghost use Rattle.strm_queue.specs.Room.{room_for};
-ghost use Rattle.strm_qpair.specs.End.{KeepsRoom, in_drv};
+ghost use Rattle.strm_qpair.specs.End.{KeepsRoom, SpendsOne, in_drv};
 ghost use Rattle.strm_qpair.specs.Modules.{SameEnd};
 ghost use Rattle.strm_qpair.specs.Pair.{flushed_if};
 ghost use Rattle.strm_qpair.specs.Driver.{flush_up, line_does, echo_does, driver_at};
@@ -114,7 +114,6 @@ impl<M: ModuleOf> StreamEnd<M> {
     /// succeeds. Refused for want of memory alone, and not where the room is there. No rank loses
     /// room.
     pub fn driver_room(&mut self, rank: u16) -> Result<(), NoMem>
-        requires { rank ≤ 256 }
         ensures room { OnOk result (0 < room_for self.new.drv_room rank) }
         ensures enough { 0 < room_for self.old.drv_room rank → IsOk result }
         ensures drv_room { KeepsRoom self.old.drv_room self.new.drv_room }
@@ -124,14 +123,17 @@ impl<M: ModuleOf> StreamEnd<M> {
         self.drv.make_room(rank)
     }
 
-    /// Puts a message into the driver's list (putq(9F)).
+    /// Puts a message into the driver's list (putq(9F)). That takes room for at most one message of
+    /// each rank.
     ///
     /// Refused for want of memory alone: the message comes back, and nothing is changed.
     pub fn put_driver(&mut self, m: Message) -> Result<(), Message>
         ensures ok { OnOk result (self.new.state ≡ in_drv self.old.state (put_in self.old.state.drv m)) }
         ensures err { OnErr result (self.new.state ≡ self.old.state) }
         ensures back { IfErr result (λ same. same ≡ m) }
-        ensures room { 0 < room_for self.old.drv_room (rank_of m) → IsOk result }
+        ensures enough { 0 < room_for self.old.drv_room (rank_of m) → IsOk result }
+        ensures spent { OnOk result (SpendsOne self.old.drv_room self.new.drv_room) }
+        ensures unspent { OnErr result (KeepsRoom self.old.drv_room self.new.drv_room) }
         ensures head_room { self.new.head_room ≡ self.old.head_room }
     {
         self.drv.put(m)

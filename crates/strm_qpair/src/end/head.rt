@@ -3,7 +3,7 @@ ghost use Rattle.std.specs.Prelude.{◌≡◌, ◌∷◌, [], ◌<◌, ◌≤◌
 ghost use Rattle.strm_msg.specs.Message.{rank_of};
 ghost use Rattle.strm_queue.specs.Queue.{put_in, put_back_in};
 ghost use Rattle.strm_queue.specs.Room.{room_for};
-ghost use Rattle.strm_qpair.specs.End.{KeepsRoom, in_head, in_state};
+ghost use Rattle.strm_qpair.specs.End.{KeepsRoom, SpendsOne, in_head, in_state};
 ghost use Rattle.strm_qpair.specs.Modules.{SameEnd};
 ghost use Rattle.strm_qpair.specs.Head.{head_does};
 ghost use Rattle.strm_qpair.specs.Change.{with_mode, begun, undone, ended};
@@ -111,7 +111,6 @@ impl<M: ModuleOf> StreamEnd<M> {
     /// succeeds. Refused for want of memory alone, and not where the room is there. No rank loses
     /// room.
     pub fn head_room(&mut self, rank: u16) -> Result<(), NoMem>
-        requires { rank ≤ 256 }
         ensures room { OnOk result (0 < room_for self.new.head_room rank) }
         ensures enough { 0 < room_for self.old.head_room rank → IsOk result }
         ensures head_room { KeepsRoom self.old.head_room self.new.head_room }
@@ -121,14 +120,17 @@ impl<M: ModuleOf> StreamEnd<M> {
         self.head.make_room(rank)
     }
 
-    /// Puts a message back into the head's list, before those of its rank (putbq(9F)).
+    /// Puts a message back into the head's list, before those of its rank (putbq(9F)). That takes
+    /// room for at most one message of each rank.
     ///
     /// Refused for want of memory alone: the message comes back, and nothing is changed.
     pub fn put_back_head(&mut self, m: Message) -> Result<(), Message>
         ensures ok { OnOk result (self.new.state ≡ in_head self.old.state (put_back_in self.old.state.head m)) }
         ensures err { OnErr result (self.new.state ≡ self.old.state) }
         ensures back { IfErr result (λ same. same ≡ m) }
-        ensures room { 0 < room_for self.old.head_room (rank_of m) → IsOk result }
+        ensures enough { 0 < room_for self.old.head_room (rank_of m) → IsOk result }
+        ensures spent { OnOk result (SpendsOne self.old.head_room self.new.head_room) }
+        ensures unspent { OnErr result (KeepsRoom self.old.head_room self.new.head_room) }
         ensures drv_room { self.new.drv_room ≡ self.old.drv_room }
     {
         self.head.put_back(m)

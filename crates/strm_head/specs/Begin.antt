@@ -7,6 +7,7 @@ use Rattle.strm_msg.specs.declared.errno.Errno.{Errno}
 use Rattle.strm_msg.specs.declared.errno.Errno.TheVariants.{EBADF, ENOSR, EINVAL, ERANGE, ENXIO, EAGAIN}
 use Rattle.strm_msg.specs.declared.words.End.{End}
 use Rattle.strm_queue.specs.Queue.{is_full, put_back_in}
+use Rattle.strm_head.specs.declared.request.TheConstants.{MAX_CONTROL, MAX_DATA}
 use Rattle.strm_head.specs.declared.request.Priority.{Priority}
 use Rattle.strm_head.specs.declared.request.Priority.TheVariants.{Norm, Hipri}
 use Rattle.strm_head.specs.declared.request.Wanted.{Wanted}
@@ -40,7 +41,7 @@ lacks_control ctl Hipri = is_none ctl
 
 -- the greatest sizes of a part that a call sends, in bytes
 abbrev pub is_too_long : Part → Part → Bool
-is_too_long ctl dat = nat_lt 1024 (part_len ctl) || nat_lt 4096 (part_len dat)
+is_too_long ctl dat = nat_lt MAX_CONTROL (part_len ctl) || nat_lt MAX_DATA (part_len dat)
 
 -- the first write queue of the end is full in a band
 abbrev pub is_full_below : Image → End → ℕ → Bool

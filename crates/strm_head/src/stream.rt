@@ -9,7 +9,8 @@ ghost use Rattle.strm_head.specs.Inside.{is_sent, IsEcho};
 ghost use Rattle.strm_head.specs.Deliver.{down, sent_on, with_head};
 ghost use Rattle.strm_head.specs.Move.{may, move, IsQuiet, Settles};
 ghost use Rattle.strm_head.specs.Begin.{refusal_of, putmsg_refusal, getmsg_refusal, begun_of, message_of, got_of, put_back_if, priority_of};
-ghost use Rattle.strm_head.specs.Fault.{fault_number};
+ghost use Rattle.strm_head.specs.Fault.{fault_number, fault_text};
+ghost use Rattle.std.specs.Fmt.{padded};
 ghost use Rattle.strm_head.specs.Step.{Step, Answers, Finishes, Breaks, SameEnds, Legal};
 
 use crate::answer::{Answer, Outcome, Refusal, Reply};
@@ -18,6 +19,7 @@ use crate::history::{Entry, Event};
 use crate::place::{Driver, Moves, Place};
 use crate::request::{MAX_CONTROL, MAX_DATA, Priority, Request, Wanted};
 use std::alloc::Global;
+use std::fmt;
 use std::marker::Model;
 use strm_msg::{Bytes, Class, End, Errno, Message, NoMem};
 use strm_queue::{BandQueue, Marks};
@@ -27,10 +29,8 @@ use thiserror::Error;
 #[derive(Clone, Copy, Debug, PartialEq, Eq, Error)]
 pub enum NewFault {
     /// A low water mark is not below its high one. Looked at first.
-    #[error("a low water mark is not below its high one")]
     Marks,
     /// Want of memory. Not met by an echo stream without modules, which takes none.
-    #[error("no memory")]
     NoMem,
 }
 
@@ -43,6 +43,27 @@ impl NewFault {
             NewFault::Marks => 1,
             NewFault::NoMem => 2,
         }
+    }
+
+    /// What the fault prints.
+    pub fn text(self) -> &'static str
+        ensures { result.now ≡ fault_text self }
+    {
+        match self {
+            NewFault::Marks => "a low water mark is not below its high one",
+            NewFault::NoMem => "no memory",
+        }
+    }
+}
+
+/// Printed by its text.
+impl fmt::Display for NewFault {
+    ghost output = { λ fault. Some (fault_text fault) };
+
+    ghost styled_output = { λ fault spec. Some (padded spec (fault_text fault)) };
+
+    fn fmt<W: fmt::Write>(&self, f: &mut fmt::Formatter<W>) -> fmt::Result {
+        f.pad(self.text())
     }
 }
 

@@ -152,7 +152,7 @@ fn a_second_high_message_is_dropped(rt: HostRuntime) -> Result<(), Fail> {
     let rows = [
         Row::Put(Some(b"one"), None, Priority::Hipri, Want::Sent, 0),
         Row::Put(Some(b"two"), None, Priority::Hipri, Want::Sent, 0),
-        Row::Get(Some(64), Some(64), Wanted::Hipri, one, 0),
+        Row::Get(Some(64), Some(64), Wanted::Any, one, 0),
         Row::Get(Some(64), Some(64), Wanted::Any, AGAIN, 0),
     ];
     play(&rt, rt.alloc(), &rows)

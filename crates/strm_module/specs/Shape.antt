@@ -6,6 +6,7 @@ use Rattle.strm_msg.specs.declared.words.Side.{Side}
 use Rattle.strm_msg.specs.declared.words.Side.TheVariants.{Rd, Wr}
 use Rattle.strm_queue.specs.Queue.{WaterMarks}
 use Rattle.strm_module.specs.declared.shape.Shape.{Shape}
+use Rattle.strm_module.specs.declared.shape.TheConstants.{LONGEST_NAME}
 use Rattle.strm_module.specs.declared.shape.MakeFault.{MakeFault}
 use Rattle.strm_module.specs.declared.shape.MakeFault.TheVariants.{Name, Marks}
 
@@ -24,7 +25,7 @@ is_name_byte b = is_ascii_alphanumeric b || (b == 95)
 
 -- 1 to 8 of these
 abbrev pub is_name : List ℕ → Bool
-is_name name = nat_le 1 (length name) && nat_le (length name) 8 && list_all is_name_byte name
+is_name name = nat_le 1 (length name) && nat_le (length name) LONGEST_NAME && list_all is_name_byte name
 
 -- the high mark and the low mark of a side, where there is a queue
 abbrev pub MarkPair : Type 0

@@ -102,7 +102,8 @@ impl<M: ModuleOf> StreamEnd<M> {
         self.is_open && self.pairs.len() < MOST_MODULES
     }
 
-    /// Puts a module just below the head, with empty queues. Takes no memory.
+    /// Puts a module just below the head, with empty queues. To be called where `has_room`. Takes no
+    /// memory.
     pub fn insert(&mut self, alloc: Global, instance: Instance<M>)
         requires { has_room self.old.state ≡ true }
         ensures { self.new ≡ record self.old { state = inserted self.old.state instance } }

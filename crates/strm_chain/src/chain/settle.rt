@@ -60,8 +60,8 @@ impl<M: ModuleOf> Chain<M> {
         None
     }
 
-    /// Makes moves until no place may move, and lists them in order. Where none may move, that
-    /// takes no memory.
+    /// Makes moves until no place must move, each of a place that may, and lists them in order. Where
+    /// none may move, nothing is done, and that takes no memory.
     ///
     /// Refused for want of memory alone: with `NoMem` nothing is changed, and with `Broken` the chain
     /// is broken, or was before.

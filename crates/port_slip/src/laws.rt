@@ -1,0 +1,10 @@
+//! What SLIP promises, as laws of its definitions.
+ghost use Rattle.port_slip.specs.FrameLaws.{EscapingLeavesNoEnd, FramedIsReceived, NoiseStaysApart};
+
+/// What was framed is received as it was, whatever stands before and behind it, for datagrams of 1 to
+/// 1006 bytes. Does nothing: it carries the laws.
+pub fn frames_keep_datagrams()
+    ensures no_end { EscapingLeavesNoEnd }
+    ensures back { FramedIsReceived }
+    ensures apart { NoiseStaysApart }
+{}

@@ -54,7 +54,7 @@ some-escaped [] h = absurd (omega arith)
 some-escaped (b ∷ bytes) h = some-spelled b (escaped bytes) (is_end b) (is_esc b)
 
 -- the two parts of a test on a list that is not empty
-no_end_first : (b : ℕ) (bytes : List ℕ) → has_no_end (b ∷ bytes) ≡ true → (is_end b ≡ false) × (has_no_end bytes ≡ true)
+pub no_end_first : (b : ℕ) (bytes : List ℕ) → has_no_end (b ∷ bytes) ≡ true → (is_end b ≡ false) × (has_no_end bytes ≡ true)
 no_end_first b bytes h = grind arith
 
 -- bytes without an END are cut off at the END behind them

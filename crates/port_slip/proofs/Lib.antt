@@ -1,1 +1,2 @@
 pub mod FrameLemmas
+pub mod PieceLemmas

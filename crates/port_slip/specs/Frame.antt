@@ -66,6 +66,10 @@ abbrev pub with_datagram : List ℕ → Received → Received
 with_datagram datagram more =
     record { datagrams = datagram ∷ more.datagrams; kept = more.kept }
 
+abbrev pub with_datagrams : List (List ℕ) → Received → Received
+with_datagrams datagrams more =
+    record { datagrams = datagrams ++ more.datagrams; kept = more.kept }
+
 -- the first datagram, and the bytes behind its frame
 abbrev pub first_of : List ℕ → Option (List ℕ × List ℕ)
 first_of bytes = option_map (λ c. (datagram_of c.0, c.1)) (cut (begun bytes))

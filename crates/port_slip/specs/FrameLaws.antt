@@ -1,6 +1,6 @@
 -- What frames are good for (RFC 1055).
-use Rattle.std.specs.Prelude.{◌≡◌, ℕ, suc, ◌<◌, ◌≤◌, true, List, ◌++◌, length}
-use Rattle.port_slip.specs.Frame.{has_no_end, escaped, framed, datagram_of, received, with_datagram}
+use Rattle.std.specs.Prelude.{◌≡◌, ℕ, suc, ◌-◌, ◌<◌, ◌≤◌, true, List, ◌++◌, length}
+use Rattle.port_slip.specs.Frame.{has_no_end, escaped, framed, datagram_of, received, with_datagram, with_datagrams}
 
 -- what can be sent in a frame: one byte at least, and 1006 at most
 pub record IsDatagram (bytes : List ℕ) : Type 0 where
@@ -23,3 +23,12 @@ NoiseStaysApart =
     (n : ℕ) (noise datagram behind : List ℕ) → 0 < length noise → has_no_end noise ≡ true → IsDatagram datagram →
     received (suc (suc n)) (noise ++ (framed datagram ++ behind))
     ≡ with_datagram (datagram_of noise) (with_datagram datagram (received n behind))
+
+-- a line's bytes may come in messages of any length: with the first of them received, the others go
+-- on from there as if all had come at once. So a frame may come in pieces, no more of an unfinished one is
+-- needed than is kept, and a datagram that is not among the first n is not lost
+abbrev pub PiecesAreOneLine : Type 0
+PiecesAreOneLine =
+    (n : ℕ) (piece more : List ℕ) →
+    let first = received n piece in
+    received n (piece ++ more) ≡ with_datagrams first.datagrams (received (n - length first.datagrams) (first.kept ++ more))

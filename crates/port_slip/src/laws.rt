@@ -1,10 +1,11 @@
 //! What SLIP promises, as laws of its definitions.
-ghost use Rattle.port_slip.specs.FrameLaws.{EscapingLeavesNoEnd, FramedIsReceived, NoiseStaysApart};
+ghost use Rattle.port_slip.specs.FrameLaws.{EscapingLeavesNoEnd, FramedIsReceived, NoiseStaysApart, PiecesAreOneLine};
 
 /// What was framed is received as it was, whatever stands before and behind it, for datagrams of 1 to
-/// 1006 bytes. Does nothing: it carries the laws.
+/// 1006 bytes, and however the bytes come in messages. Does nothing: it carries the laws.
 pub fn frames_keep_datagrams()
     ensures no_end { EscapingLeavesNoEnd }
     ensures back { FramedIsReceived }
     ensures apart { NoiseStaysApart }
+    ensures pieces { PiecesAreOneLine }
 {}

@@ -1,2 +1,3 @@
-pub mod ActLemmas
+pub mod ProcedureLemmas
+pub mod EightLemmas
 pub mod WorkedExamples

@@ -5,35 +5,36 @@ use Rattle.strm_msg.specs.declared.kind.MsgKind.TheVariants.{MFlush}
 use Rattle.strm_msg.specs.declared.words.Side.{Side}
 use Rattle.strm_msg.specs.declared.words.Side.TheVariants.{Rd, Wr}
 use Rattle.strm_queue.specs.Queue.{WaterMarks}
-use Rattle.strm_module.specs.Act.{OutList}
+use Rattle.strm_module.specs.Kinds.{OutList}
 use Rattle.strm_module.specs.Shape.{make_fault}
+use Rattle.strm_module.specs.Eight.{eight}
 use Rattle.strm_module.specs.Module.{Taken, put_of, serve_of}
 use Rattle.strm_module.specs.declared.shape.Shape.{Shape}
-use Rattle.strm_module.specs.declared.shape.Kind.{Kind}
-use Rattle.strm_module.specs.declared.shape.Kind.TheVariants.{Table, CrNl, Line, Count, Band, Tee, Mute}
+use Rattle.strm_module.specs.declared.kind.Kind.{Kind}
+use Rattle.strm_module.specs.declared.kind.Kind.TheVariants.{Table, CrNl, Line, Count, Band, Tee, Mute}
 use Rattle.strm_module.specs.declared.shape.MakeFault.TheVariants.{Name, Marks}
-use Rattle.strm_module.specs.declared.module.Put.TheVariants.{Queue, Sent}
+use Rattle.strm_module.specs.declared.outs.Put.TheVariants.{Queue, Sent}
 
 -- a module named m with these marks on the write side
-abbrev module_with : Option WaterMarks → Kind → Shape
+abbrev module_with : Option WaterMarks → Kind → Shape Kind
 module_with wr kind =
     record { serial = 1; name = record { items = 109 ∷ [] }; rd = None; wr = wr; kind = kind }
 
-abbrev without_queue : Kind → Shape
+abbrev without_queue : Kind → Shape Kind
 without_queue = module_with None
 
-abbrev with_queue : Kind → Shape
+abbrev with_queue : Kind → Shape Kind
 with_queue = module_with (Some (record { hi = 5; lo = 4 }))
 
 -- what a module without queues does when a message comes
-abbrev gets : Kind → Side → Msg → Taken
-gets kind side m = put_of (without_queue kind) side m
+abbrev gets : Kind → Side → Msg → Taken Kind
+gets kind side m = put_of eight (without_queue kind) side m
 
 -- the kind afterwards, and what leaves
-abbrev sends_all : Kind → OutList → Taken
+abbrev sends_all : Kind → OutList → Taken Kind
 sends_all kind outs = record { shape = without_queue kind; answer = Sent (record { items = outs }) }
 
-abbrev sends : Kind → Side → Msg → Taken
+abbrev sends : Kind → Side → Msg → Taken Kind
 sends kind side m = sends_all kind ((side, m) ∷ [])
 
 -- data of one byte x
@@ -53,11 +54,11 @@ count_stays_at_the_top : gets (Count 18446744073709551615) Wr x ≡ sends (Count
 count_stays_at_the_top = refl
 
 -- with a queue it counts what it serves, and not what it queues
-count_queues : put_of (with_queue (Count 0)) Wr x ≡ record { shape = with_queue (Count 0); answer = Queue x }
+count_queues : put_of eight (with_queue (Count 0)) Wr x ≡ record { shape = with_queue (Count 0); answer = Queue x }
 count_queues = refl
 
 count_serves :
-    serve_of (with_queue (Count 0)) Wr x ≡ record { shape = with_queue (Count 1); outs = (Wr, x) ∷ [] }
+    serve_of eight (with_queue (Count 0)) Wr x ≡ record { shape = with_queue (Count 1); outs = (Wr, x) ∷ [] }
 count_serves = refl
 
 -- ab waits, and c LF d ends that line

@@ -1,4 +1,5 @@
 pub mod Bytes
 pub mod Shape
-pub mod Act
+pub mod Kinds
+pub mod Eight
 pub mod Module

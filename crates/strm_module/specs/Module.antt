@@ -1,38 +1,56 @@
 -- What a module's put and service procedures do, as functions of its shape (Programmer's Guide:
 -- STREAMS, "Put and Service Procedures"; put(9E), srv(9E)).
-use Rattle.std.specs.Prelude.{◌&&◌, not, Bool, if◌then◌else◌}
+use Rattle.std.specs.Prelude.{◌≡◌, ◌&&◌, not, Bool, true, false, if◌then◌else◌}
 use Rattle.strm_msg.specs.Kind.{is_high}
 use Rattle.strm_msg.specs.Message.{Msg}
 use Rattle.strm_msg.specs.declared.words.Side.{Side}
-use Rattle.strm_module.specs.Act.{OutList, action_of}
+use Rattle.strm_module.specs.Kinds.{OutList, Meaning, all_go_up}
 use Rattle.strm_module.specs.Shape.{queues_on}
 use Rattle.strm_module.specs.declared.shape.Shape.{Shape}
-use Rattle.strm_module.specs.declared.module.Put.{Put}
-use Rattle.strm_module.specs.declared.module.Put.TheVariants.{Queue, Sent}
+use Rattle.strm_module.specs.declared.outs.Put.{Put}
+use Rattle.strm_module.specs.declared.outs.Put.TheVariants.{Queue, Sent}
 
 -- the shape after a service, and what leaves
-pub record Served : Type 0 where
-  pub shape : Shape
+pub record Served (K : Type 0) : Type 0 where
+  pub shape : Shape K
   pub outs : OutList
 
--- a message is served: only what the kind keeps can change
-abbrev pub serve_of : Shape → Side → Msg → Served
-serve_of s side m =
-    let action = action_of s.kind side m in
-    record { shape = record s { kind = action.kind }; outs = action.outs }
-
--- ordinary messages of a side with marks wait in its queue; high ones never do
-abbrev pub is_queued : Shape → Side → Msg → Bool
-is_queued s side m = not (is_high m.kind) && queues_on s side
-
 -- the shape after a put, and the module's answer
-pub record Taken : Type 0 where
-  pub shape : Shape
+pub record Taken (K : Type 0) : Type 0 where
+  pub shape : Shape K
   pub answer : Put
 
--- a message comes to the module: it is queued unchanged and changes nothing, or is served at once
-abbrev pub put_of : Shape → Side → Msg → Taken
-put_of s side m =
-    if is_queued s side m then record { shape = s; answer = Queue m }
-    else let served = serve_of s side m in
-    record { shape = served.shape; answer = Sent (record { items = served.outs }) }
+-- ordinary messages of a side with marks wait in its queue; high ones never do
+abbrev pub is_queued : {K : Type 0} → Shape K → Side → Msg → Bool
+is_queued s side m = not (is_high m.kind) && queues_on s side
+
+-- for kinds of any meaning
+module _ {K : Type 0} (means : Meaning K) where
+  -- a message is served: only what the kind keeps can change
+  abbrev pub serve_of : Shape K → Side → Msg → Served K
+  serve_of s side m =
+      let action = means s.kind side m in
+      record { shape = record s { kind = action.kind }; outs = action.outs }
+
+  -- a message comes to the module: it is queued unchanged and changes nothing, or is served at once
+  abbrev pub put_of : Shape K → Side → Msg → Taken K
+  put_of s side m =
+      if is_queued s side m then record { shape = s; answer = Queue m }
+      else let served = serve_of s side m in
+      record { shape = served.shape; answer = Sent (record { items = served.outs }) }
+
+-- what a put sends at once goes up alone
+abbrev pub sends_up : Put → Bool
+sends_up (Queue m) = true
+sends_up (Sent outs) = all_go_up outs.items
+
+-- a message that a put queues is the one that came; it is ordinary, its side has marks, and nothing changes
+pub record IsTaken {K : Type 0} (side : Side) (m q : Msg) (old new : Shape K) : Type 0 where
+  pub same : q ≡ m
+  pub queues : queues_on old side ≡ true
+  pub ordinary : is_high m.kind ≡ false
+  pub shape : new ≡ old
+
+abbrev pub IsQueued : {K : Type 0} → Put → Side → Msg → Shape K → Shape K → Type 0
+IsQueued (Queue q) side m old new = IsTaken side m q old new
+IsQueued (Sent outs) side m old new = Unit {0}

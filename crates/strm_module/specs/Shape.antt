@@ -6,17 +6,16 @@ use Rattle.strm_msg.specs.declared.words.Side.{Side}
 use Rattle.strm_msg.specs.declared.words.Side.TheVariants.{Rd, Wr}
 use Rattle.strm_queue.specs.Queue.{WaterMarks}
 use Rattle.strm_module.specs.declared.shape.Shape.{Shape}
-use Rattle.strm_module.specs.declared.shape.Kind.{Kind}
 use Rattle.strm_module.specs.declared.shape.MakeFault.{MakeFault}
 use Rattle.strm_module.specs.declared.shape.MakeFault.TheVariants.{Name, Marks}
 
 -- the marks of a side's queue, where the module has a queue there
-abbrev pub marks_on : Shape → Side → Option WaterMarks
+abbrev pub marks_on : {K : Type 0} → Shape K → Side → Option WaterMarks
 marks_on s Rd = s.rd
 marks_on s Wr = s.wr
 
 -- whether the module queues ordinary messages of that side
-abbrev pub queues_on : Shape → Side → Bool
+abbrev pub queues_on : {K : Type 0} → Shape K → Side → Bool
 queues_on s side = is_some (marks_on s side)
 
 -- a letter, a digit or `_`
@@ -50,7 +49,7 @@ number_of Name = 1
 number_of Marks = 2
 
 -- the shape of a new module
-abbrev pub new_shape : ℕ → List ℕ → MarkPair → MarkPair → Kind → Shape
+abbrev pub new_shape : {K : Type 0} → ℕ → List ℕ → MarkPair → MarkPair → K → Shape K
 new_shape serial name rd wr kind =
     record {
       serial = serial;
@@ -61,7 +60,7 @@ new_shape serial name rd wr kind =
     }
 
 -- the same module with the same queues: only what its kind keeps can differ
-pub record IsSameModule (old new : Shape) : Type 0 where
+pub record IsSameModule {K : Type 0} (old new : Shape K) : Type 0 where
   pub serial : new.serial ≡ old.serial
   pub name : new.name ≡ old.name
   pub rd : new.rd ≡ old.rd

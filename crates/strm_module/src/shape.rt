@@ -3,67 +3,35 @@ ghost use Rattle.std.specs.Prelude.{◌≡◌, ◌&&◌, nat_le, length, is_some
 ghost use Rattle.std.specs.List.{list_all};
 ghost use Rattle.strm_module.specs.Shape.{queues_on, is_name_byte, is_name, are_marks, marks_of, make_fault, number_of, new_shape};
 
+use crate::kind::Kind;
+use crate::vocabulary::Kinds;
 use arrayvec::ArrayVec;
 use std::alloc::Global;
-use strm_msg::{Bytes, NoMem, Side};
+use strm_msg::{NoMem, Side};
 use strm_queue::Marks;
 use thiserror::Error;
 
-/// What a module does with messages, and what it keeps for that.
-///
-/// Only ordinary messages are meant. High ones go on unchanged, whatever the kind.
-#[derive(Debug, Drop, PartialEq, Eq)]
-pub enum Kind {
-    /// Each message goes on unchanged.
-    Pass,
-    /// Data on its way down is mapped byte by byte. Ioctl 3 answers with its own data mapped, and
-    /// the length of that data as its value.
-    Table {
-        /// What stands for each byte.
-        map: [u8; 256],
-    },
-    /// In data on its way down each LF becomes CR LF. In data on its way up each CR that an LF
-    /// directly follows in the same message is removed.
-    CrNl,
-    /// Data of band 0 on its way up is kept until its line ends: whole lines go up, each with its
-    /// LF, several in one message. A rest of over 4096 bytes goes up with all that stands before
-    /// it. A flush of the read side that is of all bands or of band 0 drops what is kept.
-    Line {
-        /// What came since the last LF. No service leaves more than 4096 bytes of it.
-        partial: Bytes,
-    },
-    /// Data messages on their way down are counted. Ioctl 1 answers with the count, and ioctl 2
-    /// too, which then sets it to 0.
-    Count {
-        /// How many came, up to the greatest `u64`.
-        n: u64,
-    },
-    /// Data and protocol messages on their way down are put into a band.
-    Band {
-        /// The band.
-        b: u8,
-    },
-    /// A copy of each data message on its way down goes up, and then the message goes on.
-    Tee,
-    /// Data messages on their way down are dropped.
-    Mute,
-}
+/// The longest name of a module, in bytes.
+pub const LONGEST_NAME: usize = 8;
 
 /// A module as others see it: its name, its queues, its kind and what it keeps (module_info(9S)).
 ///
-/// It is plain data, which whoever runs the module keeps beside the module's object.
+/// It is plain data. `Shape::new` judges the name and the marks; whoever writes the fields out may
+/// also make a name that no call would make, or a partial line longer than one that is ever kept,
+/// and nothing is promised of where these come from: a module then does with them what its meaning
+/// says.
 #[derive(Debug, Drop, PartialEq, Eq)]
-pub struct Shape {
+pub struct Shape<K = Kind> {
     /// Which module this is, among those of a program.
     pub serial: u64,
-    /// 1 to 8 letters, digits and `_`.
-    pub name: ArrayVec<u8, 8>,
+    /// 1 to 8 letters, digits and `_`, where `Shape::new` made it.
+    pub name: ArrayVec<u8, LONGEST_NAME>,
     /// The water marks of the read queue, where ordinary messages of that side are queued.
     pub rd: Option<Marks>,
     /// The water marks of the write queue, where ordinary messages of that side are queued.
     pub wr: Option<Marks>,
     /// What the module does, and what it keeps.
-    pub kind: Kind,
+    pub kind: K,
 }
 
 /// Why a module was not made.
@@ -104,7 +72,7 @@ fn are_name_bytes(bytes: &[u8]) -> bool
 }
 
 /// A name of these bytes, if they make one.
-fn name_of(bytes: &[u8]) -> Option<ArrayVec<u8, 8>>
+fn name_of(bytes: &[u8]) -> Option<ArrayVec<u8, LONGEST_NAME>>
     ensures some { IfSome result (λ name. name.items ≡ bytes.now) }
     ensures variant { is_some result ≡ is_name bytes.now }
 {
@@ -129,27 +97,7 @@ fn marks_of(pair: Option<(u32, u32)>) -> Result<Option<Marks>, MakeFault>
     }
 }
 
-impl Kind {
-    /// An equal kind. Refused for want of memory alone, which only a partial line takes.
-    fn copy(&self, alloc: Global) -> Result<Kind, NoMem>
-        ensures { IfOk result (λ copy. copy ≡ self.now) }
-    {
-        Ok(match self {
-            Kind::Pass => Kind::Pass,
-            Kind::Table { map } => Kind::Table { map: *map },
-            Kind::CrNl => Kind::CrNl,
-            Kind::Line { partial } => Kind::Line {
-                partial: partial.copy(alloc)?,
-            },
-            Kind::Count { n } => Kind::Count { n: *n },
-            Kind::Band { b } => Kind::Band { b: *b },
-            Kind::Tee => Kind::Tee,
-            Kind::Mute => Kind::Mute,
-        })
-    }
-}
-
-impl Shape {
+impl<K: Kinds> Shape<K> {
     /// The shape of a new module, where `rd` and `wr` are the high and the low mark of each side
     /// that queues. Takes no memory.
     ///
@@ -159,8 +107,8 @@ impl Shape {
         name: &[u8],
         rd: Option<(u32, u32)>,
         wr: Option<(u32, u32)>,
-        kind: Kind,
-    ) -> Result<Shape, MakeFault>
+        kind: K,
+    ) -> Result<Self, MakeFault>
         ensures ok { IfOk result (λ shape. shape ≡ new_shape serial name.now rd wr kind) }
         ensures err { IfErr result (λ fault. make_fault name.now rd wr ≡ Some fault) }
         ensures variant { is_ok result ≡ is_none (make_fault name.now rd wr) }
@@ -180,7 +128,7 @@ impl Shape {
     }
 
     /// An equal shape. Refused for want of memory alone.
-    pub fn copy(&self, alloc: Global) -> Result<Shape, NoMem>
+    pub fn copy(&self, alloc: Global) -> Result<Self, NoMem>
         ensures { IfOk result (λ copy. copy ≡ self.now) }
     {
         Ok(Shape {

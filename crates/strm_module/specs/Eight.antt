@@ -1,45 +1,20 @@
--- What each kind of module makes of a message that it doesn't queue (Programmer's Guide: STREAMS,
+-- What each of the eight kinds makes of a message that it doesn't queue (Programmer's Guide: STREAMS,
 -- "Modules" and "Message Types").
 use Rattle.std.specs.Prelude.{ℕ, ◌+◌, ◌==◌, nat_lt, min, Bool, true, false, Some, None, List, [], ◌∷◌, ◌++◌, if◌then◌else◌, length, option_map, unwrap_or}
-use Rattle.std.specs.List.{list_all}
 use Rattle.strm_msg.specs.Kind.{is_high}
-use Rattle.strm_msg.specs.Message.{Msg, Part, part_len, data_msg, ack_msg}
+use Rattle.strm_msg.specs.Message.{Msg, part_len, data_msg}
 use Rattle.strm_msg.specs.declared.kind.MsgKind.{MsgKind}
 use Rattle.strm_msg.specs.declared.kind.MsgKind.TheVariants.{MData, MProto, MIoctl, MFlush}
 use Rattle.strm_msg.specs.declared.words.Side.{Side}
 use Rattle.strm_msg.specs.declared.words.Side.TheVariants.{Rd, Wr}
+use Rattle.strm_module.specs.Kinds.{OutList, Action, Meaning, kept, passed_on, replied, answered}
+use Rattle.strm_module.specs.declared.kind.TheConstants.{MOST_KEPT}
 use Rattle.strm_module.specs.Bytes.{mapped, with_cr, without_cr, rest_len, whole_lines, rest_of_line}
-use Rattle.strm_module.specs.declared.shape.Kind.{Kind}
-use Rattle.strm_module.specs.declared.shape.Kind.TheVariants.{Pass, Table, CrNl, Line, Count, Band, Tee, Mute}
-
--- messages in the order in which they leave, each with its side: `Wr` goes down, `Rd` goes up
-abbrev pub OutList : Type 0
-OutList = List (Side × Msg)
-
--- the read side is the way up
-abbrev pub is_up : Side → Bool
-is_up Rd = true
-is_up Wr = false
-
--- all that leaves goes up, to the head
-abbrev pub all_go_up : OutList → Bool
-all_go_up outs = list_all (λ out. is_up out.0) outs
-
--- what a message does to a module: the kind with what it keeps afterwards, and what leaves
-pub record Action : Type 0 where
-  pub kind : Kind
-  pub outs : OutList
-
--- the message goes on along its side (putnext(9F))
-abbrev pub passed_on : Kind → Side → Msg → Action
-passed_on kind side m = record { kind = kind; outs = (side, m) ∷ [] }
-
--- an ioctl is answered, and the answer turns back up (qreply(9F))
-abbrev pub answered : Kind → ℕ → ℕ → Part → Action
-answered kind id rval dat = record { kind = kind; outs = (Rd, ack_msg id rval dat) ∷ [] }
+use Rattle.strm_module.specs.declared.kind.Kind.{Kind}
+use Rattle.strm_module.specs.declared.kind.Kind.TheVariants.{Pass, Table, CrNl, Line, Count, Band, Tee, Mute}
 
 -- data on its way down goes through the table, and ioctl 3 answers with its own data put through it
-abbrev pub table_action : List ℕ → Side → MsgKind → Msg → Action
+abbrev pub table_action : List ℕ → Side → MsgKind → Msg → Action Kind
 table_action table Wr MData m =
     passed_on (Table table) Wr (record m { dat = option_map (mapped table) m.dat })
 table_action table Wr (MIoctl id cmd) m =
@@ -48,7 +23,7 @@ table_action table Wr (MIoctl id cmd) m =
 table_action table side kind m = passed_on (Table table) side m
 
 -- LF becomes CR LF on the way down, and CR LF becomes LF on the way up, message by message
-abbrev pub crnl_action : Side → MsgKind → Msg → Action
+abbrev pub crnl_action : Side → MsgKind → Msg → Action Kind
 crnl_action Wr MData m = passed_on CrNl Wr (record m { dat = option_map with_cr m.dat })
 crnl_action Rd MData m = passed_on CrNl Rd (record m { dat = option_map without_cr m.dat })
 crnl_action side kind m = passed_on CrNl side m
@@ -58,15 +33,15 @@ abbrev pub lines_up : List ℕ → OutList
 lines_up bytes = if length bytes == 0 then [] else (Rd, data_msg 0 bytes) ∷ []
 
 -- what a line discipline does with all that it has: whole lines go up and the rest is kept, but with
--- a rest of over 4096 bytes all goes up and nothing is kept
-abbrev pub line_splits : List ℕ → Action
+-- a rest of more than is ever kept all goes up
+abbrev pub line_splits : List ℕ → Action Kind
 line_splits bytes =
-    if nat_lt 4096 (rest_len bytes) then
-    record { kind = Line []; outs = (Rd, data_msg 0 bytes) ∷ [] }
+    if nat_lt MOST_KEPT (rest_len bytes) then
+    replied (Line []) (data_msg 0 bytes)
     else record { kind = Line (rest_of_line bytes); outs = lines_up (whole_lines bytes) }
 
 -- data of band 0 on its way up is put behind what was kept
-abbrev pub line_action : List ℕ → Side → MsgKind → Msg → Action
+abbrev pub line_action : List ℕ → Side → MsgKind → Msg → Action Kind
 line_action partial Rd MData m =
     if m.band == 0 then line_splits (partial ++ unwrap_or m.dat [])
     else passed_on (Line partial) Rd m
@@ -77,7 +52,7 @@ abbrev pub next_count : ℕ → ℕ
 next_count n = min (n + 1) 18446744073709551615
 
 -- data on its way down is counted, ioctl 1 asks for the count, and ioctl 2 asks and sets it to 0
-abbrev pub count_action : ℕ → Side → MsgKind → Msg → Action
+abbrev pub count_action : ℕ → Side → MsgKind → Msg → Action Kind
 count_action n Wr MData m = passed_on (Count (next_count n)) Wr m
 count_action n Wr (MIoctl id cmd) m =
     if cmd == 1 then answered (Count n) id n None
@@ -86,23 +61,23 @@ count_action n Wr (MIoctl id cmd) m =
 count_action n side kind m = passed_on (Count n) side m
 
 -- data and protocol messages on their way down are given a band
-abbrev pub band_action : ℕ → Side → MsgKind → Msg → Action
+abbrev pub band_action : ℕ → Side → MsgKind → Msg → Action Kind
 band_action b Wr MData m = passed_on (Band b) Wr (record m { band = b })
 band_action b Wr MProto m = passed_on (Band b) Wr (record m { band = b })
 band_action b side kind m = passed_on (Band b) side m
 
 -- data on its way down is sent up too: the copy first
-abbrev pub tee_action : Side → MsgKind → Msg → Action
+abbrev pub tee_action : Side → MsgKind → Msg → Action Kind
 tee_action Wr MData m = record { kind = Tee; outs = (Rd, m) ∷ ((Wr, m) ∷ []) }
 tee_action side kind m = passed_on Tee side m
 
 -- data on its way down is dropped
-abbrev pub mute_action : Side → MsgKind → Msg → Action
-mute_action Wr MData m = record { kind = Mute; outs = [] }
+abbrev pub mute_action : Side → MsgKind → Msg → Action Kind
+mute_action Wr MData m = kept Mute
 mute_action side kind m = passed_on Mute side m
 
 -- an ordinary message, by the kind of the module
-abbrev pub ordinary_action : Kind → Side → Msg → Action
+abbrev pub ordinary_action : Kind → Side → Msg → Action Kind
 ordinary_action Pass side m = passed_on Pass side m
 ordinary_action (Table table) side m = table_action table side m.kind m
 ordinary_action CrNl side m = crnl_action side m.kind m
@@ -119,8 +94,8 @@ flushed_kind (Line partial) (MFlush true w (Some band)) =
     if band == 0 then Line [] else Line partial
 flushed_kind kind m = kind
 
--- any message: a high one goes on as it is, along its side
-abbrev pub action_of : Kind → Side → Msg → Action
-action_of kind side m =
+-- what the eight kinds make of any message: a high one goes on as it is, along its side
+abbrev pub eight : Meaning Kind
+eight kind side m =
     if is_high m.kind then passed_on (flushed_kind kind m.kind) side m
     else ordinary_action kind side m

@@ -1,12 +1,20 @@
-//! The eight kinds of module. Each object acts by the shape that it is handed and keeps nothing.
+//! Objects for the eight kinds. Each acts by its shape and keeps nothing.
 ghost use Rattle.std.specs.Prelude.{◌≡◌, [], is_ok, is_none, IfOk, IfErr, Some};
-ghost use Rattle.strm_module.specs.declared.shape.Kind.TheVariants as Kind;
+ghost use Rattle.strm_module.specs.declared.kind.Kind.TheVariants as Kind;
 ghost use Rattle.strm_module.specs.Shape.{make_fault, new_shape};
 
-use crate::module::{Instance, Module, Outs, Put};
-use crate::shape::{Kind as ShapeKind, MakeFault, Shape};
+use crate::instance::Instance;
+use crate::kind::Kind as Kinds;
+use crate::module::Module;
+use crate::shape::{MakeFault, Shape};
 use std::alloc::Global;
-use strm_msg::{Message, NoMem, Side};
+
+/// Acts by whatever shape it stands with, and keeps nothing: the object for a module that is known
+/// by its shape alone.
+#[derive(Debug, Drop)]
+pub struct Plain;
+
+impl Module for Plain {}
 
 /// Sends each message on unchanged.
 #[derive(Debug, Drop)]
@@ -23,39 +31,16 @@ impl Pass {
         rd: Option<(u32, u32)>,
         wr: Option<(u32, u32)>,
     ) -> Result<Instance<Pass>, MakeFault>
-        ensures ok { IfOk result (λ it. it.shape ≡ new_shape serial name.now rd wr Kind.Pass) }
+        ensures ok { IfOk result (λ it. it ≡ new_shape serial name.now rd wr Kind.Pass) }
         ensures err { IfErr result (λ fault. make_fault name.now rd wr ≡ Some fault) }
         ensures variant { is_ok result ≡ is_none (make_fault name.now rd wr) }
     {
-        let shape = Shape::new(serial, name, rd, wr, ShapeKind::Pass)?;
-        Ok(Instance {
-            shape,
-            module: Pass,
-        })
+        let shape = Shape::new(serial, name, rd, wr, Kinds::Pass)?;
+        Ok(Instance::new(shape, Pass))
     }
 }
 
-impl Module for Pass {
-    fn put(
-        &mut self,
-        alloc: Global,
-        shape: &mut Shape,
-        side: Side,
-        m: Message,
-    ) -> Result<Put, NoMem> {
-        shape.put(alloc, side, m)
-    }
-
-    fn serve(
-        &mut self,
-        alloc: Global,
-        shape: &mut Shape,
-        side: Side,
-        m: Message,
-    ) -> Result<Outs, NoMem> {
-        shape.serve(alloc, side, m)
-    }
-}
+impl Module for Pass {}
 
 /// Maps data on its way down byte by byte.
 #[derive(Debug, Drop)]
@@ -73,39 +58,16 @@ impl Table {
         wr: Option<(u32, u32)>,
         map: [u8; 256],
     ) -> Result<Instance<Table>, MakeFault>
-        ensures ok { IfOk result (λ it. it.shape ≡ new_shape serial name.now rd wr (Kind.Table map)) }
+        ensures ok { IfOk result (λ it. it ≡ new_shape serial name.now rd wr (Kind.Table map)) }
         ensures err { IfErr result (λ fault. make_fault name.now rd wr ≡ Some fault) }
         ensures variant { is_ok result ≡ is_none (make_fault name.now rd wr) }
     {
-        let shape = Shape::new(serial, name, rd, wr, ShapeKind::Table { map })?;
-        Ok(Instance {
-            shape,
-            module: Table,
-        })
+        let shape = Shape::new(serial, name, rd, wr, Kinds::Table { map })?;
+        Ok(Instance::new(shape, Table))
     }
 }
 
-impl Module for Table {
-    fn put(
-        &mut self,
-        alloc: Global,
-        shape: &mut Shape,
-        side: Side,
-        m: Message,
-    ) -> Result<Put, NoMem> {
-        shape.put(alloc, side, m)
-    }
-
-    fn serve(
-        &mut self,
-        alloc: Global,
-        shape: &mut Shape,
-        side: Side,
-        m: Message,
-    ) -> Result<Outs, NoMem> {
-        shape.serve(alloc, side, m)
-    }
-}
+impl Module for Table {}
 
 /// Turns LF into CR LF in data on its way down, and CR LF into LF in data on its way up.
 #[derive(Debug, Drop)]
@@ -122,39 +84,16 @@ impl CrNl {
         rd: Option<(u32, u32)>,
         wr: Option<(u32, u32)>,
     ) -> Result<Instance<CrNl>, MakeFault>
-        ensures ok { IfOk result (λ it. it.shape ≡ new_shape serial name.now rd wr Kind.CrNl) }
+        ensures ok { IfOk result (λ it. it ≡ new_shape serial name.now rd wr Kind.CrNl) }
         ensures err { IfErr result (λ fault. make_fault name.now rd wr ≡ Some fault) }
         ensures variant { is_ok result ≡ is_none (make_fault name.now rd wr) }
     {
-        let shape = Shape::new(serial, name, rd, wr, ShapeKind::CrNl)?;
-        Ok(Instance {
-            shape,
-            module: CrNl,
-        })
+        let shape = Shape::new(serial, name, rd, wr, Kinds::CrNl)?;
+        Ok(Instance::new(shape, CrNl))
     }
 }
 
-impl Module for CrNl {
-    fn put(
-        &mut self,
-        alloc: Global,
-        shape: &mut Shape,
-        side: Side,
-        m: Message,
-    ) -> Result<Put, NoMem> {
-        shape.put(alloc, side, m)
-    }
-
-    fn serve(
-        &mut self,
-        alloc: Global,
-        shape: &mut Shape,
-        side: Side,
-        m: Message,
-    ) -> Result<Outs, NoMem> {
-        shape.serve(alloc, side, m)
-    }
-}
+impl Module for CrNl {}
 
 /// Gathers data on its way up into whole lines.
 #[derive(Debug, Drop)]
@@ -172,40 +111,17 @@ impl Line {
         rd: Option<(u32, u32)>,
         wr: Option<(u32, u32)>,
     ) -> Result<Instance<Line>, MakeFault>
-        ensures ok { IfOk result (λ it. it.shape ≡ new_shape serial name.now rd wr (Kind.Line [])) }
+        ensures ok { IfOk result (λ it. it ≡ new_shape serial name.now rd wr (Kind.Line [])) }
         ensures err { IfErr result (λ fault. make_fault name.now rd wr ≡ Some fault) }
         ensures variant { is_ok result ≡ is_none (make_fault name.now rd wr) }
     {
         let partial = Vec::new(alloc).into();
-        let shape = Shape::new(serial, name, rd, wr, ShapeKind::Line { partial })?;
-        Ok(Instance {
-            shape,
-            module: Line,
-        })
+        let shape = Shape::new(serial, name, rd, wr, Kinds::Line { partial })?;
+        Ok(Instance::new(shape, Line))
     }
 }
 
-impl Module for Line {
-    fn put(
-        &mut self,
-        alloc: Global,
-        shape: &mut Shape,
-        side: Side,
-        m: Message,
-    ) -> Result<Put, NoMem> {
-        shape.put(alloc, side, m)
-    }
-
-    fn serve(
-        &mut self,
-        alloc: Global,
-        shape: &mut Shape,
-        side: Side,
-        m: Message,
-    ) -> Result<Outs, NoMem> {
-        shape.serve(alloc, side, m)
-    }
-}
+impl Module for Line {}
 
 /// Counts data messages on their way down.
 #[derive(Debug, Drop)]
@@ -222,39 +138,16 @@ impl Count {
         rd: Option<(u32, u32)>,
         wr: Option<(u32, u32)>,
     ) -> Result<Instance<Count>, MakeFault>
-        ensures ok { IfOk result (λ it. it.shape ≡ new_shape serial name.now rd wr (Kind.Count 0)) }
+        ensures ok { IfOk result (λ it. it ≡ new_shape serial name.now rd wr (Kind.Count 0)) }
         ensures err { IfErr result (λ fault. make_fault name.now rd wr ≡ Some fault) }
         ensures variant { is_ok result ≡ is_none (make_fault name.now rd wr) }
     {
-        let shape = Shape::new(serial, name, rd, wr, ShapeKind::Count { n: 0 })?;
-        Ok(Instance {
-            shape,
-            module: Count,
-        })
+        let shape = Shape::new(serial, name, rd, wr, Kinds::Count { n: 0 })?;
+        Ok(Instance::new(shape, Count))
     }
 }
 
-impl Module for Count {
-    fn put(
-        &mut self,
-        alloc: Global,
-        shape: &mut Shape,
-        side: Side,
-        m: Message,
-    ) -> Result<Put, NoMem> {
-        shape.put(alloc, side, m)
-    }
-
-    fn serve(
-        &mut self,
-        alloc: Global,
-        shape: &mut Shape,
-        side: Side,
-        m: Message,
-    ) -> Result<Outs, NoMem> {
-        shape.serve(alloc, side, m)
-    }
-}
+impl Module for Count {}
 
 /// Puts data and protocol messages on their way down into a band.
 #[derive(Debug, Drop)]
@@ -272,39 +165,16 @@ impl Band {
         wr: Option<(u32, u32)>,
         b: u8,
     ) -> Result<Instance<Band>, MakeFault>
-        ensures ok { IfOk result (λ it. it.shape ≡ new_shape serial name.now rd wr (Kind.Band b)) }
+        ensures ok { IfOk result (λ it. it ≡ new_shape serial name.now rd wr (Kind.Band b)) }
         ensures err { IfErr result (λ fault. make_fault name.now rd wr ≡ Some fault) }
         ensures variant { is_ok result ≡ is_none (make_fault name.now rd wr) }
     {
-        let shape = Shape::new(serial, name, rd, wr, ShapeKind::Band { b })?;
-        Ok(Instance {
-            shape,
-            module: Band,
-        })
+        let shape = Shape::new(serial, name, rd, wr, Kinds::Band { b })?;
+        Ok(Instance::new(shape, Band))
     }
 }
 
-impl Module for Band {
-    fn put(
-        &mut self,
-        alloc: Global,
-        shape: &mut Shape,
-        side: Side,
-        m: Message,
-    ) -> Result<Put, NoMem> {
-        shape.put(alloc, side, m)
-    }
-
-    fn serve(
-        &mut self,
-        alloc: Global,
-        shape: &mut Shape,
-        side: Side,
-        m: Message,
-    ) -> Result<Outs, NoMem> {
-        shape.serve(alloc, side, m)
-    }
-}
+impl Module for Band {}
 
 /// Sends a copy of data on its way down up too.
 #[derive(Debug, Drop)]
@@ -321,36 +191,16 @@ impl Tee {
         rd: Option<(u32, u32)>,
         wr: Option<(u32, u32)>,
     ) -> Result<Instance<Tee>, MakeFault>
-        ensures ok { IfOk result (λ it. it.shape ≡ new_shape serial name.now rd wr Kind.Tee) }
+        ensures ok { IfOk result (λ it. it ≡ new_shape serial name.now rd wr Kind.Tee) }
         ensures err { IfErr result (λ fault. make_fault name.now rd wr ≡ Some fault) }
         ensures variant { is_ok result ≡ is_none (make_fault name.now rd wr) }
     {
-        let shape = Shape::new(serial, name, rd, wr, ShapeKind::Tee)?;
-        Ok(Instance { shape, module: Tee })
+        let shape = Shape::new(serial, name, rd, wr, Kinds::Tee)?;
+        Ok(Instance::new(shape, Tee))
     }
 }
 
-impl Module for Tee {
-    fn put(
-        &mut self,
-        alloc: Global,
-        shape: &mut Shape,
-        side: Side,
-        m: Message,
-    ) -> Result<Put, NoMem> {
-        shape.put(alloc, side, m)
-    }
-
-    fn serve(
-        &mut self,
-        alloc: Global,
-        shape: &mut Shape,
-        side: Side,
-        m: Message,
-    ) -> Result<Outs, NoMem> {
-        shape.serve(alloc, side, m)
-    }
-}
+impl Module for Tee {}
 
 /// Drops data on its way down.
 #[derive(Debug, Drop)]
@@ -367,36 +217,13 @@ impl Mute {
         rd: Option<(u32, u32)>,
         wr: Option<(u32, u32)>,
     ) -> Result<Instance<Mute>, MakeFault>
-        ensures ok { IfOk result (λ it. it.shape ≡ new_shape serial name.now rd wr Kind.Mute) }
+        ensures ok { IfOk result (λ it. it ≡ new_shape serial name.now rd wr Kind.Mute) }
         ensures err { IfErr result (λ fault. make_fault name.now rd wr ≡ Some fault) }
         ensures variant { is_ok result ≡ is_none (make_fault name.now rd wr) }
     {
-        let shape = Shape::new(serial, name, rd, wr, ShapeKind::Mute)?;
-        Ok(Instance {
-            shape,
-            module: Mute,
-        })
+        let shape = Shape::new(serial, name, rd, wr, Kinds::Mute)?;
+        Ok(Instance::new(shape, Mute))
     }
 }
 
-impl Module for Mute {
-    fn put(
-        &mut self,
-        alloc: Global,
-        shape: &mut Shape,
-        side: Side,
-        m: Message,
-    ) -> Result<Put, NoMem> {
-        shape.put(alloc, side, m)
-    }
-
-    fn serve(
-        &mut self,
-        alloc: Global,
-        shape: &mut Shape,
-        side: Side,
-        m: Message,
-    ) -> Result<Outs, NoMem> {
-        shape.serve(alloc, side, m)
-    }
-}
+impl Module for Mute {}

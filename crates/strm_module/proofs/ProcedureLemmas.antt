@@ -1,0 +1,45 @@
+-- What holds of every module's put and service procedures, for kinds of any meaning.
+use Rattle.std.proofs.Common.{◌≡◌, ◌&&◌, not, Bool, true, false, cond, refl}
+use Rattle.strm_msg.specs.Kind.{is_high}
+use Rattle.strm_msg.specs.Message.{Msg}
+use Rattle.strm_msg.specs.declared.words.Side.{Side}
+use Rattle.strm_module.specs.Kinds.{Meaning, all_go_up}
+use Rattle.strm_module.specs.Shape.{queues_on, IsSameModule}
+use Rattle.strm_module.specs.Module.{serve_of, Taken, put_of, is_queued, sends_up, IsQueued}
+use Rattle.strm_module.specs.declared.shape.Shape.{Shape}
+use Rattle.strm_module.specs.declared.outs.Put.{Put}
+use Rattle.strm_module.specs.declared.outs.Put.TheVariants.{Queue, Sent}
+
+is_ordinary : (high queues : Bool) → (not high && queues) ≡ true → high ≡ false
+is_ordinary true queues e = cc
+is_ordinary false queues e = refl
+
+queues_too : (high queues : Bool) → (not high && queues) ≡ true → queues ≡ true
+queues_too true queues e = cc
+queues_too false queues e = e
+
+module _ {K : Type 0} (means : Meaning K) where
+  -- a service changes nothing but what the kind keeps
+  pub serve_of_same : (s : Shape K) (side : Side) (m : Msg) → IsSameModule s (serve_of means s side m).shape
+  serve_of_same s side m = record { serial = refl; name = refl; rd = refl; wr = refl }
+
+  abbrev put_if : Shape K → Side → Msg → Bool → Taken K
+  put_if s side m queued =
+      cond queued (record { shape = s; answer = Queue m })
+      (record { shape = (serve_of means s side m).shape; answer = Sent (record { items = (serve_of means s side m).outs }) })
+
+  -- nor does a put
+  pub put_of_same : (s : Shape K) (side : Side) (m : Msg) → IsSameModule s (put_of means s side m).shape
+  put_of_same s side m =
+      elim (is_queued s side m) as (λ b. IsSameModule s (put_if s side m b).shape) [
+        | true ↦ record { serial = refl; name = refl; rd = refl; wr = refl }
+        | false ↦ serve_of_same s side m
+      ]
+
+  -- a message is queued as it came, on a side with marks
+  pub put_of_queued : (s : Shape K) (side : Side) (m : Msg) → IsQueued (put_of means s side m).answer side m s (put_of means s side m).shape
+  put_of_queued s side m =
+      elim (is_queued s side m) as (λ b. is_queued s side m ≡ b → IsQueued (put_if s side m b).answer side m s (put_if s side m b).shape) [
+        | true ↦ λ e. record { same = refl; queues = queues_too (is_high m.kind) (queues_on s side) e; ordinary = is_ordinary (is_high m.kind) (queues_on s side) e; shape = refl }
+        | false ↦ λ e. tt
+      ] refl

@@ -1,0 +1,44 @@
+-- What a vocabulary of kinds means, and what holds of every vocabulary (Programmer's Guide: STREAMS, "Modules").
+use Rattle.std.specs.Prelude.{ℕ, Bool, true, false, List, [], ◌∷◌}
+use Rattle.std.specs.List.{list_all}
+use Rattle.strm_msg.specs.Message.{Msg, Part, ack_msg}
+use Rattle.strm_msg.specs.declared.words.Side.{Side}
+use Rattle.strm_msg.specs.declared.words.Side.TheVariants.{Rd, Wr}
+
+-- messages in the order in which they leave, each with its side: `Wr` goes down, `Rd` goes up
+abbrev pub OutList : Type 0
+OutList = List (Side × Msg)
+
+-- the read side is the way up
+abbrev pub is_up : Side → Bool
+is_up Rd = true
+is_up Wr = false
+
+-- all that leaves goes up, to the head
+abbrev pub all_go_up : OutList → Bool
+all_go_up outs = list_all (λ out. is_up out.0) outs
+
+-- what a message does to a module: the kind with what it keeps afterwards, and what leaves
+pub record Action (K : Type 0) : Type 0 where
+  pub kind : K
+  pub outs : OutList
+
+-- what the kinds of a vocabulary make of a message that is not queued
+abbrev pub Meaning : Type 0 → Type 0
+Meaning K = K → Side → Msg → Action K
+
+-- nothing leaves
+abbrev pub kept : {K : Type 0} → K → Action K
+kept kind = record { kind = kind; outs = [] }
+
+-- the message goes on along its side (putnext(9F))
+abbrev pub passed_on : {K : Type 0} → K → Side → Msg → Action K
+passed_on kind side m = record { kind = kind; outs = (side, m) ∷ [] }
+
+-- a message turns round and goes back up (qreply(9F))
+abbrev pub replied : {K : Type 0} → K → Msg → Action K
+replied kind m = record { kind = kind; outs = (Rd, m) ∷ [] }
+
+-- an ioctl is answered
+abbrev pub answered : {K : Type 0} → K → ℕ → ℕ → Part → Action K
+answered kind id rval dat = replied kind (ack_msg id rval dat)

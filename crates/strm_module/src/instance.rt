@@ -1,0 +1,89 @@
+//! A module as one thing: its shape and its object.
+ghost use Rattle.std.specs.Prelude.{◌≡◌, IfOk, OnOk, OnErr};
+ghost use Rattle.strm_module.specs.Shape.{IsSameModule};
+ghost use Rattle.strm_module.specs.Module.{put_of, serve_of, IsQueued};
+
+use crate::module::ModuleOf;
+use crate::outs::{Outs, Put};
+use crate::shape::Shape;
+use std::alloc::Global;
+use std::marker::Model;
+use strm_msg::{Message, NoMem, Side};
+
+/// A module as it is handed to a stream: its shape, and the object that acts for it, which stay
+/// together. A contract sees the shape.
+///
+/// `M` is the type of the objects of a stream: `Box<dyn Module>` where its modules are of several
+/// types.
+///
+/// ```
+/// let shape = Shape::new(1, b"pass", None, None, Kind::Pass)?;
+/// let object: Box<dyn Module> = Box::new(alloc, Pass)?;
+/// let module = Instance::new(shape, object);
+/// ```
+///
+/// Box in the program or the test itself: the gate refuses a library function that makes a boxed
+/// `dyn` value and hands it out.
+#[derive(Drop)]
+pub struct Instance<M: ModuleOf> {
+    shape: Shape<M::Kind>,
+    object: M,
+}
+
+impl<M: ModuleOf> Model for Instance<M> {
+    ghost use Rattle.strm_module.specs.declared.shape.Shape.{Shape};
+
+    ghost Value = { Shape M.Kind };
+
+    ghost view = { λ i. i.shape };
+}
+
+impl<M: ModuleOf> Instance<M> {
+    /// A module of this shape, for which this object acts. Takes no memory.
+    pub fn new(shape: Shape<M::Kind>, object: M) -> Self
+        ensures { result ≡ shape }
+    {
+        Instance { shape, object }
+    }
+
+    /// What the module is and keeps.
+    pub fn shape(&self) -> &Shape<M::Kind>
+        ensures { result.now ≡ self.now }
+    {
+        &self.shape
+    }
+
+    /// The object, for its private data. The shape is dropped.
+    pub fn into_object(self) -> M {
+        let Instance { shape: _, object } = self;
+        object
+    }
+
+    /// A message comes to the module on a side: the object's put procedure has it (put(9E)).
+    ///
+    /// Refused for want of memory alone: then the shape is as before, and the message is dropped.
+    pub fn put(&mut self, alloc: Global, side: Side, m: Message) -> Result<Put, NoMem>
+        ensures answer { IfOk result (λ put. put ≡ (put_of M.Kind.means self.old side m).answer) }
+        ensures after { OnOk result (self.new ≡ (put_of M.Kind.means self.old side m).shape) }
+        ensures err { OnErr result (self.new ≡ self.old) }
+        ensures same { IsSameModule self.old self.new }
+        ensures queued { IfOk result (λ put. IsQueued put side m self.old self.new) }
+    {
+        let put = self.object.put(alloc, &mut self.shape, side, m)?;
+        Ok(put)
+    }
+
+    /// A message that was queued on a side has its turn: the object's service procedure has it
+    /// (srv(9E)).
+    ///
+    /// Refused for want of memory alone: then the shape is as before, and the message is dropped.
+    pub fn serve(&mut self, alloc: Global, side: Side, m: Message) -> Result<Outs, NoMem>
+        ensures outs { IfOk result (λ outs. outs.items ≡ (serve_of M.Kind.means self.old side m).outs) }
+        ensures after { OnOk result (self.new ≡ (serve_of M.Kind.means self.old side m).shape) }
+        ensures err { OnErr result (self.new ≡ self.old) }
+        ensures same { IsSameModule self.old self.new }
+    {
+        let outs = self.object.serve(alloc, &mut self.shape, side, m)?;
+        Ok(outs)
+    }
+}

@@ -1,0 +1,119 @@
+//! The eight kinds of module that every program has, as a vocabulary.
+ghost use Rattle.std.specs.Prelude.{◌≡◌, IfOk, OnOk, OnErr};
+ghost use Rattle.strm_module.specs.Eight.{ordinary_action, flushed_kind};
+
+use crate::acts::{act_band, act_count, act_crnl, act_line, act_mute, act_table, act_tee};
+use crate::outs::{Outs, pass_on};
+use crate::vocabulary::Kinds;
+use std::alloc::Global;
+use strm_msg::{Bytes, Class, Message, MsgKind, NoMem, Side};
+
+/// The longest unfinished line that is kept, in bytes.
+pub const MOST_KEPT: usize = 4096;
+
+/// Eight kinds of module: what each does with messages, and what it keeps for that.
+///
+/// Only ordinary messages are meant. High ones go on unchanged, whatever the kind.
+#[derive(Debug, Drop, PartialEq, Eq)]
+pub enum Kind {
+    /// Each message goes on unchanged.
+    Pass,
+    /// Data on its way down is mapped byte by byte. Ioctl 3 answers with its own data mapped, and
+    /// the length of that data as its value.
+    Table {
+        /// What stands for each byte.
+        map: [u8; 256],
+    },
+    /// In data on its way down each LF becomes CR LF. In data on its way up each CR that an LF
+    /// directly follows in the same message is removed.
+    CrNl,
+    /// Data of band 0 on its way up is kept until its line ends: whole lines go up, each with its
+    /// LF, several in one message. A rest of over `MOST_KEPT` bytes goes up with all that stands
+    /// before it. A flush of the read side that is of all bands or of band 0 drops what is kept.
+    Line {
+        /// What came since the last LF. No service leaves more than `MOST_KEPT` bytes of it.
+        partial: Bytes,
+    },
+    /// Data messages on their way down are counted. Ioctl 1 answers with the count, and ioctl 2
+    /// too, which then sets it to 0.
+    Count {
+        /// How many came, up to the greatest `u64`.
+        n: u64,
+    },
+    /// Data and protocol messages on their way down are put into a band.
+    Band {
+        /// The band.
+        b: u8,
+    },
+    /// A copy of each data message on its way down goes up, and then the message goes on.
+    Tee,
+    /// Data messages on their way down are dropped.
+    Mute,
+}
+
+/// An ordinary message, by the kind of the module.
+fn act(alloc: Global, kind: &mut Kind, side: Side, m: Message) -> Result<Outs, NoMem>
+    ensures outs { IfOk result (λ outs. outs.items ≡ (ordinary_action kind.old side m).outs) }
+    ensures kept { OnOk result (kind.new ≡ (ordinary_action kind.old side m).kind) }
+    ensures err { OnErr result (kind.new ≡ kind.old) }
+{
+    match kind {
+        Kind::Pass => Ok(pass_on(side, m)),
+        Kind::Table { map } => act_table(alloc, map, side, m),
+        Kind::CrNl => act_crnl(alloc, side, m),
+        Kind::Line { partial } => act_line(alloc, partial, side, m),
+        Kind::Count { n } => Ok(act_count(n, side, m)),
+        Kind::Band { b } => Ok(act_band(*b, side, m)),
+        Kind::Tee => act_tee(alloc, side, m),
+        Kind::Mute => Ok(act_mute(side, m)),
+    }
+}
+
+/// Empties a partial line where the read side is flushed in all bands or in band 0.
+fn flush(alloc: Global, kind: &mut Kind, by: MsgKind)
+    ensures { kind.new ≡ flushed_kind kind.old by }
+{
+    if let Kind::Line { partial } = kind {
+        if matches!(
+            by,
+            MsgKind::MFlush {
+                r: true,
+                band: None | Some(0),
+                ..
+            }
+        ) {
+            *partial = Vec::new(alloc).into();
+        }
+    }
+}
+
+impl Kinds for Kind {
+    ghost use Rattle.strm_module.specs.Eight.{eight};
+
+    ghost means = { eight };
+
+    fn process(&mut self, alloc: Global, side: Side, m: Message) -> Result<Outs, NoMem> {
+        match m.class() {
+            Class::High => {
+                flush(alloc, self, m.kind);
+                Ok(pass_on(side, m))
+            }
+            Class::Ordinary => act(alloc, self, side, m),
+        }
+    }
+
+    fn copy(&self, alloc: Global) -> Result<Kind, NoMem> {
+        Ok(match self {
+            Kind::Pass => Kind::Pass,
+            Kind::Table { map } => Kind::Table { map: *map },
+            Kind::CrNl => Kind::CrNl,
+            Kind::Line { partial } => Kind::Line {
+                partial: partial.copy(alloc)?,
+            },
+            Kind::Count { n } => Kind::Count { n: *n },
+            Kind::Band { b } => Kind::Band { b: *b },
+            Kind::Tee => Kind::Tee,
+            Kind::Mute => Kind::Mute,
+        })
+    }
+}

@@ -1,0 +1,44 @@
+//! A module's put and service procedures, as its shape says.
+ghost use Rattle.std.specs.Prelude.{◌≡◌, IfOk, OnOk, OnErr, IsTrue};
+ghost use Rattle.strm_msg.specs.declared.words.Side.TheVariants as Side;
+ghost use Rattle.strm_module.specs.Kinds.{all_go_up};
+ghost use Rattle.strm_module.specs.Shape.{IsSameModule};
+ghost use Rattle.strm_module.specs.Module.{put_of, serve_of, sends_up};
+
+use crate::outs::{Outs, Put};
+use crate::shape::Shape;
+use crate::vocabulary::Kinds;
+use std::alloc::Global;
+use strm_msg::{Class, Message, NoMem, Side as Sides};
+
+impl<K: Kinds> Shape<K> {
+    /// What a module of this shape does with a message that comes to it on a side (put(9E)): an
+    /// ordinary one is queued where the side has marks, and any other is served at once.
+    ///
+    /// Refused for want of memory alone: then the shape is as before, and the message is dropped.
+    pub fn put(&mut self, alloc: Global, side: Sides, m: Message) -> Result<Put, NoMem>
+        ensures answer { IfOk result (λ put. put ≡ (put_of K.means self.old side m).answer) }
+        ensures after { OnOk result (self.new ≡ (put_of K.means self.old side m).shape) }
+        ensures err { OnErr result (self.new ≡ self.old) }
+        ensures same { IsSameModule self.old self.new }
+        ensures upward { side ≡ Side.Rd → IfOk result (λ put. IsTrue (sends_up put)) }
+    {
+        if m.class() == Class::Ordinary && self.queues(side) {
+            return Ok(Put::Queue(m));
+        }
+        Ok(Put::Sent(self.serve(alloc, side, m)?))
+    }
+
+    /// What a module of this shape does with a message that was queued on a side (srv(9E)).
+    ///
+    /// Refused for want of memory alone: then the shape is as before, and the message is dropped.
+    pub fn serve(&mut self, alloc: Global, side: Sides, m: Message) -> Result<Outs, NoMem>
+        ensures outs { IfOk result (λ outs. outs.items ≡ (serve_of K.means self.old side m).outs) }
+        ensures after { OnOk result (self.new ≡ (serve_of K.means self.old side m).shape) }
+        ensures err { OnErr result (self.new ≡ self.old) }
+        ensures same { IsSameModule self.old self.new }
+        ensures upward { side ≡ Side.Rd → IfOk result (λ outs. IsTrue (all_go_up outs.items)) }
+    {
+        self.kind.process(alloc, side, m)
+    }
+}

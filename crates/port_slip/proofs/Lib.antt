@@ -1,2 +1,3 @@
 pub mod FrameLemmas
 pub mod PieceLemmas
+pub mod SlipLemmas

@@ -1,7 +1,7 @@
 -- Bytes of a line that come in pieces.
-use Rattle.std.proofs.Common.{◌≡◌, ℕ, zero, suc, ◌+◌, ◌-◌, ◌≤◌, Bool, true, false, List, [], ◌∷◌, ◌++◌, Option, Some, None, option_map, unwrap_or, refl, ap, sym, ◌∙◌, arith, length, take, cond, not, ◌&&◌}
+use Rattle.std.proofs.Common.{◌≡◌, ℕ, zero, suc, ◌+◌, ◌-◌, ◌<◌, ◌≤◌, Bool, true, false, List, [], ◌∷◌, ◌++◌, Option, Some, None, option_map, unwrap_or, refl, ap, sym, ◌∙◌, arith, length, take, cond, not, ◌&&◌, length-take}
 use Rattle.port_slip.specs.Frame.{is_end, is_esc, unescaped, meant_by, datagram_of, cut, begun, has_no_end, unfinished, Received, received, with_datagram, with_datagrams}
-use Rattle.port_slip.specs.FrameLaws.{PiecesAreOneLine}
+use Rattle.port_slip.specs.FrameLaws.{PiecesAreOneLine, UnfinishedIsBounded}
 use Rattle.port_slip.proofs.FrameLemmas.{with_front, no_end_first}
 use Rattle.std.proofs.lemmas.Option.{same_Some}
 
@@ -158,3 +158,14 @@ pieces_are_one_line (suc n) piece more =
           (let e : n - length rest.datagrams ≡ suc n - suc (length rest.datagrams) = omega arith in e)
     ] in
     skip ∙ step (cut b) refl
+
+pub unfinished_is_bounded : UnfinishedIsBounded
+unfinished_is_bounded zero bytes h = absurd (omega arith)
+unfinished_is_bounded (suc n) bytes h =
+    let b = begun bytes in
+    let step : (o : Option PairOfLists) → length (reading n o b).datagrams < suc n → length (reading n o b).kept ≤ 2012 =
+    elim [
+      | None ↦ λ k. omega (arith, length-take 2012 b)
+      | Some c ↦ λ k. unfinished_is_bounded n c.1 (omega arith)
+    ] in
+    step (cut b) h

@@ -32,3 +32,8 @@ PiecesAreOneLine =
     (n : ℕ) (piece more : List ℕ) →
     let first = received n piece in
     received n (piece ++ more) ≡ with_datagrams first.datagrams (received (n - length first.datagrams) (first.kept ++ more))
+
+-- noise without an END cannot pile up: where not all n datagrams were received, little is kept
+abbrev pub UnfinishedIsBounded : Type 0
+UnfinishedIsBounded =
+    (n : ℕ) (bytes : List ℕ) → length (received n bytes).datagrams < n → length (received n bytes).kept ≤ 2012

@@ -4,7 +4,11 @@
 #![tactic(auto)]
 
 mod framing;
+mod kinds;
 mod laws;
+mod slip;
 
 pub use framing::{first_datagram, frame};
-pub use laws::frames_keep_datagrams;
+pub use kinds::SlipKind;
+pub use laws::{frames_keep_datagrams, modules_keep_datagrams};
+pub use slip::ByShape;

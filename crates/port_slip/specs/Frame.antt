@@ -26,8 +26,8 @@ framed datagram = 192 ∷ (escaped datagram ++ 192 ∷ [])
 abbrev pub meant_by : ℕ → ℕ
 meant_by b = if b == 220 then 192 else if b == 221 then 219 else b
 
--- the datagram that a frame's bytes spell. An ESC at the very end of a frame, which nobody should
--- send either, stands for itself
+-- the datagram that a frame's bytes spell. An END always ends a frame, where RFC 1055's code would take
+-- one behind an ESC into the datagram; nobody should send that either, and the ESC stands for itself
 abbrev pub unescaped : List ℕ → List ℕ
 unescaped [] = []
 unescaped (a ∷ []) = a ∷ []

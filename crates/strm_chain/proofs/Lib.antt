@@ -1,7 +1,3 @@
-pub mod ModuleLemmas
-pub mod EndLemmas
-pub mod WorkLemmas
-pub mod DeliverLemmas
-pub mod MoveLemmas
+pub mod HopLemmas
+pub mod LoadLemmas
 pub mod QuietLemmas
-pub mod WorkedExamples

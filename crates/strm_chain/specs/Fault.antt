@@ -1,52 +1,33 @@
--- What no message changes about the modules of a chain, and what a refused call leaves.
-use Rattle.std.specs.Prelude.{◌≡◌, ℕ, true, false, Option, List, map}
-use Rattle.strm_queue.specs.Queue.{WaterMarks}
-use Rattle.strm_module.specs.declared.shape.Shape.{Shape}
+-- What no message changes about a chain, and what a refused call leaves.
+use Rattle.std.specs.Prelude.{◌≡◌, ℕ, true, false, List}
+use Rattle.strm_qpair.specs.Modules.{SameEnd}
 use Rattle.strm_chain.specs.declared.fault.ChainFault.{ChainFault}
 use Rattle.strm_chain.specs.declared.fault.ChainFault.TheVariants.{NoMem, Broken}
-use Rattle.strm_chain.specs.Image.{Image, QueuePair}
+use Rattle.strm_chain.specs.Image.{Image}
 
--- which module this is, and where it queues
-pub record Identity : Type 0 where
-  pub serial : ℕ
-  pub name : List ℕ
-  pub rd : Option WaterMarks
-  pub wr : Option WaterMarks
-
-abbrev pub identity_of : Shape → Identity
-identity_of s = record { serial = s.serial; name = s.name.items; rd = s.rd; wr = s.wr }
-
--- the modules of an end, topmost first
-abbrev pub identities_of : List QueuePair → List Identity
-identities_of modules = map (λ (s : QueuePair). identity_of s.shape) modules
-
--- the ends are open or closed as before, with the same modules, over the same driver
-pub record SameModules (old new : Image) : Type 0 where
+-- both ends are open or closed as before, with the same marks, modules and ids, over the same driver
+pub record SameModules {K : Type 0} (old new : Image K) : Type 0 where
   pub driver : new.driver ≡ old.driver
   pub broken : new.broken ≡ old.broken
-  pub open_a : new.a.is_open ≡ old.a.is_open
-  pub open_b : new.b.is_open ≡ old.b.is_open
-  pub on_a : identities_of new.a.modules ≡ identities_of old.a.modules
-  pub on_b : identities_of new.b.modules ≡ identities_of old.b.modules
+  pub on_a : SameEnd old.a new.a
+  pub on_b : SameEnd old.b new.b
 
--- a chain that broke: its ends are open or closed as before and have the same modules, and nothing else is said of it;
--- one that was broken before is as it was
-pub record Breaks (old new : Image) : Type 0 where
+-- a chain that broke: what no message changes is as it was, and nothing else is said of it; one that was broken before is
+-- as it was
+pub record Breaks {K : Type 0} (old new : Image K) : Type 0 where
   pub is_broken : new.broken ≡ true
   pub driver : new.driver ≡ old.driver
-  pub open_a : new.a.is_open ≡ old.a.is_open
-  pub open_b : new.b.is_open ≡ old.b.is_open
-  pub on_a : identities_of new.a.modules ≡ identities_of old.a.modules
-  pub on_b : identities_of new.b.modules ≡ identities_of old.b.modules
+  pub on_a : SameEnd old.a new.a
+  pub on_b : SameEnd old.b new.b
   pub again : old.broken ≡ true → new ≡ old
 
 -- nothing is changed in a whole chain
-pub record IsUntouched (old new : Image) : Type 0 where
+pub record IsUntouched {K : Type 0} (old new : Image K) : Type 0 where
   pub was_whole : old.broken ≡ false
   pub image : new ≡ old
 
 -- what a refused call leaves
-abbrev pub Refuses : ChainFault → Image → Image → Type 0
+abbrev pub Refuses : {K : Type 0} → ChainFault → Image K → Image K → Type 0
 Refuses NoMem old new = IsUntouched old new
 Refuses Broken old new = Breaks old new
 

@@ -1,10 +1,6 @@
 pub mod Image
-pub mod Part
-pub mod Slot
-pub mod Change
 pub mod Deliver
 pub mod Path
-pub mod Move
-pub mod Still
+pub mod Service
 pub mod Fault
-pub mod Work
+pub mod Hop

@@ -1,55 +1,50 @@
 //! A chain: one or two ends over a driver.
-ghost use Rattle.std.specs.Prelude.{◌≡◌, ◌∷◌, [], OnOk, OnErr, IfErr, IfOk, IsOk, IsNone, IsSome, IsTrue, IfSome, IfNone, MatchOption, true, false, is_ok, length, map, drop, Some, ◌≤◌, ◌<◌, ℕ, option_map, option_copied};
-ghost use Rattle.strm_msg.specs.Message.{rank_of};
-ghost use Rattle.strm_queue.specs.Queue.{put_back_in, put_in, is_full};
-ghost use Rattle.strm_queue.specs.Room.{room_for};
-ghost use Rattle.strm_chain.specs.Change.{has_room, inserted, removed, closed, shapes_in, fresh, with_mode, begun, undone, ended};
-ghost use Rattle.strm_chain.specs.Image.{end_of, with_end, with_head, with_drv, with_state, count_of, shapes_of, partner, has_end, room_of};
-ghost use Rattle.strm_chain.specs.Path.{pair_at};
-ghost use Rattle.strm_chain.specs.declared.driver.Driver.TheVariants as Drivers;
-ghost use Rattle.strm_msg.specs.declared.words.End.TheVariants as Ends;
+ghost use Rattle.std.specs.Prelude.{◌≡◌, ◌∷◌, [], ◌≤◌, OnOk, OnErr, IfErr, IfOk, IfSome, IfNone, is_ok, true, map, Some, option_map, option_copied};
+ghost use Rattle.strm_qpair.specs.End.{shapes_of, pair_at};
+ghost use Rattle.strm_qpair.specs.Modules.{IsFitEnd};
+ghost use Rattle.strm_qpair.specs.Change.{has_room, inserted, removed, closed};
+ghost use Rattle.strm_chain.specs.Image.{end_of, with_end, count_of, room_of, KeepsHeadRoom, partner, has_end, fresh};
 
-use crate::driver::Driver;
-use crate::part::Part;
-use crate::record::Record;
-use crate::slot::Slot;
 use arrayvec::ArrayVec;
 use std::alloc::Global;
 use std::marker::Model;
-use strm_module::{Instance, Module, Shape};
-use strm_msg::{End, Message, NoMem, Prot, ReadMode};
-use strm_queue::{BandQueue, Marks};
+use strm_module::{Instance, ModuleOf, Shape};
+use strm_msg::{End, NoMem};
+use strm_qpair::{Driver, MOST_MODULES, StreamEnd};
+use strm_queue::Marks;
 
-/// The queues of a stream, with its modules and the records of its heads.
+mod deliver;
+mod head;
+mod hop;
+mod line;
+mod serve;
+mod settle;
+
+/// The queues of a stream, with its modules and what its heads remember.
 ///
-/// A contract sees its image: the driver, the marks, whether it is broken, and for each end whether
-/// it is open, the lists of its head and its driver, its record, and its modules, each as its shape
-/// with two lists. An end that the driver lacks is a closed one without modules and messages.
+/// A contract sees its image: the driver, whether the chain is broken, and for each end whether it
+/// is open, the lists of its head and its driver with their marks, its record, and its modules, each
+/// as its shape with two lists. An end that the driver lacks is a closed one without modules and
+/// messages. Beside the image it sees the room of the heads' lists and of a line's.
 #[derive(Drop)]
-pub struct Chain<M: Module> {
-    pub(crate) alloc: Global,
-    pub(crate) driver: Driver,
-    pub(crate) head_marks: Marks,
-    pub(crate) drv_marks: Marks,
-    pub(crate) broken: bool,
-    pub(crate) a: Part<M>,
-    pub(crate) b: Part<M>,
+pub struct Chain<M: ModuleOf> {
+    alloc: Global,
+    driver: Driver,
+    broken: bool,
+    a: StreamEnd<M>,
+    b: StreamEnd<M>,
 }
 
-impl<M: Module> Model for Chain<M> {
+impl<M: ModuleOf> Model for Chain<M> {
     ghost use Rattle.strm_chain.specs.Image.{ChainValue};
 
-    ghost Value = { ChainValue };
+    ghost Value = { ChainValue M.Kind };
 
-    ghost use Rattle.strm_chain.specs.Part.{end_state, IsKept};
-
-    ghost view = { λ c. record { image = record { driver = c.driver; head_marks = c.head_marks; drv_marks = c.drv_marks; broken = c.broken; a = end_state c.a; b = end_state c.b }; room_a = c.a.head.room; room_b = c.b.head.room } };
-
-    ghost invariant = { λ c. IsKept c.head_marks c.drv_marks c.a × IsKept c.head_marks c.drv_marks c.b };
+    ghost view = { λ c. record { image = record { driver = c.driver; broken = c.broken; a = c.a.state; b = c.b.state }; room_a = c.a.head_room; room_b = c.b.head_room; line_room = c.a.drv_room } };
 }
 
 /// The end up whose read side a driver sends what came down an end.
-pub(crate) fn partner_of(driver: Driver, end: End) -> End
+fn partner_of(driver: Driver, end: End) -> End
     ensures { result ≡ partner driver end }
 {
     match (driver, end) {
@@ -60,7 +55,7 @@ pub(crate) fn partner_of(driver: Driver, end: End) -> End
 }
 
 /// Whether a driver has an end.
-pub(crate) fn has_end(driver: Driver, end: End) -> bool
+fn has_end(driver: Driver, end: End) -> bool
     ensures { result ≡ has_end driver end }
 {
     match end {
@@ -69,22 +64,25 @@ pub(crate) fn has_end(driver: Driver, end: End) -> bool
     }
 }
 
-impl<M: Module> Chain<M> {
+impl<M: ModuleOf> Chain<M> {
     /// A chain without modules, whose ends are open. Refused for want of memory alone.
     pub fn new(alloc: Global, driver: Driver, head: Marks, drv: Marks) -> Result<Chain<M>, NoMem>
         ensures { IfOk result (λ c. c.image ≡ fresh driver head drv) }
     {
-        let a = Part::new(alloc, head, drv, has_end(driver, End::A))?;
-        let b = Part::new(alloc, head, drv, has_end(driver, End::B))?;
+        let a = StreamEnd::new(alloc, head, drv, has_end(driver, End::A))?;
+        let b = StreamEnd::new(alloc, head, drv, has_end(driver, End::B))?;
         Ok(Chain {
             alloc,
             driver,
-            head_marks: head,
-            drv_marks: drv,
             broken: false,
             a,
             b,
         })
+    }
+
+    /// What takes memory for the chain.
+    pub fn alloc(&self) -> Global {
+        self.alloc
     }
 
     /// What stands at the bottom.
@@ -94,16 +92,6 @@ impl<M: Module> Chain<M> {
         self.driver
     }
 
-    /// Whether an end is open. One that the driver lacks never is.
-    pub fn is_open(&self, end: End) -> bool
-        ensures { result ≡ (end_of self.now.image end).is_open }
-    {
-        match end {
-            End::A => self.a.is_open,
-            End::B => self.b.is_open,
-        }
-    }
-
     /// Whether memory was wanting after a change. Such a chain neither delivers nor serves.
     pub fn is_broken(&self) -> bool
         ensures { result ≡ self.now.image.broken }
@@ -111,62 +99,81 @@ impl<M: Module> Chain<M> {
         self.broken
     }
 
-    /// The number of modules of an end.
-    pub fn count(&self, end: End) -> usize
-        ensures value { result ≡ count_of self.now.image end }
-        ensures few { result ≤ 8 }
+    /// Breaks the chain, where memory was wanting after a change of the caller's own. It neither
+    /// delivers nor serves from then on, and the rest stays as it is.
+    pub fn break_off(&mut self)
+        ensures { self.new ≡ record self.old { image = record self.old.image { broken = true } } }
+    {
+        self.broken = true;
+    }
+
+    /// One end.
+    fn end(&self, end: End) -> &StreamEnd<M>
+        ensures state { result.now.state ≡ end_of self.now.image end }
+        ensures room { result.now.head_room ≡ room_of self.now end }
     {
         match end {
-            End::A => self.a.count(),
-            End::B => self.b.count(),
+            End::A => &self.a,
+            End::B => &self.b,
         }
+    }
+
+    /// Whether an end is open. One that the driver lacks never is.
+    pub fn is_open(&self, end: End) -> bool
+        ensures { result ≡ (end_of self.now.image end).is_open }
+    {
+        self.end(end).is_open()
+    }
+
+    /// The number of modules of an end. Each low mark at the end is below its high one.
+    pub fn count(&self, end: End) -> usize
+        ensures value { result ≡ count_of self.now.image end }
+        ensures few { result ≤ MOST_MODULES }
+        ensures fit { IsFitEnd (end_of self.now.image end) }
+    {
+        self.end(end).count()
     }
 
     /// The shape of a module, counted from 1 for the topmost; `None` where there is none.
-    pub fn shape(&self, end: End, i: u8) -> Option<&Shape>
+    pub fn shape(&self, end: End, i: u8) -> Option<&Shape<M::Kind>>
         ensures { option_copied result ≡ option_map (λ s. s.shape) (pair_at (end_of self.now.image end).modules i) }
     {
-        match end {
-            End::A => self.a.shape(i),
-            End::B => self.b.shape(i),
-        }
+        self.end(end).shape(i)
     }
 
-    /// Whether another module may be pushed: the end is open and has fewer than eight.
+    /// Whether another module may be pushed: the end is open and has fewer than `MOST_MODULES`.
     pub fn has_room(&self, end: End) -> bool
         ensures { result ≡ has_room (end_of self.now.image end) }
     {
-        match end {
-            End::A => self.a.has_room(),
-            End::B => self.b.has_room(),
-        }
+        self.end(end).has_room()
     }
 
-    /// Puts a module just below the head, with empty queues (I_PUSH). Takes no memory.
+    /// Puts a module just below the head, with empty queues (I_PUSH). Takes no memory, and no list
+    /// loses room.
     ///
-    /// Where the end is closed or has eight modules, the instance comes back, and nothing is changed.
+    /// Where `has_room` is false the instance comes back, and nothing is changed.
     pub fn insert(&mut self, end: End, instance: Instance<M>) -> Result<(), Instance<M>>
         ensures variant { is_ok result ≡ has_room (end_of self.old.image end) }
-        ensures ok { OnOk result (self.new.image ≡ with_end self.old.image end (inserted (end_of self.old.image end) instance.shape)) }
+        ensures ok { OnOk result (self.new ≡ record self.old { image = with_end self.old.image end (inserted (end_of self.old.image end) instance) }) }
         ensures err { OnErr result (self.new ≡ self.old) }
         ensures back { IfErr result (λ same. same ≡ instance) }
     {
         if !self.has_room(end) {
             return Err(instance);
         }
-        let slot = Slot::new(self.alloc, instance);
         match end {
-            End::A => self.a.insert(slot),
-            End::B => self.b.insert(slot),
+            End::A => self.a.insert(self.alloc, instance),
+            End::B => self.b.insert(self.alloc, instance),
         }
         Ok(())
     }
 
-    /// Takes the topmost module out, and drops what its queues hold (I_POP). Takes no memory.
+    /// Takes the topmost module out, and drops what its queues hold (I_POP). Takes no memory, and no
+    /// list loses room.
     pub fn remove(&mut self, end: End) -> Option<Instance<M>>
-        ensures some { IfSome result (λ u. shapes_of (end_of self.old.image end) ≡ u.shape ∷ shapes_of (end_of self.new.image end)) }
+        ensures some { IfSome result (λ it. shapes_of (end_of self.old.image end) ≡ it ∷ shapes_of (end_of self.new.image end)) }
         ensures none { IfNone result ((end_of self.old.image end).modules ≡ []) }
-        ensures image { self.new.image ≡ with_end self.old.image end (removed (end_of self.old.image end)) }
+        ensures image { self.new ≡ record self.old { image = with_end self.old.image end (removed (end_of self.old.image end)) } }
     {
         match end {
             End::A => self.a.remove(),
@@ -175,147 +182,17 @@ impl<M: Module> Chain<M> {
     }
 
     /// Takes all modules of an end out, topmost first, drops what their queues and the head's list
-    /// hold, and closes the end (close(2)). The driver's list stays. Takes no memory.
-    pub fn dismantle(&mut self, end: End) -> ArrayVec<Option<Instance<M>>, 8>
-        ensures instances { shapes_in result.items ≡ map Some (shapes_of (end_of self.old.image end)) }
+    /// hold, and closes the end (close(2)). The driver's list stays. Takes no memory, and no list
+    /// loses room.
+    pub fn dismantle(&mut self, end: End) -> ArrayVec<Option<Instance<M>>, MOST_MODULES>
+        ensures instances { result.items ≡ map (λ s. Some s.shape) (end_of self.old.image end).modules }
         ensures image { self.new.image ≡ with_end self.old.image end (closed (end_of self.old.image end)) }
+        ensures room { KeepsHeadRoom self.old self.new }
+        ensures line_room { self.new.line_room ≡ self.old.line_room }
     {
         match end {
             End::A => self.a.close(),
             End::B => self.b.close(),
         }
-    }
-}
-
-impl<M: Module> Chain<M> {
-    /// The list of the head of an end.
-    pub fn head(&self, end: End) -> &BandQueue
-        ensures messages { result.now.messages ≡ (end_of self.now.image end).head }
-        ensures marks { result.now.marks ≡ self.now.image.head_marks }
-        ensures room { result.now.room ≡ room_of self.now end }
-    {
-        match end {
-            End::A => &self.a.head,
-            End::B => &self.b.head,
-        }
-    }
-
-    /// Takes the first message of a head's list. Takes no memory, and leaves what room there was.
-    pub fn take_head(&mut self, end: End) -> Option<Message>
-        ensures first { MatchOption result ((end_of self.old.image end).head ≡ []) (λ m. (end_of self.old.image end).head ≡ m ∷ (end_of self.new.image end).head) }
-        ensures image { self.new.image ≡ with_head self.old.image end (drop 1 (end_of self.old.image end).head) }
-        ensures room { (rank : ℕ) → room_for (room_of self.old end) rank ≤ room_for (room_of self.new end) rank }
-    {
-        match end {
-            End::A => self.a.take_head(),
-            End::B => self.b.take_head(),
-        }
-    }
-
-    /// Makes room in a head's list, so that the next `put_back_head` of a message of this rank
-    /// succeeds. Refused for want of memory alone, and not where the room is there. No rank loses
-    /// room.
-    pub fn head_room(&mut self, end: End, rank: u16) -> Result<(), NoMem>
-        requires { rank ≤ 256 }
-        ensures room { OnOk result (0 < room_for (room_of self.new end) rank) }
-        ensures enough { 0 < room_for (room_of self.old end) rank → IsOk result }
-        ensures kept { (other : ℕ) → room_for (room_of self.old end) other ≤ room_for (room_of self.new end) other }
-        ensures image { self.new.image ≡ self.old.image }
-    {
-        match end {
-            End::A => self.a.head.make_room(rank),
-            End::B => self.b.head.make_room(rank),
-        }
-    }
-
-    /// Puts a message back into a head's list, before those of its rank (putbq(9F)).
-    ///
-    /// Refused for want of memory alone: the message comes back, and nothing is changed.
-    pub fn put_back_head(&mut self, end: End, m: Message) -> Result<(), Message>
-        ensures ok { OnOk result (self.new.image ≡ with_head self.old.image end (put_back_in (end_of self.old.image end).head m)) }
-        ensures err { OnErr result (self.new.image ≡ self.old.image) }
-        ensures back { IfErr result (λ same. same ≡ m) }
-        ensures room { 0 < room_for (room_of self.old end) (rank_of m) → IsOk result }
-    {
-        match end {
-            End::A => self.a.head.put_back(m),
-            End::B => self.b.head.put_back(m),
-        }
-    }
-
-    /// What the head of an end keeps beside its list.
-    pub fn state(&self, end: End) -> &Record
-        ensures { result.now ≡ (end_of self.now.image end).state }
-    {
-        match end {
-            End::A => &self.a.state,
-            End::B => &self.b.state,
-        }
-    }
-
-    /// Sets how reads at an end treat messages (I_SRDOPT).
-    pub fn set_mode(&mut self, end: End, mode: ReadMode, prot: Prot)
-        ensures image { self.new.image ≡ with_state self.old.image end (with_mode (end_of self.old.image end).state mode prot) }
-    {
-        match end {
-            End::A => self.a.state.set_mode(mode, prot),
-            End::B => self.b.state.set_mode(mode, prot),
-        }
-    }
-
-    /// Takes the next id of an end for an ioctl, whose answer is awaited from then on (I_STR).
-    /// `None`, with nothing changed, once the greatest id was given out.
-    pub fn begin_ioctl(&mut self, end: End) -> Option<u64>
-        requires { IsNone (end_of self.old.image end).state.pending }
-        ensures id { result ≡ (end_of self.old.image end).state.next }
-        ensures image { self.new.image ≡ with_state self.old.image end (begun (end_of self.old.image end).state) }
-    {
-        match end {
-            End::A => self.a.state.begin(),
-            End::B => self.b.state.begin(),
-        }
-    }
-
-    /// Gives the id back that was taken last, where its ioctl was not sent.
-    pub fn undo_ioctl(&mut self, end: End)
-        requires pending { IsSome (end_of self.old.image end).state.pending }
-        requires unanswered { IsNone (end_of self.old.image end).state.kept }
-        ensures image { self.new.image ≡ with_state self.old.image end (undone (end_of self.old.image end).state) }
-    {
-        match end {
-            End::A => self.a.state.undo(),
-            End::B => self.b.state.undo(),
-        }
-    }
-
-    /// Gives the answer to an ioctl, if one came, and awaits none any longer.
-    pub fn end_ioctl(&mut self, end: End) -> Option<Message>
-        ensures answer { result ≡ (end_of self.old.image end).state.kept }
-        ensures image { self.new.image ≡ with_state self.old.image end (ended (end_of self.old.image end).state) }
-    {
-        match end {
-            End::A => self.a.state.end(),
-            End::B => self.b.state.end(),
-        }
-    }
-
-    /// Whether the list of a line is full in a band (bcanput(9F)).
-    pub fn line_full(&self, band: u8) -> bool
-        requires { self.now.image.driver ≡ Drivers.Line }
-        ensures { result ≡ is_full self.now.image.drv_marks self.now.image.a.drv band }
-    {
-        self.a.drv.full(band)
-    }
-
-    /// Puts a message that came in from the line into the line's list (putq(9F)).
-    ///
-    /// Refused for want of memory alone: the message comes back, and nothing is changed.
-    pub fn line_put(&mut self, m: Message) -> Result<(), Message>
-        requires { self.old.image.driver ≡ Drivers.Line }
-        ensures ok { OnOk result (self.new.image ≡ with_drv self.old.image Ends.A (put_in self.old.image.a.drv m)) }
-        ensures err { OnErr result (self.new.image ≡ self.old.image) }
-        ensures back { IfErr result (λ same. same ≡ m) }
-    {
-        self.a.drv.put(m)
     }
 }

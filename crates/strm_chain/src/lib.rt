@@ -1,4 +1,4 @@
-//! A chain: the queues of a stream with its modules, over a driver.
+//! A chain: the ends of a stream over a driver, and how messages get through it.
 //!
 //! Messages go down from the head through the modules to the driver, and up from the driver to the
 //! head. What a module queues waits until the queue ahead has room, and is then serviced
@@ -6,18 +6,10 @@
 #![tactic(auto)]
 
 mod chain;
-mod driver;
 mod fault;
-mod moves;
-mod part;
-mod record;
-mod settle;
-mod slot;
-mod steps;
-mod work;
+mod place;
 
 pub use chain::Chain;
-pub use driver::{Driver, Place, Spot};
 pub use fault::ChainFault;
-pub use record::Record;
-pub use settle::{Moves, Settled};
+pub use place::{Moves, Place, Settled, Spot};
+pub use strm_qpair::{Driver, MOST_MODULES, Record};

@@ -1,0 +1,40 @@
+use Rattle.std.proofs.Common.{◌≤◌, ◌<◌, ◌∙◌, true, false, ap, sym, arith}
+use Rattle.strm_chain.specs.Hop.{carry_all, up_hop, down_hop, rank}
+use Rattle.strm_chain.proofs.HopLemmas.{carries_down, head_again, head_none, head_some}
+use Rattle.strm_chain.proofs.LoadLemmas.{none_falls, one_falls}
+use Rattle.strm_chain.proofs.chain.Chain.to_head.Goals as goal
+
+pub returns-then-head_sent-clause-image : goal.returns-then-head_sent-clause-image
+returns-then-head_sent-clause-image g c =
+    let means = g.M.Kind.Kinds.means in
+    rw c.if-head_sent.true
+    (ap (λ i. carry_all means i c.args.hops.now.items) (head_again means c.args.end c.args.self.now.image c.head_does.new.self.image c.args.m c.in_ok-sends.ensures.state))
+
+pub returns-in-Some-clause-image : goal.returns-in-Some-clause-image
+returns-in-Some-clause-image g c =
+    let means = g.M.Kind.Kinds.means in
+    let new = c.head_does.new.self.image in
+    rw (c.push_front_reserved.ensures.items, c.down.ensures, c.if-head_sent.false)
+    (ap (λ i. carry_all means i c.args.hops.now.items)
+    (carries_down means new true c.args.end c.count.result c.in-Some.m ∙ head_some means c.args.end c.args.self.now.image new c.args.m c.in-Some.m c.count.result (sym c.in-Some.is ∙ c.in_ok-sends.ensures.sends) c.in_ok-sends.ensures.state c.count.ensures.value))
+
+pub returns-in-Some-clause-falls : goal.returns-in-Some-clause-falls
+returns-in-Some-clause-falls g c =
+    let few : c.count.result ≤ 8 = c.count.ensures.few in
+    let less : rank (down_hop true c.args.end c.count.result c.in-Some.m) < rank (up_hop false c.args.end 0 c.args.m) = omega arith in
+    rw (c.push_front_reserved.ensures.items, c.down.ensures, c.if-head_sent.false)
+    (one_falls (up_hop false c.args.end 0 c.args.m) (down_hop true c.args.end c.count.result c.in-Some.m) c.args.hops.now.items less)
+
+pub returns-in-None-clause-image : goal.returns-in-None-clause-image
+returns-in-None-clause-image g c =
+    let means = g.M.Kind.Kinds.means in
+    ap (λ i. carry_all means i c.args.hops.now.items)
+    (head_none means c.args.head_sent c.args.end c.args.self.now.image c.head_does.new.self.image c.args.m (sym c.in-None.is ∙ c.in_ok-sends.ensures.sends) c.in_ok-sends.ensures.state)
+
+pub returns-then-head_sent-clause-falls : goal.returns-then-head_sent-clause-falls
+returns-then-head_sent-clause-falls g c =
+    none_falls (up_hop c.args.head_sent c.args.end 0 c.args.m) c.args.hops.now.items
+
+pub returns-in-None-clause-falls : goal.returns-in-None-clause-falls
+returns-in-None-clause-falls g c =
+    none_falls (up_hop c.args.head_sent c.args.end 0 c.args.m) c.args.hops.now.items

@@ -1,0 +1,25 @@
+use Rattle.std.proofs.Common.{◌≡◌, ◌-◌, ◌∙◌, map, ap}
+use Rattle.strm_msg.specs.declared.words.Side.{Side}
+use Rattle.strm_chain.specs.Hop.{carry, hop_of, next_module}
+use Rattle.strm_chain.proofs.HopLemmas.{rest_after, module_hop}
+use Rattle.strm_chain.proofs.LoadLemmas.{outs_fall}
+use Rattle.strm_chain.proofs.chain.Chain.to_module.Goals as goal
+
+pub returns-clause-image : goal.returns-clause-image
+returns-clause-image g c =
+    let means = g.M.Kind.Kinds.means in
+    let h = c.args.hop in
+    let old = c.args.self.now.image in
+    let i = c.next_module-i.result in
+    let outs = c.in_ok-outs.outs.items in
+    rest_after means c.put_at.new.self.image (carry means old h) (map (hop_of h.head_sent h.side h.end i (h.ahead - 1)) outs) c.args.hops.now.items c.push_outs.new.hops.items c.push_outs.ensures.items
+    (rw (c.in_ok-outs.ensures.image, c.in_ok-outs.ensures.outs) (module_hop means h.head_sent h.side h.end h.ahead i old h.m c.requires.ahead c.next_module-i.ensures.value))
+
+pub returns-clause-falls : goal.returns-clause-falls
+returns-clause-falls g c =
+    let h = c.args.hop in
+    let i = c.next_module-i.result in
+    rw c.push_outs.ensures.items
+    (outs_fall h.head_sent h.side h.end i h.ahead h.m c.in_ok-outs.outs.items c.args.hops.now.items c.requires.ahead
+    (λ rd. c.next_module-i.ensures.value ∙ ap (λ (s : Side). next_module c.args.self.now.image s h.end h.ahead) rd)
+    c.next_module-i.ensures.few c.push_outs.ensures.few)

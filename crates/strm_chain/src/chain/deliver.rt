@@ -1,0 +1,77 @@
+//! Delivery: a message is carried to its end, and what comes of it.
+ghost use Rattle.std.specs.Prelude.{◌≡◌, OnOk, IfErr, true, false};
+ghost use Rattle.strm_chain.specs.Deliver.{deliver, is_there};
+ghost use Rattle.strm_chain.specs.Fault.{SameModules, Refuses};
+ghost use Rattle.strm_chain.specs.Hop.{carry};
+
+use super::hop::Hop;
+use super::{Chain, has_end};
+use crate::fault::ChainFault;
+use crate::place::Spot;
+use std::collections::VecDeque;
+use strm_module::ModuleOf;
+use strm_msg::Message;
+
+impl<M: ModuleOf> Chain<M> {
+    /// Whether a spot is there, at an end that the driver has.
+    pub fn has_spot(&self, spot: Spot) -> bool
+        ensures { result ≡ is_there self.now.image spot }
+    {
+        match spot {
+            Spot::Down { end, i } => {
+                has_end(self.driver, end) && 1 <= i && usize::from(i) <= self.count(end) + 1
+            }
+            Spot::Up { end, i } => has_end(self.driver, end) && usize::from(i) <= self.count(end),
+        }
+    }
+
+    /// A message at a spot.
+    #[tactic(auto, unfolding(crate::specs::Hop::carry))]
+    fn handed_in(&self, spot: Spot, m: Message) -> Hop
+        ensures { carry M.Kind.means self.now.image result ≡ deliver M.Kind.means self.now.image spot m }
+    {
+        match spot {
+            Spot::Down { end, i } => {
+                let ahead = (self.count(end) + 1).saturating_sub(usize::from(i));
+                Hop::down(false, end, ahead, m)
+            }
+            Spot::Up { end, i } => Hop::up(false, end, usize::from(i), m),
+        }
+    }
+
+    /// Breaks the chain, where memory was wanting after a change.
+    pub(super) fn give_up(&mut self) -> ChainFault
+        ensures fault { result ≡ ChainFault.Broken }
+        ensures image { self.new.image ≡ record self.old.image { broken = true } }
+    {
+        self.break_off();
+        ChainFault::Broken
+    }
+
+    /// Hands a message in at a spot that is there, and carries it and what comes of it to its end
+    /// (putnext(9F)). No place is served.
+    ///
+    /// Refused for want of memory alone: with `NoMem` nothing is changed, and with `Broken` the chain
+    /// is broken, or was before.
+    pub fn deliver(&mut self, spot: Spot, m: Message) -> Result<(), ChainFault>
+        requires { is_there self.old.image spot ≡ true }
+        ensures ok { OnOk result (self.new.image ≡ deliver M.Kind.means self.old.image spot m) }
+        ensures whole { OnOk result (self.old.image.broken ≡ false) }
+        ensures same { OnOk result (SameModules self.old.image self.new.image) }
+        ensures refused { IfErr result (λ fault. Refuses fault self.old.image self.new.image) }
+    {
+        if self.broken {
+            return Err(ChainFault::Broken);
+        }
+        let hop = self.handed_in(spot, m);
+        let mut hops = VecDeque::new(self.alloc);
+        match self.hop(&mut hops, hop) {
+            Ok(()) => {}
+            Err(_) => return Err(ChainFault::NoMem),
+        }
+        match self.carry_all(hops) {
+            Ok(()) => Ok(()),
+            Err(_) => Err(self.give_up()),
+        }
+    }
+}

@@ -1,0 +1,261 @@
+//! Messages on their way, one hop at a time.
+ghost use Rattle.std.specs.VecDeque.{deque_len, deque_capacity};
+ghost use Rattle.std.specs.Prelude.{◌≡◌, ◌∷◌, ◌++◌, [], ◌<◌, ◌≤◌, ◌+◌, ◌-◌, OnOk, OnErr, IfOk, map, length};
+ghost use Rattle.strm_msg.specs.declared.words.Side.TheVariants as Side;
+ghost use Rattle.strm_qpair.specs.Head.{head_does};
+ghost use Rattle.strm_chain.specs.Image.{end_of, with_end, partner, count_of};
+ghost use Rattle.strm_chain.specs.Deliver.{put_at, up, down, driver_does};
+ghost use Rattle.strm_chain.specs.Fault.{SameModules};
+ghost use Rattle.strm_chain.specs.Hop.{carry, carry_all, load, up_hop, down_hop, hop_of, next_module};
+
+use super::{Chain, has_end, partner_of};
+use std::collections::VecDeque;
+use strm_module::{ModuleOf, Outs};
+use strm_msg::{End, Message, NoMem, Side as Sides};
+use strm_qpair::{DriverSends, MOST_MODULES};
+
+/// A message that is on its way, up to the head or down to the driver, with a number of modules
+/// still ahead.
+#[derive(Drop)]
+pub(super) struct Hop {
+    /// It comes of a message that a head sent down.
+    pub(super) head_sent: bool,
+    /// `Rd` on its way up, `Wr` on its way down.
+    pub(super) side: Sides,
+    pub(super) end: End,
+    /// How many modules it still has to pass.
+    pub(super) ahead: usize,
+    pub(super) m: Message,
+}
+
+impl Hop {
+    /// A message on its way up.
+    pub(super) fn up(head_sent: bool, end: End, ahead: usize, m: Message) -> Hop
+        ensures { result ≡ up_hop head_sent end ahead m }
+    {
+        Hop {
+            head_sent,
+            side: Sides::Rd,
+            end,
+            ahead,
+            m,
+        }
+    }
+
+    /// A message on its way down.
+    pub(super) fn down(head_sent: bool, end: End, ahead: usize, m: Message) -> Hop
+        ensures { result ≡ down_hop head_sent end ahead m }
+    {
+        Hop {
+            head_sent,
+            side: Sides::Wr,
+            end,
+            ahead,
+            m,
+        }
+    }
+
+    /// What module `i` sends for a message that came on a side, with so many modules below it.
+    fn of_out(
+        head_sent: bool,
+        side: Sides,
+        end: End,
+        i: usize,
+        below: usize,
+        out: (Sides, Message),
+    ) -> Hop
+        ensures { result ≡ hop_of head_sent side end i below out }
+    {
+        let (out, m) = out;
+        match (side, out) {
+            (Sides::Wr, Sides::Wr) => Hop::down(head_sent, end, below, m),
+            _ => Hop::up(head_sent, end, i.saturating_sub(1), m),
+        }
+    }
+}
+
+/// Puts what module `i` sends in front of the list of what is on its way.
+pub(super) fn push_outs(
+    hops: &mut VecDeque<Hop>,
+    head_sent: bool,
+    side: Sides,
+    end: End,
+    i: usize,
+    below: usize,
+    mut outs: Outs,
+)
+    requires { deque_len hops.old + length outs.items ≤ deque_capacity hops.old }
+    ensures items { hops.new.items ≡ map (hop_of head_sent side end i below) outs.items ++ hops.old.items }
+    ensures few { length outs.items ≤ 2 }
+{
+    while let Some(out) = outs.pop() {
+        hops.push_front_reserved(Hop::of_out(head_sent, side, end, i, below, out));
+    }
+}
+
+impl<M: ModuleOf> Chain<M> {
+    /// What a head does with a message, and what it sends down.
+    fn head_does(&mut self, end: End, m: Message) -> Result<Option<Message>, NoMem>
+        ensures state { OnOk result (self.new.image ≡ with_end self.old.image end (head_does (end_of self.old.image end) m).state) }
+        ensures sends { IfOk result (λ sends. sends ≡ (head_does (end_of self.old.image end) m).sends) }
+        ensures err { OnErr result (self.new.image ≡ self.old.image) }
+        ensures same { SameModules self.old.image self.new.image }
+    {
+        match end {
+            End::A => self.a.head_does(m),
+            End::B => self.b.head_does(m),
+        }
+    }
+
+    /// What the driver does with a message from above, and what it sends up.
+    fn driver_does(&mut self, end: End, m: Message) -> Result<DriverSends, NoMem>
+        ensures state { OnOk result (self.new.image ≡ with_end self.old.image end (driver_does self.old.image.driver end (end_of self.old.image end) m).state) }
+        ensures sends { IfOk result (λ sends. sends ≡ (driver_does self.old.image.driver end (end_of self.old.image end) m).sends) }
+        ensures err { OnErr result (self.new.image ≡ self.old.image) }
+        ensures same { SameModules self.old.image self.new.image }
+    {
+        let driver = self.driver;
+        if !has_end(driver, end) {
+            return Ok(DriverSends::Nothing);
+        }
+        match end {
+            End::A => self.a.driver_does(driver, m),
+            End::B => self.b.driver_does(driver, m),
+        }
+    }
+
+    /// Hands a message to module `i`.
+    fn put_at(&mut self, end: End, i: usize, side: Sides, m: Message) -> Result<Outs, NoMem>
+        ensures image { OnOk result (self.new.image ≡ (put_at M.Kind.means self.old.image end i side m).image) }
+        ensures outs { IfOk result (λ outs. outs.items ≡ (put_at M.Kind.means self.old.image end i side m).outs) }
+        ensures err { OnErr result (self.new.image ≡ self.old.image) }
+        ensures same { SameModules self.old.image self.new.image }
+    {
+        match end {
+            End::A => self.a.put_at(self.alloc, i, side, m),
+            End::B => self.b.put_at(self.alloc, i, side, m),
+        }
+    }
+
+    /// A message comes to a head.
+    fn to_head(
+        &mut self,
+        hops: &mut VecDeque<Hop>,
+        head_sent: bool,
+        end: End,
+        m: Message,
+    ) -> Result<(), NoMem>
+        requires { deque_len hops.old < deque_capacity hops.old }
+        ensures image { OnOk result (carry_all M.Kind.means self.new.image hops.new.items ≡ carry_all M.Kind.means (up M.Kind.means head_sent end 0 self.old.image m) hops.old.items) }
+        ensures falls { OnOk result (load hops.new.items < load (up_hop head_sent end 0 m ∷ hops.old.items)) }
+        ensures err { OnErr result (self.new.image ≡ self.old.image) }
+        ensures same { SameModules self.old.image self.new.image }
+    {
+        let sends = self.head_does(end, m)?;
+        if head_sent {
+            return Ok(());
+        }
+        match sends {
+            Some(m) => hops.push_front_reserved(Hop::down(true, end, self.count(end), m)),
+            None => {}
+        }
+        Ok(())
+    }
+
+    /// A message comes to the driver.
+    fn to_driver(
+        &mut self,
+        hops: &mut VecDeque<Hop>,
+        head_sent: bool,
+        end: End,
+        m: Message,
+    ) -> Result<(), NoMem>
+        requires { deque_len hops.old < deque_capacity hops.old }
+        ensures image { OnOk result (carry_all M.Kind.means self.new.image hops.new.items ≡ carry_all M.Kind.means (down M.Kind.means head_sent end 0 self.old.image m) hops.old.items) }
+        ensures falls { OnOk result (load hops.new.items < load (down_hop head_sent end 0 m ∷ hops.old.items)) }
+        ensures err { OnErr result (self.new.image ≡ self.old.image) }
+        ensures same { SameModules self.old.image self.new.image }
+    {
+        let partner = partner_of(self.driver(), end);
+        let own = self.count(end);
+        let across = self.count(partner);
+        match self.driver_does(end, m)? {
+            DriverSends::Nothing => {}
+            DriverSends::Reply(m) => hops.push_front_reserved(Hop::up(head_sent, end, own, m)),
+            DriverSends::Across(m) => {
+                hops.push_front_reserved(Hop::up(head_sent, partner, across, m))
+            }
+        }
+        Ok(())
+    }
+
+    /// The number of the module that is next on a way of so many modules.
+    fn next_module(&self, side: Sides, end: End, ahead: usize) -> usize
+        requires { 0 < ahead }
+        ensures value { result ≡ next_module self.now.image side end ahead }
+        ensures few { side ≡ Side.Wr → result ≤ MOST_MODULES }
+    {
+        match side {
+            Sides::Rd => ahead,
+            Sides::Wr => self.count(end).saturating_sub(ahead - 1),
+        }
+    }
+
+    /// A message comes to a module.
+    fn to_module(&mut self, hops: &mut VecDeque<Hop>, hop: Hop) -> Result<(), NoMem>
+        requires ahead { 0 < hop.ahead }
+        requires room { deque_len hops.old + 2 ≤ deque_capacity hops.old }
+        ensures image { OnOk result (carry_all M.Kind.means self.new.image hops.new.items ≡ carry_all M.Kind.means (carry M.Kind.means self.old.image hop) hops.old.items) }
+        ensures falls { OnOk result (load hops.new.items < load (hop ∷ hops.old.items)) }
+        ensures err { OnErr result (self.new.image ≡ self.old.image) }
+        ensures same { SameModules self.old.image self.new.image }
+    {
+        let Hop {
+            head_sent,
+            side,
+            end,
+            ahead,
+            m,
+        } = hop;
+        let i = self.next_module(side, end, ahead);
+        let outs = self.put_at(end, i, side, m)?;
+        push_outs(hops, head_sent, side, end, i, ahead - 1, outs);
+        Ok(())
+    }
+
+    /// The next hop of a message that is on its way. What comes of it stands in front of what was
+    /// on its way already. Refused for want of memory alone: then nothing is changed.
+    pub(super) fn hop(&mut self, hops: &mut VecDeque<Hop>, hop: Hop) -> Result<(), NoMem>
+        ensures image { OnOk result (carry_all M.Kind.means self.new.image hops.new.items ≡ carry_all M.Kind.means (carry M.Kind.means self.old.image hop) hops.old.items) }
+        ensures falls { OnOk result (load hops.new.items < load (hop ∷ hops.old.items)) }
+        ensures err { OnErr result (self.new.image ≡ self.old.image) }
+        ensures same { SameModules self.old.image self.new.image }
+    {
+        hops.reserve(2)?;
+        if hop.ahead > 0 {
+            return self.to_module(hops, hop);
+        }
+        let Hop {
+            head_sent,
+            side,
+            end,
+            ahead: _,
+            m,
+        } = hop;
+        match side {
+            Sides::Rd => self.to_head(hops, head_sent, end, m),
+            Sides::Wr => self.to_driver(hops, head_sent, end, m),
+        }
+    }
+
+    /// Carries what is on its way to its end, and what comes of it, each before the next.
+    pub(super) fn carry_all(&mut self, mut hops: VecDeque<Hop>) -> Result<(), NoMem>
+        ensures ok { OnOk result (self.new.image ≡ carry_all M.Kind.means self.old.image hops.items) }
+        ensures same { SameModules self.old.image self.new.image }
+    {
+        while let Some(hop) = hops.pop_front() {
+            self.hop(&mut hops, hop)?;
+        }
+        Ok(())
+    }
+}

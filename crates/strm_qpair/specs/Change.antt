@@ -1,0 +1,60 @@
+-- What the calls of an end change (streamio(7): I_PUSH, I_POP, I_STR, I_SRDOPT; close(2)).
+use Rattle.std.specs.Prelude.{ℕ, ◌+◌, ◌==◌, ◌&&◌, nat_lt, Bool, false, Option, Some, None, List, [], ◌∷◌, length, drop, if◌then◌else◌}
+use Rattle.strm_msg.specs.declared.words.ReadMode.{ReadMode}
+use Rattle.strm_msg.specs.declared.words.ReadMode.TheVariants.{Rnorm}
+use Rattle.strm_msg.specs.declared.words.Prot.{Prot}
+use Rattle.strm_msg.specs.declared.words.Prot.TheVariants.{Norm}
+use Rattle.strm_queue.specs.Queue.{WaterMarks}
+use Rattle.strm_module.specs.declared.shape.Shape.{Shape}
+use Rattle.strm_qpair.specs.Pair.{fresh_pair}
+use Rattle.strm_qpair.specs.End.{EndState}
+use Rattle.strm_qpair.specs.declared.record.Record.{Record}
+use Rattle.strm_qpair.specs.declared.end.TheConstants.{MOST_MODULES}
+
+-- a module is pushed just below the head (I_PUSH)
+abbrev pub inserted : {K : Type 0} → EndState K → Shape K → EndState K
+inserted e s = record e { modules = fresh_pair s ∷ e.modules }
+
+-- the topmost module is popped, and what its queues held is discarded (I_POP)
+abbrev pub removed : {K : Type 0} → EndState K → EndState K
+removed e = record e { modules = drop 1 e.modules }
+
+-- whether another module may be pushed: on an open end that has not as many as there can be
+abbrev pub has_room : {K : Type 0} → EndState K → Bool
+has_room e = e.is_open && nat_lt (length e.modules) MOST_MODULES
+
+-- a closed end: without modules, and without messages in its head (close(2)); the driver's list stays
+abbrev pub closed : {K : Type 0} → EndState K → EndState K
+closed e = record e { is_open = false; head = []; modules = [] }
+
+-- how a head reads from now on (I_SRDOPT)
+abbrev pub with_mode : Record → ReadMode → Prot → Record
+with_mode r mode prot = record r { mode = mode; prot = prot }
+
+-- the id after this one, none after the greatest u64
+abbrev pub id_after : ℕ → Option ℕ
+id_after id = if id == 18446744073709551615 then None else Some (id + 1)
+
+-- the next id is taken, and an answer to it is awaited (I_STR)
+abbrev pub begun_with : Record → Option ℕ → Record
+begun_with r None = r
+begun_with r (Some id) = record r { next = id_after id; pending = Some id }
+
+abbrev pub begun : Record → Record
+begun r = begun_with r r.next
+
+-- the id that was taken last is given back
+abbrev pub undone : Record → Record
+undone r = record r { next = r.pending; pending = None }
+
+-- no answer is awaited or kept any longer
+abbrev pub ended : Record → Record
+ended r = record r { pending = None; kept = None }
+
+-- the record of a new stream's head
+abbrev pub fresh_record : Record
+fresh_record = record { hung = false; errno = None; mode = Rnorm; prot = Norm; next = Some 1; pending = None; kept = None }
+
+abbrev pub fresh_end : {K : Type 0} → Bool → WaterMarks → WaterMarks → EndState K
+fresh_end is_open head drv =
+    record { is_open = is_open; head_marks = head; head = []; state = fresh_record; modules = []; drv_marks = drv; drv = [] }

@@ -1,0 +1,47 @@
+-- What a stream head does with a message that comes up (Programmer's Guide: STREAMS, "Stream Head"; streamio(7), getmsg(2)).
+use Rattle.std.specs.Prelude.{ℕ, ◌==◌, ◌&&◌, Bool, true, false, Option, Some, None, List, if◌then◌else◌, is_none}
+use Rattle.strm_msg.specs.Message.{Msg, bare}
+use Rattle.strm_msg.specs.declared.kind.MsgKind.{MsgKind}
+use Rattle.strm_msg.specs.declared.kind.MsgKind.TheVariants.{MData, MProto, MPcproto, MIoctl, MIocack, MIocnak, MFlush, MHangup, MError}
+use Rattle.strm_queue.specs.Queue.{put_in, has_pcproto}
+use Rattle.strm_qpair.specs.Pair.{flushed_if}
+use Rattle.strm_qpair.specs.End.{EndState, in_head, in_state}
+use Rattle.strm_qpair.specs.declared.record.Record.{Record}
+
+abbrev pub is_id : Option ℕ → ℕ → Bool
+is_id None id = false
+is_id (Some p) id = p == id
+
+-- the answer to an ioctl is kept if it is the awaited one and none is kept (M_IOCACK, M_IOCNAK)
+abbrev pub kept_answer : Record → ℕ → Msg → Record
+kept_answer r id m = if is_id r.pending id && is_none r.kept then record r { kept = Some m } else r
+
+-- an end afterwards, and what its head sends down
+pub record HeadStep (K : Type 0) : Type 0 where
+  pub state : EndState K
+  pub sends : Option Msg
+
+abbrev pub keeps : {K : Type 0} → EndState K → HeadStep K
+keeps e = record { state = e; sends = None }
+
+-- a flush of write queues that comes up is sent down again with FLUSHR cleared
+abbrev pub flush_down : Bool → Option ℕ → Option Msg
+flush_down w band = if w then Some (bare (MFlush false true band)) else None
+
+-- the head of an open end: data and protocol messages are put into its list, even a full one; of M_PCPROTO it holds one;
+-- an error is kept, a later one in place of it, and all queues are flushed; what else comes is dropped
+abbrev pub open_head : {K : Type 0} → EndState K → MsgKind → Msg → HeadStep K
+open_head e MData m = keeps (in_head e (put_in e.head m))
+open_head e MProto m = keeps (in_head e (put_in e.head m))
+open_head e MPcproto m = keeps (if has_pcproto e.head then e else in_head e (put_in e.head m))
+open_head e (MIoctl id cmd) m = keeps e
+open_head e (MIocack id rval) m = keeps (in_state e (kept_answer e.state id m))
+open_head e (MIocnak id errno) m = keeps (in_state e (kept_answer e.state id m))
+open_head e (MFlush r w band) m = record { state = in_head e (flushed_if r band e.head); sends = flush_down w band }
+open_head e MHangup m = keeps (in_state e (record e.state { hung = true }))
+open_head e (MError errno) m =
+    record { state = in_state e (record e.state { errno = Some errno }); sends = Some (bare (MFlush true true None)) }
+
+-- the head of a closed end drops everything
+abbrev pub head_does : {K : Type 0} → EndState K → Msg → HeadStep K
+head_does e m = if e.is_open then open_head e m.kind m else keeps e

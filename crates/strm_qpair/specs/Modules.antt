@@ -1,0 +1,54 @@
+-- What no message changes about an end: which modules stand there and where they queue, and which ioctl is awaited.
+use Rattle.std.specs.Prelude.{◌≡◌, ◌<◌, ◌≤◌, ◌&&◌, ℕ, nat_lt, Bool, true, Option, Some, None, List, map, length, vec_capacity}
+use Rattle.std.specs.List.{list_all}
+use Rattle.strm_queue.specs.Queue.{WaterMarks}
+use Rattle.strm_module.specs.declared.shape.Shape.{Shape}
+use Rattle.strm_qpair.specs.Pair.{QueuePair}
+use Rattle.strm_qpair.specs.End.{EndState}
+use Rattle.strm_qpair.specs.declared.record.Record.{Record}
+
+-- which module this is, and where it queues
+pub record Identity : Type 0 where
+  pub serial : ℕ
+  pub name : List ℕ
+  pub rd : Option WaterMarks
+  pub wr : Option WaterMarks
+
+abbrev pub identity_of : {K : Type 0} → Shape K → Identity
+identity_of s = record { serial = s.serial; name = s.name.items; rd = s.rd; wr = s.wr }
+
+-- the modules of an end, topmost first
+abbrev pub identities_of : {K : Type 0} → List (QueuePair K) → List Identity
+identities_of modules = map (λ s. identity_of s.shape) modules
+
+-- the next id and the awaited one stay, and where none is awaited no answer is kept that was not kept before
+pub record SameIds (old new : Record) : Type 0 where
+  pub next : new.next ≡ old.next
+  pub pending : new.pending ≡ old.pending
+  pub kept : old.pending ≡ None → new.kept ≡ old.kept
+
+-- an end that is open or closed as before, with the same marks, the same modules and the same ids
+pub record SameEnd {K : Type 0} (old new : EndState K) : Type 0 where
+  pub is_open : new.is_open ≡ old.is_open
+  pub head_marks : new.head_marks ≡ old.head_marks
+  pub drv_marks : new.drv_marks ≡ old.drv_marks
+  pub modules : identities_of new.modules ≡ identities_of old.modules
+  pub ids : SameIds old.state new.state
+
+-- a low mark is below its high one
+abbrev pub is_fit : Option WaterMarks → Bool
+is_fit None = true
+is_fit (Some marks) = nat_lt marks.lo marks.hi
+
+abbrev pub is_fit_module : Identity → Bool
+is_fit_module i = is_fit i.rd && is_fit i.wr
+
+-- the modules' marks are fit
+abbrev pub are_fit : {K : Type 0} → List (QueuePair K) → Bool
+are_fit modules = list_all is_fit_module (identities_of modules)
+
+-- all marks of an end are fit
+pub record IsFitEnd {K : Type 0} (e : EndState K) : Type 0 where
+  pub head : e.head_marks.lo < e.head_marks.hi
+  pub drv : e.drv_marks.lo < e.drv_marks.hi
+  pub modules : are_fit e.modules ≡ true

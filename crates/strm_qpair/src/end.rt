@@ -1,0 +1,205 @@
+//! One end of a stream.
+ghost use Rattle.std.specs.Prelude.{◌≡◌, ◌∷◌, [], ◌<◌, ◌≤◌, ℕ, OnOk, OnErr, IfOk, IfErr, IfSome, IfNone, IsOk, IsSome, IsNone, Some, true, length, map, MatchOption, drop, option_map, option_copied, slice_get, vec_capacity};
+ghost use Rattle.strm_msg.specs.Message.{rank_of};
+ghost use Rattle.strm_queue.specs.Queue.{put_in, put_back_in, is_full};
+ghost use Rattle.strm_queue.specs.Room.{room_for};
+ghost use Rattle.strm_qpair.specs.End.{KeepsRoom, in_head, in_state, in_drv, shapes_of, pair_at, list_at, end_gets, end_serves};
+ghost use Rattle.strm_qpair.specs.Modules.{SameEnd, IsFitEnd};
+ghost use Rattle.strm_qpair.specs.Change.{has_room, inserted, removed, closed, fresh_end, with_mode, begun, undone, ended};
+
+use crate::pair::Pair;
+use crate::record::Record;
+use arrayvec::ArrayVec;
+use std::alloc::Global;
+use std::marker::Model;
+use strm_module::{Instance, ModuleOf, Outs, Shape};
+use strm_msg::{Message, NoMem, Prot, ReadMode, Side};
+use strm_queue::{BandQueue, Marks};
+
+mod canput;
+mod driver;
+mod head;
+
+/// The most modules that an end can have.
+pub const MOST_MODULES: usize = 8;
+
+/// One end of a stream: the head's list and record, the modules with their queues, and the driver's
+/// list. Modules are counted from 1, which is the topmost.
+///
+/// A contract sees its state, and the room of its two lists.
+#[derive(Drop)]
+pub struct StreamEnd<M: ModuleOf> {
+    is_open: bool,
+    head: BandQueue,
+    state: Record,
+    pairs: Vec<Pair<M>>,
+    drv: BandQueue,
+}
+
+impl<M: ModuleOf> Model for StreamEnd<M> {
+    ghost use Rattle.std.specs.Prelude.{◌≡◌, ◌<◌, ◌≤◌, true, length, vec_capacity};
+    ghost use Rattle.strm_qpair.specs.End.{EndValue};
+    ghost use Rattle.strm_qpair.specs.Inside.{IsKept};
+
+    ghost Value = { EndValue M.Kind };
+
+    ghost view = { λ e. record { state = record { is_open = e.is_open; head_marks = e.head.marks; head = e.head.messages; state = e.state; modules = e.pairs.items; drv_marks = e.drv.marks; drv = e.drv.messages }; head_room = e.head.room; drv_room = e.drv.room } };
+
+    ghost invariant = { λ e. IsKept (vec_capacity e.pairs) e.pairs.items e.head.marks e.drv.marks };
+}
+
+impl<M: ModuleOf> StreamEnd<M> {
+    /// An end without modules and messages. Refused for want of memory alone, which the list of
+    /// modules takes.
+    pub fn new(alloc: Global, head: Marks, drv: Marks, is_open: bool) -> Result<Self, NoMem>
+        ensures { IfOk result (λ e. e.state ≡ fresh_end is_open head drv) }
+    {
+        // The proof learns from marks that are read that the low ones are below the high ones.
+        let _head_lo = head.lo;
+        let _drv_lo = drv.lo;
+        let pairs = Vec::with_capacity(alloc, MOST_MODULES)?;
+        Ok(StreamEnd {
+            is_open,
+            head: BandQueue::new(alloc, head),
+            state: Record::new(),
+            pairs,
+            drv: BandQueue::new(alloc, drv),
+        })
+    }
+
+    /// Whether the end is open.
+    pub fn is_open(&self) -> bool
+        ensures { result ≡ self.now.state.is_open }
+    {
+        self.is_open
+    }
+
+    /// The number of modules. Their marks, and those of both lists, are such that the low one is
+    /// below the high one.
+    pub fn count(&self) -> usize
+        ensures value { result ≡ length self.now.state.modules }
+        ensures few { result ≤ MOST_MODULES }
+        ensures fit { IsFitEnd self.now.state }
+    {
+        self.pairs.len()
+    }
+
+    /// The shape of a module; `None` where there is none.
+    pub fn shape(&self, i: u8) -> Option<&Shape<M::Kind>>
+        ensures { option_copied result ≡ option_map (λ s. s.shape) (pair_at self.now.state.modules i) }
+    {
+        let i = usize::from(i);
+        if i == 0 || i > self.pairs.len() {
+            return None;
+        }
+        Some(self.pairs[i - 1].shape())
+    }
+
+    /// Whether another module may be pushed: the end is open and has fewer than `MOST_MODULES`.
+    pub fn has_room(&self) -> bool
+        ensures { result ≡ has_room self.now.state }
+    {
+        self.is_open && self.pairs.len() < MOST_MODULES
+    }
+
+    /// Puts a module just below the head, with empty queues. Takes no memory.
+    pub fn insert(&mut self, alloc: Global, instance: Instance<M>)
+        requires { has_room self.old.state ≡ true }
+        ensures { self.new ≡ record self.old { state = inserted self.old.state instance } }
+    {
+        match self.pairs.insert(0, Pair::new(alloc, instance)) {
+            Ok(()) => {}
+            Err(_) => unreachable!(),
+        }
+    }
+
+    /// Takes the topmost module out, and drops what its queues hold. Takes no memory.
+    pub fn remove(&mut self) -> Option<Instance<M>>
+        ensures some { IfSome result (λ it. shapes_of self.old.state ≡ it ∷ shapes_of self.new.state) }
+        ensures none { IfNone result (self.old.state.modules ≡ []) }
+        ensures end { self.new ≡ record self.old { state = removed self.old.state } }
+    {
+        if self.pairs.is_empty() {
+            return None;
+        }
+        Some(self.pairs.remove(0).into_instance())
+    }
+
+    /// Takes all modules out, topmost first, drops what their queues and the head's list hold, and
+    /// closes the end (close(2)). The driver's list stays. Takes no memory, and no list loses room.
+    pub fn close(&mut self) -> ArrayVec<Option<Instance<M>>, MOST_MODULES>
+        ensures instances { result.items ≡ map (λ s. Some s.shape) self.old.state.modules }
+        ensures state { self.new.state ≡ closed self.old.state }
+        ensures head_room { KeepsRoom self.old.head_room self.new.head_room }
+        ensures drv_room { self.new.drv_room ≡ self.old.drv_room }
+    {
+        let instances = take_modules(&mut self.pairs);
+        empty_list(&mut self.head);
+        self.is_open = false;
+        instances
+    }
+
+    /// The module with this number takes a message that comes to it on a side; without one it is
+    /// dropped. Refused for want of memory alone: then nothing is changed.
+    pub fn put_at(&mut self, alloc: Global, i: usize, side: Side, m: Message) -> Result<Outs, NoMem>
+        ensures outs { IfOk result (λ outs. outs.items ≡ (end_gets M.Kind.means self.old.state i side m).outs) }
+        ensures state { OnOk result (self.new.state ≡ (end_gets M.Kind.means self.old.state i side m).state) }
+        ensures err { OnErr result (self.new.state ≡ self.old.state) }
+        ensures same { SameEnd self.old.state self.new.state }
+    {
+        if i == 0 || i > self.pairs.len() {
+            return Ok(Outs::new());
+        }
+        self.pairs[i - 1].put(alloc, side, m)
+    }
+
+    /// The module with this number serves the first message of its queue of a side; without one
+    /// nothing is done. Refused for want of memory alone: then the message may be lost.
+    pub fn serve_at(&mut self, alloc: Global, i: usize, side: Side) -> Result<Outs, NoMem>
+        ensures outs { IfOk result (λ outs. outs.items ≡ (end_serves M.Kind.means self.old.state i side).outs) }
+        ensures state { OnOk result (self.new.state ≡ (end_serves M.Kind.means self.old.state i side).state) }
+        ensures same { SameEnd self.old.state self.new.state }
+    {
+        if i == 0 || i > self.pairs.len() {
+            return Ok(Outs::new());
+        }
+        self.pairs[i - 1].serve(alloc, side)
+    }
+
+    /// The first message of a module's queue of a side.
+    pub fn front(&self, i: u8, side: Side) -> Option<&Message>
+        ensures { option_copied result ≡ slice_get (list_at self.now.state i side) 0 }
+    {
+        let i = usize::from(i);
+        if i == 0 || i > self.pairs.len() {
+            return None;
+        }
+        self.pairs[i - 1].front(side)
+    }
+}
+
+/// Takes all modules out, topmost first, and drops what their queues hold.
+fn take_modules<M: ModuleOf>(
+    pairs: &mut Vec<Pair<M>>,
+) -> ArrayVec<Option<Instance<M>>, MOST_MODULES>
+    requires { length pairs.old.items ≤ MOST_MODULES }
+    ensures instances { result.items ≡ map (λ s. Some s.shape) pairs.old.items }
+    ensures none { pairs.new.items ≡ [] }
+    ensures capacity { vec_capacity pairs.new ≡ vec_capacity pairs.old }
+{
+    let mut instances = ArrayVec::new();
+    while !pairs.is_empty() {
+        let instance = pairs.remove(0).into_instance();
+        instances.push(Some(instance));
+    }
+    instances
+}
+
+/// Drops all messages of a list.
+fn empty_list(queue: &mut BandQueue)
+    ensures messages { queue.new.messages ≡ [] }
+    ensures marks { queue.new.marks ≡ queue.old.marks }
+    ensures room { KeepsRoom queue.old.room queue.new.room }
+{
+    while let Some(_) = queue.get() {}
+}

@@ -1,0 +1,139 @@
+//! The driver's list of an end.
+ghost use Rattle.std.specs.Prelude.{◌≡◌, ◌∷◌, [], ◌<◌, ◌≤◌, OnOk, OnErr, IfOk, IfErr, IfSome, IfNone, IsOk};
+ghost use Rattle.strm_msg.specs.Message.{rank_of};
+ghost use Rattle.strm_queue.specs.Queue.{put_in};
+ghost use Rattle.strm_queue.specs.Room.{room_for};
+ghost use Rattle.strm_qpair.specs.End.{KeepsRoom, in_drv};
+ghost use Rattle.strm_qpair.specs.Modules.{SameEnd};
+ghost use Rattle.strm_qpair.specs.Pair.{flushed_if};
+ghost use Rattle.strm_qpair.specs.Driver.{flush_up, line_does, echo_does, driver_at};
+
+use super::StreamEnd;
+use super::head::{flush_list, put_in_list};
+use crate::driver::{Driver, DriverSends};
+use strm_module::ModuleOf;
+use strm_msg::{Errno, Message, MsgKind, NoMem};
+use strm_queue::BandQueue;
+
+/// A flush of read queues that came down goes back up.
+fn flush_back(r: bool, band: Option<u8>) -> DriverSends
+    ensures { result ≡ flush_up r band }
+{
+    if r {
+        DriverSends::Reply(Message::of_flush(true, false, band))
+    } else {
+        DriverSends::Nothing
+    }
+}
+
+impl<M: ModuleOf> StreamEnd<M> {
+    /// Flushes the driver's list, where the flush names it.
+    fn flush_driver(&mut self, is_named: bool, band: Option<u8>)
+        ensures state { self.new.state ≡ in_drv self.old.state (flushed_if is_named band self.old.state.drv) }
+        ensures same { SameEnd self.old.state self.new.state }
+    {
+        flush_list(&mut self.drv, is_named, band)
+    }
+
+    /// What a line driver does: it consumes what is written, and its list is flushed as a read
+    /// queue.
+    fn line_does(&mut self, m: Message) -> DriverSends
+        ensures state { self.new.state ≡ (line_does self.old.state m.kind).state }
+        ensures sends { result ≡ (line_does self.old.state m.kind).sends }
+        ensures same { SameEnd self.old.state self.new.state }
+    {
+        match m.kind {
+            MsgKind::MFlush { r, w: _, band } => {
+                self.flush_driver(r, band);
+                flush_back(r, band)
+            }
+            MsgKind::MIoctl { id, .. } => DriverSends::Reply(Message::of_nak(id, Errno::EINVAL)),
+            _ => DriverSends::Nothing,
+        }
+    }
+
+    /// What an echo or a loop does: it keeps what is written, and its list is flushed as a write
+    /// queue. Refused for want of memory alone: then nothing is changed.
+    fn echo_does(&mut self, m: Message) -> Result<DriverSends, NoMem>
+        ensures state { OnOk result (self.new.state ≡ (echo_does self.old.state m.kind m).state) }
+        ensures sends { IfOk result (λ sends. sends ≡ (echo_does self.old.state m.kind m).sends) }
+        ensures err { OnErr result (self.new.state ≡ self.old.state) }
+        ensures same { SameEnd self.old.state self.new.state }
+    {
+        match m.kind {
+            MsgKind::MFlush { r, w, band } => {
+                self.flush_driver(w, band);
+                Ok(flush_back(r, band))
+            }
+            MsgKind::MIoctl { id, .. } => {
+                Ok(DriverSends::Reply(Message::of_nak(id, Errno::EINVAL)))
+            }
+            MsgKind::MData | MsgKind::MProto => {
+                put_in_list(&mut self.drv, m)?;
+                Ok(DriverSends::Nothing)
+            }
+            MsgKind::MPcproto => Ok(DriverSends::Across(m)),
+            _ => Ok(DriverSends::Nothing),
+        }
+    }
+
+    /// What a driver does with a message from above, and what it sends up. Refused for want of
+    /// memory alone: then nothing is changed.
+    pub fn driver_does(&mut self, driver: Driver, m: Message) -> Result<DriverSends, NoMem>
+        ensures state { OnOk result (self.new.state ≡ (driver_at driver self.old.state m).state) }
+        ensures sends { IfOk result (λ sends. sends ≡ (driver_at driver self.old.state m).sends) }
+        ensures err { OnErr result (self.new.state ≡ self.old.state) }
+        ensures same { SameEnd self.old.state self.new.state }
+    {
+        match driver {
+            Driver::Line => Ok(self.line_does(m)),
+            Driver::Echo => self.echo_does(m),
+            Driver::Loop => self.echo_does(m),
+        }
+    }
+
+    /// The driver's list.
+    pub fn driver_list(&self) -> &BandQueue
+        ensures messages { result.now.messages ≡ self.now.state.drv }
+        ensures marks { result.now.marks ≡ self.now.state.drv_marks }
+        ensures room { result.now.room ≡ self.now.drv_room }
+    {
+        &self.drv
+    }
+
+    /// Takes the first message of the driver's list (getq(9F)). Takes no memory.
+    pub fn take_driver(&mut self) -> Option<Message>
+        ensures some { IfSome result (λ m. (self.old.state.drv ≡ m ∷ self.new.state.drv) × (self.new.state ≡ in_drv self.old.state self.new.state.drv)) }
+        ensures none { IfNone result ((self.old.state.drv ≡ []) × (self.new.state ≡ self.old.state)) }
+        ensures same { SameEnd self.old.state self.new.state }
+    {
+        self.drv.get()
+    }
+
+    /// Makes room in the driver's list, so that the next `put_driver` of a message of this rank
+    /// succeeds. Refused for want of memory alone, and not where the room is there. No rank loses
+    /// room.
+    pub fn driver_room(&mut self, rank: u16) -> Result<(), NoMem>
+        requires { rank ≤ 256 }
+        ensures room { OnOk result (0 < room_for self.new.drv_room rank) }
+        ensures enough { 0 < room_for self.old.drv_room rank → IsOk result }
+        ensures drv_room { KeepsRoom self.old.drv_room self.new.drv_room }
+        ensures head_room { self.new.head_room ≡ self.old.head_room }
+        ensures state { self.new.state ≡ self.old.state }
+    {
+        self.drv.make_room(rank)
+    }
+
+    /// Puts a message into the driver's list (putq(9F)).
+    ///
+    /// Refused for want of memory alone: the message comes back, and nothing is changed.
+    pub fn put_driver(&mut self, m: Message) -> Result<(), Message>
+        ensures ok { OnOk result (self.new.state ≡ in_drv self.old.state (put_in self.old.state.drv m)) }
+        ensures err { OnErr result (self.new.state ≡ self.old.state) }
+        ensures back { IfErr result (λ same. same ≡ m) }
+        ensures room { 0 < room_for self.old.drv_room (rank_of m) → IsOk result }
+        ensures head_room { self.new.head_room ≡ self.old.head_room }
+    {
+        self.drv.put(m)
+    }
+}

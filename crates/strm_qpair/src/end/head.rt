@@ -1,0 +1,174 @@
+//! The stream head of an end.
+ghost use Rattle.std.specs.Prelude.{◌≡◌, ◌∷◌, [], ◌<◌, ◌≤◌, OnOk, OnErr, IfOk, IfErr, IsOk, IsSome, IsNone, MatchOption, drop};
+ghost use Rattle.strm_msg.specs.Message.{rank_of};
+ghost use Rattle.strm_queue.specs.Queue.{put_in, put_back_in};
+ghost use Rattle.strm_queue.specs.Room.{room_for};
+ghost use Rattle.strm_qpair.specs.End.{KeepsRoom, in_head, in_state};
+ghost use Rattle.strm_qpair.specs.Modules.{SameEnd};
+ghost use Rattle.strm_qpair.specs.Head.{head_does};
+ghost use Rattle.strm_qpair.specs.Change.{with_mode, begun, undone, ended};
+ghost use Rattle.strm_qpair.specs.Pair.{flushed_if};
+
+use super::StreamEnd;
+use crate::record::Record;
+use std::alloc::Global;
+use strm_module::ModuleOf;
+use strm_msg::{Message, MsgKind, NoMem, Prot, ReadMode};
+use strm_queue::BandQueue;
+
+/// A flush of a whole list or of one band, where the flush names the list.
+pub(super) fn flush_list(queue: &mut BandQueue, is_named: bool, band: Option<u8>)
+    ensures messages { queue.new.messages ≡ flushed_if is_named band queue.old.messages }
+    ensures marks { queue.new.marks ≡ queue.old.marks }
+{
+    if is_named {
+        match band {
+            Some(b) => queue.flush_band(b),
+            None => queue.flush(),
+        }
+    }
+}
+
+/// Puts a message into a list. Refused for want of memory alone: then nothing is changed.
+pub(super) fn put_in_list(queue: &mut BandQueue, m: Message) -> Result<(), NoMem>
+    ensures ok { OnOk result (queue.new.messages ≡ put_in queue.old.messages m) }
+    ensures err { OnErr result (queue.new.messages ≡ queue.old.messages) }
+    ensures marks { queue.new.marks ≡ queue.old.marks }
+{
+    match queue.put(m) {
+        Ok(()) => Ok(()),
+        Err(_) => Err(NoMem),
+    }
+}
+
+impl<M: ModuleOf> StreamEnd<M> {
+    /// What the head does with a message from below, and what it sends down (strrput). Refused for
+    /// want of memory alone: then nothing is changed.
+    pub fn head_does(&mut self, m: Message) -> Result<Option<Message>, NoMem>
+        ensures state { OnOk result (self.new.state ≡ (head_does self.old.state m).state) }
+        ensures sends { IfOk result (λ sends. sends ≡ (head_does self.old.state m).sends) }
+        ensures err { OnErr result (self.new.state ≡ self.old.state) }
+        ensures same { SameEnd self.old.state self.new.state }
+    {
+        if !self.is_open {
+            return Ok(None);
+        }
+        match m.kind {
+            MsgKind::MData | MsgKind::MProto => {
+                put_in_list(&mut self.head, m)?;
+                Ok(None)
+            }
+            MsgKind::MPcproto => {
+                if !self.head.has_pcproto() {
+                    put_in_list(&mut self.head, m)?;
+                }
+                Ok(None)
+            }
+            MsgKind::MIocack { id, .. } | MsgKind::MIocnak { id, .. } => {
+                self.state.keep(id, m);
+                Ok(None)
+            }
+            MsgKind::MFlush { r, w, band } => {
+                flush_list(&mut self.head, r, band);
+                Ok(if w {
+                    Some(Message::of_flush(false, true, band))
+                } else {
+                    None
+                })
+            }
+            MsgKind::MHangup => {
+                self.state.hung = true;
+                Ok(None)
+            }
+            MsgKind::MError { errno } => {
+                self.state.errno = Some(errno);
+                Ok(Some(Message::of_flush(true, true, None)))
+            }
+            MsgKind::MIoctl { .. } => Ok(None),
+        }
+    }
+
+    /// The list of the head.
+    pub fn head(&self) -> &BandQueue
+        ensures messages { result.now.messages ≡ self.now.state.head }
+        ensures marks { result.now.marks ≡ self.now.state.head_marks }
+        ensures room { result.now.room ≡ self.now.head_room }
+    {
+        &self.head
+    }
+
+    /// Takes the first message of the head's list. Takes no memory, and no rank loses room.
+    pub fn take_head(&mut self) -> Option<Message>
+        ensures first { MatchOption result (self.old.state.head ≡ []) (λ m. self.old.state.head ≡ m ∷ self.new.state.head) }
+        ensures state { self.new.state ≡ in_head self.old.state (drop 1 self.old.state.head) }
+        ensures head_room { KeepsRoom self.old.head_room self.new.head_room }
+        ensures drv_room { self.new.drv_room ≡ self.old.drv_room }
+    {
+        self.head.get()
+    }
+
+    /// Makes room in the head's list, so that the next `put_back_head` of a message of this rank
+    /// succeeds. Refused for want of memory alone, and not where the room is there. No rank loses
+    /// room.
+    pub fn head_room(&mut self, rank: u16) -> Result<(), NoMem>
+        requires { rank ≤ 256 }
+        ensures room { OnOk result (0 < room_for self.new.head_room rank) }
+        ensures enough { 0 < room_for self.old.head_room rank → IsOk result }
+        ensures head_room { KeepsRoom self.old.head_room self.new.head_room }
+        ensures drv_room { self.new.drv_room ≡ self.old.drv_room }
+        ensures state { self.new.state ≡ self.old.state }
+    {
+        self.head.make_room(rank)
+    }
+
+    /// Puts a message back into the head's list, before those of its rank (putbq(9F)).
+    ///
+    /// Refused for want of memory alone: the message comes back, and nothing is changed.
+    pub fn put_back_head(&mut self, m: Message) -> Result<(), Message>
+        ensures ok { OnOk result (self.new.state ≡ in_head self.old.state (put_back_in self.old.state.head m)) }
+        ensures err { OnErr result (self.new.state ≡ self.old.state) }
+        ensures back { IfErr result (λ same. same ≡ m) }
+        ensures room { 0 < room_for self.old.head_room (rank_of m) → IsOk result }
+        ensures drv_room { self.new.drv_room ≡ self.old.drv_room }
+    {
+        self.head.put_back(m)
+    }
+
+    /// What the head remembers beside its list.
+    pub fn state(&self) -> &Record
+        ensures { result.now ≡ self.now.state.state }
+    {
+        &self.state
+    }
+
+    /// Sets how reads treat messages (I_SRDOPT).
+    pub fn set_mode(&mut self, mode: ReadMode, prot: Prot)
+        ensures { self.new ≡ record self.old { state = in_state self.old.state (with_mode self.old.state.state mode prot) } }
+    {
+        self.state.set_mode(mode, prot)
+    }
+
+    /// Takes the next id for an ioctl, whose answer is awaited from then on (I_STR). `None`, with
+    /// nothing changed, once the greatest id was given out.
+    pub fn begin_ioctl(&mut self) -> Option<u64>
+        ensures id { result ≡ self.old.state.state.next }
+        ensures end { self.new ≡ record self.old { state = in_state self.old.state (begun self.old.state.state) } }
+    {
+        self.state.begin()
+    }
+
+    /// Gives the id back that was taken last, where its ioctl was not sent.
+    pub fn undo_ioctl(&mut self)
+        ensures { self.new ≡ record self.old { state = in_state self.old.state (undone self.old.state.state) } }
+    {
+        self.state.undo()
+    }
+
+    /// Gives the answer to an ioctl, if one came, and awaits none any longer.
+    pub fn end_ioctl(&mut self) -> Option<Message>
+        ensures answer { result ≡ self.old.state.state.kept }
+        ensures end { self.new ≡ record self.old { state = in_state self.old.state (ended self.old.state.state) } }
+    {
+        self.state.end()
+    }
+}

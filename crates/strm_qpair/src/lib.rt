@@ -1,0 +1,15 @@
+//! Queue pairs, and one end of a stream: its head, its modules with their queues, and its driver's
+//! list.
+//!
+//! What each of them does with one message stands here; how a message gets from one to the next is
+//! the work of a chain (Programmer's Guide: STREAMS, "Queue Structures" and "Flow Control").
+#![tactic(auto)]
+
+mod driver;
+mod end;
+mod pair;
+mod record;
+
+pub use driver::{Driver, DriverSends};
+pub use end::{MOST_MODULES, StreamEnd};
+pub use record::Record;

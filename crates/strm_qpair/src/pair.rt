@@ -1,0 +1,201 @@
+//! A module with its two queues.
+ghost use Rattle.std.specs.Prelude.{◌≡◌, [], ◌∷◌, IfOk, OnOk, OnErr, IsSome, IfSome, IfNone, true, option_map, option_copied, slice_get};
+ghost use Rattle.strm_queue.specs.Queue.{put_in};
+ghost use Rattle.strm_qpair.specs.Pair.{messages_in, marks_in, list_on, fresh_pair, flushed, flushed_pair, pair_gets, pair_serves};
+ghost use Rattle.strm_qpair.specs.Modules.{identity_of, is_fit, is_fit_module};
+ghost use Rattle.strm_qpair.specs.Canput.{fill_on, is_full_in};
+
+use std::alloc::Global;
+use std::marker::Model;
+use strm_module::{Instance, ModuleOf, Outs, Put, Shape};
+use strm_msg::{Message, MsgKind, NoMem, Side};
+use strm_queue::{BandQueue, Marks};
+
+/// A module with its two queues: one on each side for which its shape has marks.
+#[derive(Drop)]
+pub(crate) struct Pair<M: ModuleOf> {
+    instance: Instance<M>,
+    rd: Option<BandQueue>,
+    wr: Option<BandQueue>,
+}
+
+impl<M: ModuleOf> Model for Pair<M> {
+    ghost use Rattle.std.specs.Prelude.{◌≡◌};
+    ghost use Rattle.strm_qpair.specs.Pair.{QueuePair, messages_in, marks_in};
+
+    ghost Value = { QueuePair M.Kind };
+
+    ghost view = { λ s. record { shape = s.instance; rd = messages_in s.rd; wr = messages_in s.wr } };
+
+    ghost invariant = { λ s. (marks_in s.rd ≡ s.instance.rd) × (marks_in s.wr ≡ s.instance.wr) };
+}
+
+/// An empty queue, where there are marks for one.
+fn queue_of(alloc: Global, marks: Option<Marks>) -> Option<BandQueue>
+    ensures marks { marks_in result ≡ marks }
+    ensures empty { messages_in result ≡ [] }
+    ensures fit { is_fit marks ≡ true }
+{
+    match marks {
+        Some(marks) => {
+            // The proof learns from a mark that is read that the low one is below the high one.
+            let _lo = marks.lo;
+            Some(BandQueue::new(alloc, marks))
+        }
+        None => None,
+    }
+}
+
+/// Flushes a queue that may be missing.
+fn flush_queue(queue: &mut Option<BandQueue>, band: Option<u8>)
+    ensures messages { messages_in queue.new ≡ flushed band (messages_in queue.old) }
+    ensures marks { marks_in queue.new ≡ marks_in queue.old }
+{
+    if let Some(queue) = queue {
+        match band {
+            Some(b) => queue.flush_band(b),
+            None => queue.flush(),
+        }
+    }
+}
+
+/// Puts a message into a queue that is there.
+fn put_in_queue(queue: &mut Option<BandQueue>, m: Message) -> Result<(), NoMem>
+    requires { IsSome queue.old }
+    ensures messages { OnOk result (messages_in queue.new ≡ put_in (messages_in queue.old) m) }
+    ensures marks { marks_in queue.new ≡ marks_in queue.old }
+    ensures err { OnErr result (messages_in queue.new ≡ messages_in queue.old) }
+{
+    match queue {
+        Some(queue) => match queue.put(m) {
+            Ok(()) => Ok(()),
+            Err(_) => Err(NoMem),
+        },
+        None => unreachable!(),
+    }
+}
+
+/// Takes the first message of a queue that may be missing.
+fn take_front(queue: &mut Option<BandQueue>) -> Option<Message>
+    ensures some { IfSome result (λ m. messages_in queue.old ≡ m ∷ messages_in queue.new) }
+    ensures none { IfNone result ((messages_in queue.old ≡ []) × (messages_in queue.new ≡ [])) }
+    ensures marks { marks_in queue.new ≡ marks_in queue.old }
+{
+    match queue {
+        Some(queue) => queue.get(),
+        None => None,
+    }
+}
+
+impl<M: ModuleOf> Pair<M> {
+    /// A module with empty queues. Takes no memory.
+    pub(crate) fn new(alloc: Global, instance: Instance<M>) -> Pair<M>
+        ensures value { result ≡ fresh_pair instance }
+        ensures fit { is_fit_module (identity_of instance) ≡ true }
+    {
+        let rd = queue_of(alloc, instance.shape().rd);
+        let wr = queue_of(alloc, instance.shape().wr);
+        Pair { instance, rd, wr }
+    }
+
+    /// What the module is and keeps.
+    pub(crate) fn shape(&self) -> &Shape<M::Kind>
+        ensures { result.now ≡ self.now.shape }
+    {
+        self.instance.shape()
+    }
+
+    /// The module, without its queues.
+    pub(crate) fn into_instance(self) -> Instance<M>
+        ensures { result ≡ self.shape }
+    {
+        let Pair {
+            instance,
+            rd: _,
+            wr: _,
+        } = self;
+        instance
+    }
+
+    /// A flush empties the queues that its flags name.
+    fn flush(&mut self, kind: MsgKind)
+        ensures { self.new ≡ flushed_pair self.old kind }
+    {
+        if let MsgKind::MFlush { r, w, band } = kind {
+            if r {
+                flush_queue(&mut self.rd, band);
+            }
+            if w {
+                flush_queue(&mut self.wr, band);
+            }
+        }
+    }
+
+    /// A message comes to the module. Its answer comes first, since it may be refused; a flush then
+    /// empties the queues.
+    pub(crate) fn put(&mut self, alloc: Global, side: Side, m: Message) -> Result<Outs, NoMem>
+        ensures outs { IfOk result (λ outs. outs.items ≡ (pair_gets M.Kind.means self.old side m).outs) }
+        ensures pair { OnOk result (self.new ≡ (pair_gets M.Kind.means self.old side m).pair) }
+        ensures err { OnErr result (self.new ≡ self.old) }
+        ensures identity { identity_of self.new.shape ≡ identity_of self.old.shape }
+    {
+        let kind = m.kind;
+        match self.instance.put(alloc, side, m)? {
+            Put::Sent(outs) => {
+                self.flush(kind);
+                Ok(outs)
+            }
+            Put::Queue(m) => {
+                match side {
+                    Side::Rd => put_in_queue(&mut self.rd, m)?,
+                    Side::Wr => put_in_queue(&mut self.wr, m)?,
+                }
+                Ok(Outs::new())
+            }
+        }
+    }
+
+    /// Whether the queue of a side is full in a band, if there is one.
+    pub(crate) fn full_on(&self, side: Side, b: u8) -> Option<bool>
+        ensures { result ≡ option_map (is_full_in b) (fill_on side self.now) }
+    {
+        let queue = match side {
+            Side::Rd => &self.rd,
+            Side::Wr => &self.wr,
+        };
+        match queue {
+            Some(queue) => Some(queue.full(b)),
+            None => None,
+        }
+    }
+
+    /// The first message of the queue of a side.
+    pub(crate) fn front(&self, side: Side) -> Option<&Message>
+        ensures { option_copied result ≡ slice_get (list_on self.now side) 0 }
+    {
+        let queue = match side {
+            Side::Rd => &self.rd,
+            Side::Wr => &self.wr,
+        };
+        match queue {
+            Some(queue) => queue.first(),
+            None => None,
+        }
+    }
+
+    /// The module serves the first message of its queue of a side.
+    pub(crate) fn serve(&mut self, alloc: Global, side: Side) -> Result<Outs, NoMem>
+        ensures outs { IfOk result (λ outs. outs.items ≡ (pair_serves M.Kind.means self.old side).outs) }
+        ensures pair { OnOk result (self.new ≡ (pair_serves M.Kind.means self.old side).pair) }
+        ensures identity { identity_of self.new.shape ≡ identity_of self.old.shape }
+    {
+        let front = match side {
+            Side::Rd => take_front(&mut self.rd),
+            Side::Wr => take_front(&mut self.wr),
+        };
+        match front {
+            Some(m) => self.instance.serve(alloc, side, m),
+            None => Ok(Outs::new()),
+        }
+    }
+}

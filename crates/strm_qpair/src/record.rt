@@ -1,0 +1,89 @@
+//! What a head remembers beside its list.
+ghost use Rattle.std.specs.Prelude.{◌≡◌};
+ghost use Rattle.strm_qpair.specs.Change.{fresh_record, with_mode, begun, undone, ended};
+ghost use Rattle.strm_qpair.specs.Head.{kept_answer};
+ghost use Rattle.strm_qpair.specs.Modules.{SameIds};
+
+use strm_msg::{Errno, Message, Prot, ReadMode};
+
+/// What a head remembers beside its list (stdata).
+#[derive(Debug, Drop, PartialEq, Eq)]
+pub struct Record {
+    /// Whether the end was hung up (M_HANGUP).
+    pub hung: bool,
+    /// The latest error (M_ERROR).
+    pub errno: Option<Errno>,
+    /// How read treats the bounds of messages.
+    pub mode: ReadMode,
+    /// How read treats control parts.
+    pub prot: Prot,
+    /// The id of the next ioctl, or `None` once the greatest was given out.
+    pub next: Option<u64>,
+    /// The id of the ioctl whose answer is awaited.
+    pub pending: Option<u64>,
+    /// The answer to it.
+    pub kept: Option<Message>,
+}
+
+impl Record {
+    /// The record of a new stream's head.
+    pub(crate) fn new() -> Self
+        ensures { result ≡ fresh_record }
+    {
+        Record {
+            hung: false,
+            errno: None,
+            mode: ReadMode::Rnorm,
+            prot: Prot::Norm,
+            next: Some(1),
+            pending: None,
+            kept: None,
+        }
+    }
+
+    /// Keeps an answer that is awaited.
+    pub(crate) fn keep(&mut self, id: u64, m: Message)
+        ensures record { self.new ≡ kept_answer self.old id m }
+        ensures same { SameIds self.old self.new }
+    {
+        if self.pending == Some(id) && self.kept.is_none() {
+            self.kept = Some(m);
+        }
+    }
+
+    /// Sets how read treats messages.
+    pub(crate) fn set_mode(&mut self, mode: ReadMode, prot: Prot)
+        ensures { self.new ≡ with_mode self.old mode prot }
+    {
+        self.mode = mode;
+        self.prot = prot;
+    }
+
+    /// Takes the next id, whose answer is then awaited.
+    pub(crate) fn begin(&mut self) -> Option<u64>
+        ensures id { result ≡ self.old.next }
+        ensures record { self.new ≡ begun self.old }
+    {
+        let id = self.next?;
+        self.next = if id == u64::MAX { None } else { Some(id + 1) };
+        self.pending = Some(id);
+        Some(id)
+    }
+
+    /// Gives the latest id back.
+    pub(crate) fn undo(&mut self)
+        ensures { self.new ≡ undone self.old }
+    {
+        self.next = self.pending;
+        self.pending = None;
+    }
+
+    /// Gives the answer, and awaits none any longer.
+    pub(crate) fn end(&mut self) -> Option<Message>
+        ensures answer { result ≡ self.old.kept }
+        ensures record { self.new ≡ ended self.old }
+    {
+        self.pending = None;
+        self.kept.take()
+    }
+}

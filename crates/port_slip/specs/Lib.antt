@@ -2,3 +2,4 @@ pub mod Frame
 pub mod FrameLaws
 pub mod Slip
 pub mod SlipLaws
+pub mod Stack

@@ -7,8 +7,12 @@ mod framing;
 mod kinds;
 mod laws;
 mod slip;
+mod stack;
+#[cfg(test)]
+mod tests;
 
 pub use framing::{first_datagram, frame};
 pub use kinds::SlipKind;
 pub use laws::{frames_keep_datagrams, modules_keep_datagrams};
 pub use slip::ByShape;
+pub use stack::send;

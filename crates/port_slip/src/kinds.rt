@@ -33,7 +33,9 @@ pub enum SlipKind {
     /// the data that comes next. A flush of the read side, of whichever bands, and a hangup drop what is
     /// kept. All other messages go on unchanged.
     Slip {
-        /// What came up and has not gone on. Of a frame without its END at most 2012 bytes are kept.
+        /// What came up and has not gone on. Where fewer than two datagrams went up, it is a frame
+        /// without its END, of which at most 2012 bytes are kept. Else it is all that came behind the
+        /// second one: a line that always brings more than two frames in a message makes it grow.
         kept: Bytes,
     },
 }

@@ -1,0 +1,4 @@
+pub mod FrameLemmas
+pub mod PieceLemmas
+pub mod SlipLemmas
+pub mod WorkedExamples

@@ -1,0 +1,83 @@
+-- SLIP: datagrams on a line of bytes (RFC 1055). END is 192 and ESC is 219; ESC 220 stands for END
+-- within a frame, and ESC 221 for ESC.
+use Rattle.std.specs.Prelude.{ℕ, zero, suc, ◌==◌, not, Bool, Option, Some, None, List, [], ◌∷◌, ◌++◌, if◌then◌else◌, take, option_map, unwrap_or}
+use Rattle.std.specs.List.{flat_map, list_all}
+
+abbrev pub is_end : ℕ → Bool
+is_end b = b == 192
+
+abbrev pub is_esc : ℕ → Bool
+is_esc b = b == 219
+
+-- a byte of a datagram, as a frame spells it
+abbrev pub escaped_byte : ℕ → List ℕ
+escaped_byte b =
+    if is_end b then 219 ∷ 220 ∷ [] else if is_esc b then 219 ∷ 221 ∷ [] else b ∷ []
+
+abbrev pub escaped : List ℕ → List ℕ
+escaped bytes = flat_map escaped_byte bytes
+
+-- a datagram as a frame: END, its bytes escaped, and END. The END in front ends what noise a receiver
+-- may hold
+abbrev pub framed : List ℕ → List ℕ
+framed datagram = 192 ∷ (escaped datagram ++ 192 ∷ [])
+
+-- what a byte behind an ESC stands for: any but 220 and 221, which nobody should send, for itself
+abbrev pub meant_by : ℕ → ℕ
+meant_by b = if b == 220 then 192 else if b == 221 then 219 else b
+
+-- the datagram that a frame's bytes spell. An END always ends a frame, where RFC 1055's code would take
+-- one behind an ESC into the datagram; nobody should send that either, and the ESC stands for itself
+abbrev pub unescaped : List ℕ → List ℕ
+unescaped [] = []
+unescaped (a ∷ []) = a ∷ []
+unescaped (a ∷ (b ∷ bytes)) =
+    if is_esc a then meant_by b ∷ unescaped bytes else a ∷ unescaped (b ∷ bytes)
+
+-- a datagram has at most 1006 bytes: what a frame spells beyond them is dropped
+abbrev pub datagram_of : List ℕ → List ℕ
+datagram_of frame = take 1006 (unescaped frame)
+
+-- no byte is an END
+abbrev pub has_no_end : List ℕ → Bool
+has_no_end bytes = list_all (λ b. not (is_end b)) bytes
+
+-- the bytes before the first END and those behind it, where there is an END
+abbrev pub cut : List ℕ → Option (List ℕ × List ℕ)
+cut [] = None
+cut (b ∷ bytes) =
+    if is_end b then Some ([], bytes) else option_map (λ c. (b ∷ c.0, c.1)) (cut bytes)
+
+-- without the ENDs in front: a frame without bytes is no datagram
+abbrev pub begun : List ℕ → List ℕ
+begun [] = []
+begun (b ∷ bytes) = if is_end b then begun bytes else b ∷ bytes
+
+-- the datagrams that bytes from a line spell, in order, and the bytes that wait for more
+pub record Received : Type 0 where
+  pub datagrams : List (List ℕ)
+  pub kept : List ℕ
+
+-- a frame that has no END yet: 2012 bytes, which spell any datagram, are kept of it
+abbrev pub unfinished : List ℕ → Received
+unfinished bytes = record { datagrams = []; kept = take 2012 bytes }
+
+abbrev pub with_datagram : List ℕ → Received → Received
+with_datagram datagram more =
+    record { datagrams = datagram ∷ more.datagrams; kept = more.kept }
+
+abbrev pub with_datagrams : List (List ℕ) → Received → Received
+with_datagrams datagrams more =
+    record { datagrams = datagrams ++ more.datagrams; kept = more.kept }
+
+-- the first datagram, and the bytes behind its frame
+abbrev pub first_of : List ℕ → Option (List ℕ × List ℕ)
+first_of bytes = option_map (λ c. (datagram_of c.0, c.1)) (cut (begun bytes))
+
+-- at most n datagrams, the first ones: all that is behind the end of the n-th frame waits as it is
+abbrev pub received : ℕ → List ℕ → Received
+received zero bytes = record { datagrams = []; kept = bytes }
+received (suc n) bytes =
+    unwrap_or
+    (option_map (λ first. with_datagram first.0 (received n first.1)) (first_of bytes))
+    (unfinished (begun bytes))

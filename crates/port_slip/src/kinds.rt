@@ -1,0 +1,165 @@
+//! The kinds of module that a program with SLIP has.
+ghost use Rattle.std.specs.Prelude.{◌≡◌, [], ◌++◌, take, unwrap_or, option_map, IfOk, OnOk, OnErr, IsTrue};
+ghost use Rattle.strm_msg.specs.Message.{data_msg};
+ghost use Rattle.strm_msg.specs.declared.words.Side.TheVariants as Side;
+ghost use Rattle.strm_module.specs.Kinds.{all_go_up};
+ghost use Rattle.port_slip.specs.Frame.{framed, begun, received};
+ghost use Rattle.port_slip.specs.Slip.{datagrams_up, received_action, kept_after, slip_action};
+ghost use Rattle.port_slip.specs.declared.kinds.SlipKind.TheVariants as SlipKind;
+
+use crate::framing::{begun, first_datagram, frame};
+use std::alloc::{AllocError, Global};
+use strm_module::{Kind, Kinds, Outs, both, pass_on};
+use strm_msg::{Bytes, Message, MsgKind, NoMem, Side as Sides};
+
+/// The most bytes that are kept of a frame that has not ended: each byte of a datagram takes two at
+/// most.
+const MOST_KEPT: usize = 2012;
+
+/// What a module does with messages, and what it keeps for that: SLIP, or one of the framework's
+/// eight.
+#[derive(Debug, Drop, PartialEq, Eq)]
+pub enum SlipKind {
+    /// One of the eight kinds, with its meaning.
+    Eight {
+        /// Which one, with what it keeps.
+        kind: Kind,
+    },
+    /// Datagrams on a line of bytes (RFC 1055). A data message on its way down becomes a frame, in its
+    /// band. Data on its way up is unframed: each datagram goes up as a message of its own, in the
+    /// band of the message with which its frame ended.
+    ///
+    /// A call sends two datagrams at most. What is behind the second one is kept, and goes up with
+    /// the data that comes next. A flush of the read side, of whichever bands, and a hangup drop what is
+    /// kept. All other messages go on unchanged.
+    Slip {
+        /// What came up and has not gone on. Where fewer than two datagrams went up, it is a frame
+        /// without its END, of which at most 2012 bytes are kept. Else it is all that came behind the
+        /// second one: a line that always brings more than two frames in a message makes it grow.
+        kept: Bytes,
+    },
+}
+
+/// The bytes of a data part.
+fn bytes_of(part: &Option<Bytes>) -> &[u8]
+    ensures { result.now ≡ unwrap_or part.now [] }
+{
+    match part {
+        Some(bytes) => bytes.as_slice(),
+        None => &[],
+    }
+}
+
+/// A data part as a frame.
+fn framed_part(alloc: Global, part: &Option<Bytes>) -> Result<Option<Bytes>, NoMem>
+    ensures { IfOk result (λ out. out ≡ option_map framed part.now) }
+{
+    match part {
+        Some(bytes) => Ok(Some(frame(alloc, bytes.as_slice())?.into())),
+        None => Ok(None),
+    }
+}
+
+/// What is kept where no further frame ends.
+#[tactic(auto, using(std::proofs::lemmas::List::take_min))]
+fn unfinished(alloc: Global, bytes: &[u8]) -> Result<Vec<u8>, AllocError>
+    ensures { IfOk result (λ out. out.items ≡ take 2012 (begun bytes.now)) }
+{
+    let frame = begun(bytes);
+    Vec::from_slice(alloc, &frame[..MOST_KEPT.min(frame.len())])
+}
+
+/// A datagram on its way up.
+fn data_up(band: u8, datagram: Vec<u8>) -> (Sides, Message)
+    ensures { result ≡ (Side.Rd, data_msg band datagram.items) }
+{
+    let m = Message {
+        kind: MsgKind::MData,
+        band,
+        ctl: None,
+        dat: Some(datagram.into()),
+    };
+    (Sides::Rd, m)
+}
+
+/// The first two datagrams go up, and the rest is kept.
+fn receive(alloc: Global, band: u8, bytes: &[u8]) -> Result<(Outs, Vec<u8>), NoMem>
+    ensures outs { IfOk result (λ all. all.0.items ≡ datagrams_up band (received 2 bytes.now).datagrams) }
+    ensures kept { IfOk result (λ all. all.1.items ≡ (received 2 bytes.now).kept) }
+{
+    let Some((first, rest)) = first_datagram(alloc, bytes)? else {
+        return Ok((Outs::new(), unfinished(alloc, bytes)?));
+    };
+    let Some((second, rest)) = first_datagram(alloc, rest)? else {
+        let (side, m) = data_up(band, first);
+        return Ok((pass_on(side, m), unfinished(alloc, rest)?));
+    };
+    let outs = both(data_up(band, first), data_up(band, second));
+    Ok((outs, Vec::from_slice(alloc, rest)?))
+}
+
+/// Data on its way up is put behind what was kept.
+fn receive_behind(alloc: Global, kept: &mut Bytes, m: &Message) -> Result<Outs, NoMem>
+    ensures outs { IfOk result (λ outs. outs.items ≡ (received_action m.now.band (kept.old ++ unwrap_or m.now.dat [])).outs) }
+    ensures kept { OnOk result (SlipKind.Slip kept.new ≡ (received_action m.now.band (kept.old ++ unwrap_or m.now.dat [])).kind) }
+    ensures err { OnErr result (kept.new ≡ kept.old) }
+{
+    let mut bytes = Vec::from_slice(alloc, kept.as_slice())?;
+    bytes.extend_from_slice(bytes_of(&m.dat))?;
+    let (outs, rest) = receive(alloc, m.band, &bytes)?;
+    *kept = rest.into();
+    Ok(outs)
+}
+
+/// A message goes by, which may drop what is kept.
+fn let_by(alloc: Global, kept: &mut Bytes, kind: MsgKind)
+    ensures { kept.new ≡ kept_after kept.old kind }
+{
+    match kind {
+        MsgKind::MFlush { r: true, .. } | MsgKind::MHangup => *kept = Vec::new(alloc).into(),
+        _ => {}
+    }
+}
+
+/// What SLIP makes of a message.
+fn process_slip(alloc: Global, kept: &mut Bytes, side: Sides, m: Message) -> Result<Outs, NoMem>
+    ensures outs { IfOk result (λ outs. outs.items ≡ (slip_action kept.old side m.kind m).outs) }
+    ensures kept { OnOk result (SlipKind.Slip kept.new ≡ (slip_action kept.old side m.kind m).kind) }
+    ensures err { OnErr result (kept.new ≡ kept.old) }
+{
+    match (side, m.kind) {
+        (Sides::Wr, MsgKind::MData) => {
+            let dat = framed_part(alloc, &m.dat)?;
+            Ok(pass_on(side, Message { dat, ..m }))
+        }
+        (Sides::Rd, MsgKind::MData) => receive_behind(alloc, kept, &m),
+        _ => {
+            let_by(alloc, kept, m.kind);
+            Ok(pass_on(side, m))
+        }
+    }
+}
+
+impl Kinds for SlipKind {
+    ghost use Rattle.port_slip.specs.Slip.{slip};
+
+    ghost means = { slip };
+
+    fn process(&mut self, alloc: Global, side: Sides, m: Message) -> Result<Outs, NoMem> {
+        match self {
+            SlipKind::Eight { kind } => kind.process(alloc, side, m),
+            SlipKind::Slip { kept } => process_slip(alloc, kept, side, m),
+        }
+    }
+
+    fn copy(&self, alloc: Global) -> Result<SlipKind, NoMem> {
+        Ok(match self {
+            SlipKind::Eight { kind } => SlipKind::Eight {
+                kind: kind.copy(alloc)?,
+            },
+            SlipKind::Slip { kept } => SlipKind::Slip {
+                kept: kept.copy(alloc)?,
+            },
+        })
+    }
+}

@@ -1,0 +1,19 @@
+//! What SLIP promises, as laws of its definitions.
+ghost use Rattle.port_slip.specs.FrameLaws.{EscapingLeavesNoEnd, FramedIsReceived, NoiseStaysApart, PiecesAreOneLine, UnfinishedIsBounded};
+ghost use Rattle.port_slip.specs.SlipLaws.{DatagramsGoThrough};
+
+/// What was framed is received as it was, whatever stands before and behind it, for datagrams of 1 to
+/// 1006 bytes, and however the bytes come in messages. Does nothing: it carries the laws.
+pub fn frames_keep_datagrams()
+    ensures no_end { EscapingLeavesNoEnd }
+    ensures back { FramedIsReceived }
+    ensures apart { NoiseStaysApart }
+    ensures pieces { PiecesAreOneLine }
+    ensures bounded { UnfinishedIsBounded }
+{}
+
+/// A datagram that a SLIP module sends down goes up as it was at another. Does nothing: it carries the
+/// law.
+pub fn modules_keep_datagrams()
+    ensures { DatagramsGoThrough }
+{}

@@ -1,0 +1,18 @@
+//! SLIP (RFC 1055) as a module of streams: a port of a discipline onto kinds of its own.
+//!
+//! `docs/PORTING.md` walks through this crate.
+#![tactic(auto)]
+
+mod framing;
+mod kinds;
+mod laws;
+mod slip;
+mod stack;
+#[cfg(test)]
+mod tests;
+
+pub use framing::{first_datagram, frame};
+pub use kinds::SlipKind;
+pub use laws::{frames_keep_datagrams, modules_keep_datagrams};
+pub use slip::ByShape;
+pub use stack::send;

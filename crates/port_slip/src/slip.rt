@@ -1,0 +1,57 @@
+//! The object.
+ghost use Rattle.std.specs.Prelude.{◌≡◌, [], is_ok, is_none, IfOk, IfErr, Some};
+ghost use Rattle.strm_module.specs.Shape.{make_fault, new_shape};
+ghost use Rattle.port_slip.specs.declared.kinds.SlipKind.TheVariants as SlipKind;
+
+use crate::kinds::SlipKind as Kinds;
+use std::alloc::Global;
+use strm_module::{Instance, Kind, MakeFault, ModuleOf, Shape};
+
+/// Acts by its shape and keeps nothing of its own: the object for SLIP, and for the eight kinds beside
+/// it.
+#[derive(Debug, Drop)]
+pub struct ByShape;
+
+impl ModuleOf for ByShape {
+    type Kind = Kinds;
+}
+
+impl ByShape {
+    /// A SLIP module that keeps nothing yet, with a queue on each side for which a high and a low mark
+    /// are given. Nothing has come, so `alloc` is only noted. Takes no memory.
+    ///
+    /// Refused for the name first, then for the marks of either side.
+    pub fn slip(
+        alloc: Global,
+        serial: u64,
+        name: &[u8],
+        rd: Option<(u32, u32)>,
+        wr: Option<(u32, u32)>,
+    ) -> Result<Instance<ByShape>, MakeFault>
+        ensures ok { IfOk result (λ it. it ≡ new_shape serial name.now rd wr (SlipKind.Slip [])) }
+        ensures err { IfErr result (λ fault. make_fault name.now rd wr ≡ Some fault) }
+        ensures variant { is_ok result ≡ is_none (make_fault name.now rd wr) }
+    {
+        let kept = Vec::new(alloc).into();
+        let shape = Shape::new(serial, name, rd, wr, Kinds::Slip { kept })?;
+        Ok(Instance::new(shape, ByShape))
+    }
+
+    /// A module of one of the eight kinds, to stand in one chain with SLIP. Takes no memory.
+    ///
+    /// Refused for the name first, then for the marks of either side.
+    pub fn eight(
+        serial: u64,
+        name: &[u8],
+        rd: Option<(u32, u32)>,
+        wr: Option<(u32, u32)>,
+        kind: Kind,
+    ) -> Result<Instance<ByShape>, MakeFault>
+        ensures ok { IfOk result (λ it. it ≡ new_shape serial name.now rd wr (SlipKind.Eight kind)) }
+        ensures err { IfErr result (λ fault. make_fault name.now rd wr ≡ Some fault) }
+        ensures variant { is_ok result ≡ is_none (make_fault name.now rd wr) }
+    {
+        let shape = Shape::new(serial, name, rd, wr, Kinds::Eight { kind })?;
+        Ok(Instance::new(shape, ByShape))
+    }
+}

@@ -1,3 +1,4 @@
 pub mod HopLemmas
 pub mod LoadLemmas
 pub mod QuietLemmas
+pub mod WorkedExamples

@@ -1,45 +1,96 @@
 //! Worked examples, by the public calls alone. What is expected is worked out by hand from the
-//! rules, beside it.
+//! rules, beside it. Every queue has the high mark 5 and the low mark 4.
 use std::alloc::Global;
 use std::process::Abort;
-use strm_chain::{Chain, Driver, Moves, Place, Spot};
-use strm_module::{Instance, Kind, Module, Outs, Put, Shape};
-use strm_msg::{End, Message, NoMem, Prot, ReadMode, Side};
+use strm_chain::{Chain, ChainFault, Driver, Place, Spot};
+use strm_module::{Instance, Kind, ModuleOf, Plain, Shape};
+use strm_msg::{Class, End, Message};
 use strm_queue::Marks;
 
 mod faults;
 mod flushes;
 mod ioctls;
+mod lists;
+mod objects;
 mod owners;
+mod rows;
 
-/// A module that does what its shape says.
-struct Plain;
-
-impl Drop for Plain {
-    fn drop(self) {
-        let Plain = self;
-    }
+/// A message.
+#[derive(Clone, Copy, Drop)]
+enum Text<'a> {
+    /// Data of a band.
+    Data(u8, &'a [u8]),
+    /// A high protocol message without data.
+    High(&'a [u8]),
+    Hangup,
 }
 
-impl Module for Plain {
-    fn put(
-        &mut self,
-        alloc: Global,
-        shape: &mut Shape,
-        side: Side,
-        m: Message,
-    ) -> Result<Put, NoMem> {
-        shape.put(alloc, side, m)
-    }
+/// A call, and what it must answer.
+#[derive(Clone, Copy, Drop)]
+enum Call<'a> {
+    /// A message is handed in.
+    Deliver(Spot, Text<'a>),
+    /// A message is handed in, and refused.
+    DeliverFails(Spot, Text<'a>, ChainFault),
+    /// An ordinary message comes in from the line.
+    Comes(Text<'a>),
+    /// Whether a place may move.
+    May(Place, bool),
+    /// A place that may move does.
+    Serve(Place),
+    /// A place that may move is refused.
+    ServeFails(Place, ChainFault),
+    /// These places move, until none may.
+    Settle(&'a [Place]),
+    SettleFails(ChainFault),
+    /// The first message of a head is taken.
+    Read(End, Text<'a>),
+    /// How many messages the list of a head has.
+    HeadLen(End, usize),
+    /// How many bytes of band 0 the list of a head has.
+    HeadHeld(End, u128),
+    /// Whether the first write queue of end A is full in band 0.
+    FullAhead(bool),
+    /// Whether the list of the line is full in band 0.
+    LineFull(bool),
+}
 
-    fn serve(
-        &mut self,
-        alloc: Global,
-        shape: &mut Shape,
-        side: Side,
-        m: Message,
-    ) -> Result<Outs, NoMem> {
-        shape.serve(alloc, side, m)
+const DRV_A: Place = Place::Drv { end: End::A };
+
+/// Where a message comes first that is written at end A.
+const TOP_A: Spot = Spot::Down { end: End::A, i: 1 };
+
+/// Where a message comes to the head of end A.
+const HEAD_A: Spot = Spot::Up { end: End::A, i: 0 };
+
+fn wr(i: u8) -> Place {
+    Place::Wr { end: End::A, i }
+}
+
+fn rd(i: u8) -> Place {
+    Place::Rd { end: End::A, i }
+}
+
+/// Data of band 0.
+fn data(bytes: &[u8]) -> Text<'_> {
+    Text::Data(0, bytes)
+}
+
+/// Data of band 0 is written at end A.
+fn write(bytes: &[u8]) -> Call<'_> {
+    Call::Deliver(TOP_A, Text::Data(0, bytes))
+}
+
+/// Data of band 0 is taken from the head of end A.
+fn read(bytes: &[u8]) -> Call<'_> {
+    Call::Read(End::A, Text::Data(0, bytes))
+}
+
+fn message(rt: &impl Abort, alloc: Global, text: Text<'_>) -> Message {
+    match text {
+        Text::Data(band, bytes) => Message::of_data(alloc, band, bytes).expect(rt, "no memory"),
+        Text::High(bytes) => Message::of_pcproto(alloc, bytes, None).expect(rt, "no memory"),
+        Text::Hangup => Message::of_hangup(),
     }
 }
 
@@ -48,255 +99,121 @@ fn five_and_four(rt: &impl Abort) -> Marks {
     Marks::new(5, 4).expect(rt, "the low mark is below the high one")
 }
 
-fn made(rt: &impl Abort, alloc: Global, driver: Driver) -> Chain<Plain> {
+/// A chain for modules of some type.
+fn chain_over<M: ModuleOf>(rt: &impl Abort, alloc: Global, driver: Driver) -> Chain<M> {
     let marks = five_and_four(rt);
     Chain::new(alloc, driver, marks, marks).expect(rt, "no memory for a chain")
 }
 
-fn data(rt: &impl Abort, alloc: Global, band: u8, bytes: &[u8]) -> Message {
-    Message::of_data(alloc, band, bytes).expect(rt, "no memory for data")
+/// A chain for modules that act by their shapes alone.
+fn made(rt: &impl Abort, alloc: Global, driver: Driver) -> Chain<Plain> {
+    chain_over(rt, alloc, driver)
 }
 
-/// Pushes a module.
-fn push(
-    rt: &impl Abort,
-    chain: &mut Chain<Plain>,
-    end: End,
-    kind: Kind,
-    (rd, wr): (Option<(u32, u32)>, Option<(u32, u32)>),
-) {
-    let shape = Shape::new(1, b"m", rd, wr, kind).expect(rt, "a good name and good marks");
-    let instance = Instance {
-        shape,
-        module: Plain,
-    };
-    assert!(rt; chain.insert(end, instance).is_ok());
+/// Pushes a module with a queue for each side that is named.
+fn push(rt: &impl Abort, chain: &mut Chain<Plain>, end: End, kind: Kind, (rd, wr): (bool, bool)) {
+    let shape = shape_of(rt, 1, kind, (rd, wr));
+    assert!(rt; chain.insert(end, Instance::new(shape, Plain)).is_ok());
+}
+
+/// The shape of a module with a queue for each side that is named.
+fn shape_of(rt: &impl Abort, serial: u64, kind: Kind, (rd, wr): (bool, bool)) -> Shape {
+    let five = Some((5, 4));
+    let rd = if rd { five } else { None };
+    let wr = if wr { five } else { None };
+    Shape::new(serial, b"m", rd, wr, kind).expect(rt, "a good name and good marks")
 }
 
 /// Hands a message in.
-fn deliver<M: Module>(
+fn deliver<M: ModuleOf>(
     rt: &impl Abort,
-    alloc: Global,
     chain: &mut Chain<M>,
     spot: Spot,
     m: Message,
-) {
+) -> Result<(), ChainFault> {
     assert!(rt; chain.has_spot(spot));
-    assert_eq!(rt; chain.deliver(alloc, spot, m), Ok(()));
+    chain.deliver(spot, m)
 }
 
-/// Hands data in just below the head.
-fn write<M: Module>(rt: &impl Abort, alloc: Global, chain: &mut Chain<M>, end: End, bytes: &[u8]) {
-    let m = data(rt, alloc, 0, bytes);
-    deliver(rt, alloc, chain, Spot::Down { end, i: 1 }, m);
+fn serve<M: ModuleOf>(
+    rt: &impl Abort,
+    chain: &mut Chain<M>,
+    place: Place,
+) -> Result<(), ChainFault> {
+    assert!(rt; chain.may(place));
+    chain.serve_one(place)
 }
 
 /// Serves until nothing may move, by these moves.
-fn settles<M: Module>(rt: &impl Abort, alloc: Global, chain: &mut Chain<M>, want: &[Place]) {
-    let settled = chain.settle(alloc).expect(rt, "no memory to settle");
-    assert_eq!(rt; settled.moves.as_slice(), want);
+fn settles<M: ModuleOf>(rt: &impl Abort, chain: &mut Chain<M>, want: &[Place], at: usize) {
+    let settled = chain.settle().expect(rt, "no memory to settle");
+    assert_eq!(rt; settled.moves.as_slice(), want, "call {at}");
     assert_eq!(rt; settled.looks, 0);
 }
 
-/// Takes the first message of a head, which is this.
-fn reads<M: Module>(rt: &impl Abort, alloc: Global, chain: &mut Chain<M>, end: End, bytes: &[u8]) {
-    assert_eq!(rt; chain.take_head(end), Some(data(rt, alloc, 0, bytes)));
-}
-
-const DRV_A: Place = Place::Drv { end: End::A };
-
-/// The head holds 5 bytes after the first move, which is its high mark, so the second message waits
-/// in the driver until the first is taken.
-#[test]
-fn echo_waits_for_its_head(rt: HostRuntime) {
-    let alloc = rt.alloc();
-    let mut chain = made(&rt, alloc, Driver::Echo);
-    write(&rt, alloc, &mut chain, End::A, b"aaaaa");
-    assert!(rt; chain.may(DRV_A));
-    assert_eq!(rt; chain.serve_one(alloc, DRV_A), Ok(()));
-    assert_eq!(rt; chain.head(End::A).held(0), 5);
-    write(&rt, alloc, &mut chain, End::A, b"b");
-    assert!(rt; !chain.may(DRV_A));
-    settles(&rt, alloc, &mut chain, &[]);
-    reads(&rt, alloc, &mut chain, End::A, b"aaaaa");
-    settles(&rt, alloc, &mut chain, &[DRV_A]);
-
-    push(&rt, &mut chain, End::A, Kind::Pass, (None, None));
-    let removed = chain.remove(End::A).expect(&rt, "a module");
-    assert_eq!(rt; removed.shape.kind, Kind::Pass);
-    assert!(rt; chain.remove(End::A).is_none());
-}
-
-/// What came in waits in the line's list while the head holds its 5 bytes. The ids of ioctls go up,
-/// but for one that is given back.
-#[test]
-fn line_takes_what_comes_in(rt: HostRuntime) {
-    let alloc = rt.alloc();
-    let mut chain = made(&rt, alloc, Driver::Line);
+/// An ordinary message comes in from the line.
+fn comes<M: ModuleOf>(rt: &impl Abort, chain: &mut Chain<M>, text: Text<'_>) {
+    let m = message(rt, chain.alloc(), text);
     assert!(rt; chain.driver() == Driver::Line);
-    assert_eq!(rt; chain.line_put(data(&rt, alloc, 0, b"aaaaa")), Ok(()));
-    settles(&rt, alloc, &mut chain, &[DRV_A]);
+    assert!(rt; m.class() == Class::Ordinary);
+    assert_eq!(rt; chain.line_put(m), Ok(()));
+}
+
+fn line_full<M: ModuleOf>(rt: &impl Abort, chain: &Chain<M>) -> bool {
     assert!(rt; chain.driver() == Driver::Line);
-    assert_eq!(rt; chain.line_put(data(&rt, alloc, 0, b"bbbbb")), Ok(()));
-    settles(&rt, alloc, &mut chain, &[]);
-    assert!(rt; chain.driver() == Driver::Line);
-    assert!(rt; chain.line_full(0));
-    reads(&rt, alloc, &mut chain, End::A, b"aaaaa");
-    settles(&rt, alloc, &mut chain, &[DRV_A]);
-
-    assert_eq!(rt; chain.head_room(End::A, 0), Ok(()));
-    assert_eq!(rt;
-        chain.put_back_head(End::A, data(&rt, alloc, 0, b"z")),
-        Ok(())
-    );
-    reads(&rt, alloc, &mut chain, End::A, b"z");
-    reads(&rt, alloc, &mut chain, End::A, b"bbbbb");
+    chain.line_full(0)
 }
 
-/// The copies go up to the head at once, which takes them though it is full. The messages wait in
-/// the module below: one fits the driver, and moves on once the head has been read empty.
-#[test]
-fn tee_stands_over_a_blocked_module(rt: HostRuntime) {
-    let alloc = rt.alloc();
-    let mut chain = made(&rt, alloc, Driver::Echo);
-    push(&rt, &mut chain, End::A, Kind::Pass, (None, Some((5, 4))));
-    push(&rt, &mut chain, End::A, Kind::Tee, (None, None));
-    write(&rt, alloc, &mut chain, End::A, b"aaaaa");
-    assert!(rt; chain.full_ahead(End::A, 0));
-    write(&rt, alloc, &mut chain, End::A, b"bbbbb");
-    assert_eq!(rt; chain.head(End::A).held(0), 10);
-    let below = Place::Wr { end: End::A, i: 2 };
-    settles(&rt, alloc, &mut chain, &[below]);
-    reads(&rt, alloc, &mut chain, End::A, b"aaaaa");
-    settles(&rt, alloc, &mut chain, &[]);
-    reads(&rt, alloc, &mut chain, End::A, b"bbbbb");
-    settles(&rt, alloc, &mut chain, &[DRV_A, below]);
-    assert!(rt; !chain.full_ahead(End::A, 0));
-    reads(&rt, alloc, &mut chain, End::A, b"aaaaa");
-    settles(&rt, alloc, &mut chain, &[DRV_A]);
-    reads(&rt, alloc, &mut chain, End::A, b"bbbbb");
-}
-
-/// What waits for the far end's head moves on once that end is closed, and is dropped there.
-#[test]
-fn far_end_of_a_loop_is_closed(rt: HostRuntime) {
-    let alloc = rt.alloc();
-    let mut chain = made(&rt, alloc, Driver::Loop);
-    write(&rt, alloc, &mut chain, End::A, b"aaaaa");
-    settles(&rt, alloc, &mut chain, &[DRV_A]);
-    write(&rt, alloc, &mut chain, End::A, b"bbbbb");
-    settles(&rt, alloc, &mut chain, &[]);
-    assert!(rt; chain.full_ahead(End::A, 0));
-    assert_eq!(rt; chain.head(End::A).len(), 0);
-    assert_eq!(rt; chain.head(End::B).len(), 1);
-
-    assert_eq!(rt; chain.dismantle(End::B).len(), 0);
-    assert!(rt; !chain.is_open(End::B));
-    assert_eq!(rt; chain.head(End::B).len(), 0);
-    settles(&rt, alloc, &mut chain, &[DRV_A]);
-    assert!(rt; !chain.full_ahead(End::A, 0));
-    assert_eq!(rt; chain.head(End::B).len(), 0);
-    let hangup = Message::of_hangup();
-    deliver(
-        &rt,
-        alloc,
-        &mut chain,
-        Spot::Up { end: End::A, i: 0 },
-        hangup,
-    );
-    assert!(rt; chain.state(End::A).hung);
-}
-
-/// An echo has no end B: nothing is kept there, and no place of it moves.
-#[test]
-fn echo_lacks_the_far_end(rt: HostRuntime) {
-    let alloc = rt.alloc();
-    let mut chain = made(&rt, alloc, Driver::Echo);
-    assert!(rt; chain.is_open(End::A));
-    assert!(rt; !chain.is_open(End::B));
-    write(&rt, alloc, &mut chain, End::B, b"x");
-    for place in [
-        Place::Drv { end: End::B },
-        Place::Wr { end: End::B, i: 1 },
-        Place::Rd { end: End::A, i: 0 },
-    ] {
-        assert!(rt; !chain.may(place));
-    }
-    settles(&rt, alloc, &mut chain, &[]);
-    assert!(rt; !chain.full_ahead(End::B, 0));
-}
-
-/// A message of a band that isn't full passes a head that is full in another, and high messages are
-/// not held back.
-#[test]
-fn bands_are_held_back_by_themselves(rt: HostRuntime) {
-    let alloc = rt.alloc();
-    let mut chain = made(&rt, alloc, Driver::Echo);
-    write(&rt, alloc, &mut chain, End::A, b"aaaaa");
-    settles(&rt, alloc, &mut chain, &[DRV_A]);
-    write(&rt, alloc, &mut chain, End::A, b"b");
-    let urgent = data(&rt, alloc, 5, b"u");
-    deliver(
-        &rt,
-        alloc,
-        &mut chain,
-        Spot::Down { end: End::A, i: 1 },
-        urgent,
-    );
-    settles(&rt, alloc, &mut chain, &[DRV_A]);
-    assert_eq!(rt; chain.take_head(End::A), Some(data(&rt, alloc, 5, b"u")));
-    for ctl in [b"h".as_slice(), b"i"] {
-        let high = Message::of_pcproto(alloc, ctl, None).expect(&rt, "no memory");
-        deliver(
-            &rt,
-            alloc,
-            &mut chain,
-            Spot::Down { end: End::A, i: 1 },
-            high,
-        );
-    }
-    let first = Message::of_pcproto(alloc, b"h", None).expect(&rt, "no memory");
-    assert_eq!(rt; chain.take_head(End::A), Some(first));
-    reads(&rt, alloc, &mut chain, End::A, b"aaaaa");
-}
-
-#[test]
-fn reads_as_it_was_set(rt: HostRuntime) {
-    let alloc = rt.alloc();
-    let mut chain = made(&rt, alloc, Driver::Loop);
-    chain.set_mode(End::B, ReadMode::Rmsgd, Prot::Dis);
-    let state = chain.state(End::B);
-    assert_eq!(rt; (state.mode, state.prot), (ReadMode::Rmsgd, Prot::Dis));
-    let state = chain.state(End::A);
-    assert_eq!(rt; (state.mode, state.prot), (ReadMode::Rnorm, Prot::Norm));
-    assert_eq!(rt; (state.hung, state.errno), (false, None));
-}
-
-/// With one module there are the spots 1 and 2 down, and 0 and 1 up.
-#[test]
-fn end_has_its_spots(rt: HostRuntime) {
-    let alloc = rt.alloc();
-    let mut chain = made(&rt, alloc, Driver::Line);
-    push(&rt, &mut chain, End::A, Kind::Pass, (None, None));
-    assert_eq!(rt; chain.count(End::A), 1);
-    let end = End::A;
-    for (i, down, up) in [
-        (0, false, true),
-        (1, true, true),
-        (2, true, false),
-        (3, false, false),
-    ] {
-        assert_eq!(rt; chain.has_spot(Spot::Down { end, i }), down, "down {i}");
-        assert_eq!(rt; chain.has_spot(Spot::Up { end, i }), up, "up {i}");
+/// A call that changes something.
+fn acts<M: ModuleOf>(rt: &impl Abort, chain: &mut Chain<M>, call: Call<'_>, at: usize) {
+    let alloc = chain.alloc();
+    match call {
+        Call::Deliver(spot, text) => {
+            let answer = deliver(rt, chain, spot, message(rt, alloc, text));
+            assert_eq!(rt; answer, Ok(()), "call {at}");
+        }
+        Call::DeliverFails(spot, text, fault) => {
+            let answer = deliver(rt, chain, spot, message(rt, alloc, text));
+            assert_eq!(rt; answer, Err(fault), "call {at}");
+        }
+        Call::Comes(text) => comes(rt, chain, text),
+        Call::Serve(place) => {
+            let answer = serve(rt, chain, place);
+            assert_eq!(rt; answer, Ok(()), "call {at}");
+        }
+        Call::ServeFails(place, fault) => {
+            let answer = serve(rt, chain, place);
+            assert_eq!(rt; answer, Err(fault), "call {at}");
+        }
+        Call::Settle(want) => settles(rt, chain, want, at),
+        Call::SettleFails(fault) => {
+            let refused = chain.settle().err();
+            assert_eq!(rt; refused, Some(fault), "call {at}");
+        }
+        Call::Read(end, text) => {
+            let m = chain.take_head(end);
+            assert_eq!(rt; m, Some(message(rt, alloc, text)), "call {at}");
+        }
+        _ => {}
     }
 }
 
-#[test]
-fn moves_are_a_list(rt: HostRuntime) -> Result<(), std::test::Fail> {
-    let alloc = rt.alloc();
-    assert!(rt; Moves::new(alloc).is_empty());
-    let moves = Moves::from(vec![in alloc; DRV_A, DRV_A]?);
-    assert_eq!(rt; (moves.len(), moves.is_empty()), (2, false));
-    assert_eq!(rt; moves.into_vec().as_slice(), [DRV_A, DRV_A].as_slice());
-    Ok(())
+/// A call that only looks.
+fn shows<M: ModuleOf>(rt: &impl Abort, chain: &Chain<M>, call: Call<'_>, at: usize) {
+    match call {
+        Call::May(place, want) => assert_eq!(rt; chain.may(place), want, "call {at}"),
+        Call::HeadLen(end, want) => assert_eq!(rt; chain.head(end).len(), want, "call {at}"),
+        Call::HeadHeld(end, want) => assert_eq!(rt; chain.head(end).held(0), want, "call {at}"),
+        Call::FullAhead(want) => assert_eq!(rt; chain.full_ahead(End::A, 0), want, "call {at}"),
+        Call::LineFull(want) => assert_eq!(rt; line_full(rt, chain), want, "call {at}"),
+        _ => {}
+    }
+}
+
+/// Makes calls in turn, counted from 0.
+fn play<M: ModuleOf>(rt: &impl Abort, chain: &mut Chain<M>, calls: &[Call<'_>]) {
+    for (at, call) in calls.iter().enumerate() {
+        acts(rt, chain, *call, at);
+        shows(rt, chain, *call, at);
+    }
 }

@@ -1,9 +1,10 @@
 //! Flushes, as they pass modules, drivers and heads.
-use super::{Plain, data, deliver, made, push};
+use super::Call::{Comes, Deliver};
+use super::{DRV_A, Text, deliver, made, play, push, rd, wr};
 use std::alloc::Global;
 use std::process::Abort;
 use strm_chain::{Chain, Driver, Place, Spot};
-use strm_module::Kind;
+use strm_module::{Kind, Plain};
 use strm_msg::{End, Errno, Message};
 
 /// The places of an end with two modules.
@@ -18,44 +19,23 @@ fn places(end: End) -> [Place; 5] {
 }
 
 /// Two modules with queues on both sides, and a message of a band in each list of an end.
-fn fill(rt: &impl Abort, alloc: Global, chain: &mut Chain<Plain>, end: End, band: u8) {
-    let five = Some((5, 4));
-    push(rt, chain, end, Kind::Pass, (five, five));
-    push(rt, chain, end, Kind::Pass, (five, five));
-    for i in [1, 2] {
-        deliver(
-            rt,
-            alloc,
-            chain,
-            Spot::Down { end, i },
-            data(rt, alloc, band, b"x"),
-        );
-        deliver(
-            rt,
-            alloc,
-            chain,
-            Spot::Up { end, i },
-            data(rt, alloc, band, b"x"),
-        );
-    }
-    deliver(
-        rt,
-        alloc,
-        chain,
-        Spot::Up { end, i: 0 },
-        data(rt, alloc, band, b"x"),
-    );
-    if chain.driver() == Driver::Line {
-        assert_eq!(rt; chain.line_put(data(rt, alloc, band, b"x")), Ok(()));
-    } else {
-        deliver(
-            rt,
-            alloc,
-            chain,
-            Spot::Down { end, i: 3 },
-            data(rt, alloc, band, b"x"),
-        );
-    }
+fn fill(rt: &impl Abort, chain: &mut Chain<Plain>, end: End, band: u8) {
+    push(rt, chain, end, Kind::Pass, (true, true));
+    push(rt, chain, end, Kind::Pass, (true, true));
+    let x = Text::Data(band, b"x");
+    let lists = [
+        Deliver(Spot::Down { end, i: 1 }, x),
+        Deliver(Spot::Down { end, i: 2 }, x),
+        Deliver(Spot::Up { end, i: 1 }, x),
+        Deliver(Spot::Up { end, i: 2 }, x),
+        Deliver(Spot::Up { end, i: 0 }, x),
+    ];
+    play(rt, chain, &lists);
+    let driver = match chain.driver() {
+        Driver::Line => Comes(x),
+        _ => Deliver(Spot::Down { end, i: 3 }, x),
+    };
+    play(rt, chain, &[driver]);
 }
 
 /// Which lists of an end hold a message: those of its places, and the head's.
@@ -71,6 +51,11 @@ fn holds(chain: &Chain<Plain>, end: End) -> [bool; 6] {
     ]
 }
 
+/// A flush is written.
+fn flush(rt: &impl Abort, chain: &mut Chain<Plain>, end: End, m: Message) {
+    assert_eq!(rt; deliver(rt, chain, Spot::top(end), m), Ok(()));
+}
+
 /// Which lists hold a message after a flush that was written.
 fn left(
     rt: &impl Abort,
@@ -80,16 +65,9 @@ fn left(
     band: Option<u8>,
 ) -> [bool; 6] {
     let mut chain = made(rt, alloc, driver);
-    fill(rt, alloc, &mut chain, End::A, 1);
+    fill(rt, &mut chain, End::A, 1);
     assert_eq!(rt; holds(&chain, End::A), [true; 6]);
-    let flush = Message::of_flush(r, w, band);
-    deliver(
-        rt,
-        alloc,
-        &mut chain,
-        Spot::Down { end: End::A, i: 1 },
-        flush,
-    );
+    flush(rt, &mut chain, End::A, Message::of_flush(r, w, band));
     holds(&chain, End::A)
 }
 
@@ -119,18 +97,10 @@ fn flush_is_written(rt: HostRuntime) {
 /// The far end of a loop keeps what it has: the driver's answer goes up the end that it came down.
 #[test]
 fn flush_stays_on_its_end(rt: HostRuntime) {
-    let alloc = rt.alloc();
-    let mut chain = made(&rt, alloc, Driver::Loop);
-    fill(&rt, alloc, &mut chain, End::A, 0);
-    fill(&rt, alloc, &mut chain, End::B, 0);
-    let flush = Message::of_flush(true, true, None);
-    deliver(
-        &rt,
-        alloc,
-        &mut chain,
-        Spot::Down { end: End::B, i: 1 },
-        flush,
-    );
+    let mut chain = made(&rt, rt.alloc(), Driver::Loop);
+    fill(&rt, &mut chain, End::A, 0);
+    fill(&rt, &mut chain, End::B, 0);
+    flush(&rt, &mut chain, End::B, Message::of_flush(true, true, None));
     assert_eq!(rt; holds(&chain, End::A), [true; 6]);
     assert_eq!(rt; holds(&chain, End::B), [false; 6]);
 }
@@ -139,19 +109,20 @@ fn flush_stays_on_its_end(rt: HostRuntime) {
 /// line, whose list it empties, and comes back up to empty the head's list.
 #[test]
 fn error_flushes_all(rt: HostRuntime) {
-    let alloc = rt.alloc();
-    let mut chain = made(&rt, alloc, Driver::Line);
-    fill(&rt, alloc, &mut chain, End::A, 3);
-    push(&rt, &mut chain, End::A, Kind::Mute, (None, None));
+    let mut chain = made(&rt, rt.alloc(), Driver::Line);
+    fill(&rt, &mut chain, End::A, 3);
+    push(&rt, &mut chain, End::A, Kind::Mute, (false, false));
     let up = Spot::Up { end: End::A, i: 3 };
-    deliver(&rt, alloc, &mut chain, up, Message::of_error(Errno::EPROTO));
+    let error = Message::of_error(Errno::EPROTO);
+    assert_eq!(rt; deliver(&rt, &mut chain, up, error), Ok(()));
     assert_eq!(rt; chain.state(End::A).errno, Some(Errno::EPROTO));
     for i in [1, 2, 3] {
-        assert!(rt; !chain.may(Place::Wr { end: End::A, i }));
-        assert!(rt; !chain.may(Place::Rd { end: End::A, i }));
+        assert!(rt; !chain.may(wr(i)));
+        assert!(rt; !chain.may(rd(i)));
     }
-    assert!(rt; !chain.may(Place::Drv { end: End::A }));
+    assert!(rt; !chain.may(DRV_A));
     assert_eq!(rt; chain.head(End::A).len(), 0);
-    deliver(&rt, alloc, &mut chain, up, Message::of_error(Errno::EIO));
+    let error = Message::of_error(Errno::EIO);
+    assert_eq!(rt; deliver(&rt, &mut chain, up, error), Ok(()));
     assert_eq!(rt; chain.state(End::A).errno, Some(Errno::EIO));
 }

@@ -2,6 +2,8 @@
 -- within a frame, and ESC 221 for ESC.
 use Rattle.std.specs.Prelude.{ℕ, zero, suc, ◌==◌, not, Bool, Option, Some, None, List, [], ◌∷◌, ◌++◌, if◌then◌else◌, take, option_map, unwrap_or}
 use Rattle.std.specs.List.{flat_map, list_all}
+use Rattle.port_slip.specs.declared.framing.TheConstants.{LONGEST_DATAGRAM}
+use Rattle.port_slip.specs.declared.kinds.TheConstants.{MOST_KEPT}
 
 abbrev pub is_end : ℕ → Bool
 is_end b = b == 192
@@ -34,9 +36,9 @@ unescaped (a ∷ []) = a ∷ []
 unescaped (a ∷ (b ∷ bytes)) =
     if is_esc a then meant_by b ∷ unescaped bytes else a ∷ unescaped (b ∷ bytes)
 
--- a datagram has at most 1006 bytes: what a frame spells beyond them is dropped
+-- what a frame spells beyond the longest datagram is dropped
 abbrev pub datagram_of : List ℕ → List ℕ
-datagram_of frame = take 1006 (unescaped frame)
+datagram_of frame = take LONGEST_DATAGRAM (unescaped frame)
 
 -- no byte is an END
 abbrev pub has_no_end : List ℕ → Bool
@@ -58,9 +60,9 @@ pub record Received : Type 0 where
   pub datagrams : List (List ℕ)
   pub kept : List ℕ
 
--- a frame that has no END yet: 2012 bytes, which spell any datagram, are kept of it
+-- a frame that has no END yet: of it as many bytes are kept as can spell any datagram
 abbrev pub unfinished : List ℕ → Received
-unfinished bytes = record { datagrams = []; kept = take 2012 bytes }
+unfinished bytes = record { datagrams = []; kept = take MOST_KEPT bytes }
 
 abbrev pub with_datagram : List ℕ → Received → Received
 with_datagram datagram more =

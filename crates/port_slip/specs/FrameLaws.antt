@@ -1,11 +1,13 @@
 -- What frames are good for (RFC 1055).
 use Rattle.std.specs.Prelude.{◌≡◌, ℕ, suc, ◌-◌, ◌<◌, ◌≤◌, true, List, ◌++◌, length}
+use Rattle.port_slip.specs.declared.framing.TheConstants.{LONGEST_DATAGRAM}
+use Rattle.port_slip.specs.declared.kinds.TheConstants.{MOST_KEPT}
 use Rattle.port_slip.specs.Frame.{has_no_end, escaped, framed, datagram_of, received, with_datagram, with_datagrams}
 
--- what can be sent in a frame: one byte at least, and 1006 at most
+-- what can be sent in a frame: one byte at least, and no more than the longest datagram has
 pub record IsDatagram (bytes : List ℕ) : Type 0 where
   pub some : 0 < length bytes
-  pub most : length bytes ≤ 1006
+  pub most : length bytes ≤ LONGEST_DATAGRAM
 
 -- an END ends a frame, as none is within it
 abbrev pub EscapingLeavesNoEnd : Type 0
@@ -36,4 +38,4 @@ PiecesAreOneLine =
 -- noise without an END cannot pile up: where not all n datagrams were received, little is kept
 abbrev pub UnfinishedIsBounded : Type 0
 UnfinishedIsBounded =
-    (n : ℕ) (bytes : List ℕ) → length (received n bytes).datagrams < n → length (received n bytes).kept ≤ 2012
+    (n : ℕ) (bytes : List ℕ) → length (received n bytes).datagrams < n → length (received n bytes).kept ≤ MOST_KEPT

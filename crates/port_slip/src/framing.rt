@@ -17,7 +17,7 @@ const ESC_END: u8 = 220;
 const ESC_ESC: u8 = 221;
 
 /// The most bytes of a datagram.
-const MOST: usize = 1006;
+pub const LONGEST_DATAGRAM: usize = 1006;
 
 /// A byte of a datagram goes into a frame.
 fn push_escaped(out: &mut Vec<u8>, b: u8) -> Result<(), AllocError>
@@ -116,6 +116,6 @@ pub fn first_datagram(alloc: Global, bytes: &[u8]) -> Result<Option<(Vec<u8>, &[
         return Ok(None);
     };
     let mut datagram = unescape(alloc, frame)?;
-    datagram.truncate(MOST);
+    datagram.truncate(LONGEST_DATAGRAM);
     Ok(Some((datagram, behind)))
 }

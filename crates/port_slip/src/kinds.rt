@@ -14,7 +14,7 @@ use strm_msg::{Bytes, Message, MsgKind, NoMem, Side as Sides};
 
 /// The most bytes that are kept of a frame that has not ended: each byte of a datagram takes two at
 /// most.
-const MOST_KEPT: usize = 2012;
+pub const MOST_KEPT: usize = 2012;
 
 /// What a module does with messages, and what it keeps for that: SLIP, or one of the framework's
 /// eight.
@@ -63,7 +63,7 @@ fn framed_part(alloc: Global, part: &Option<Bytes>) -> Result<Option<Bytes>, NoM
 /// What is kept where no further frame ends.
 #[tactic(auto, using(std::proofs::lemmas::List::take_min))]
 fn unfinished(alloc: Global, bytes: &[u8]) -> Result<Vec<u8>, AllocError>
-    ensures { IfOk result (λ out. out.items ≡ take 2012 (begun bytes.now)) }
+    ensures { IfOk result (λ out. out.items ≡ take MOST_KEPT (begun bytes.now)) }
 {
     let frame = begun(bytes);
     Vec::from_slice(alloc, &frame[..MOST_KEPT.min(frame.len())])

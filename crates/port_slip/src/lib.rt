@@ -11,8 +11,8 @@ mod stack;
 #[cfg(test)]
 mod tests;
 
-pub use framing::{first_datagram, frame};
-pub use kinds::SlipKind;
+pub use framing::{LONGEST_DATAGRAM, first_datagram, frame};
+pub use kinds::{MOST_KEPT, SlipKind};
 pub use laws::{frames_keep_datagrams, modules_keep_datagrams};
 pub use slip::ByShape;
 pub use stack::send;

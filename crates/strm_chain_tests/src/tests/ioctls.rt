@@ -1,6 +1,6 @@
 //! Ioctls and their answers.
-use super::Call::Settle;
-use super::{DRV_A, TOP_A, deliver, made, play, push, read, wr, write};
+use super::Call::{Read, Settle, Write};
+use super::{Call, DRV_A, TOP_A, WR_1, deliver, made, play, push};
 use std::process::Abort;
 use strm_chain::{Chain, Driver};
 use strm_module::{Kind, Plain};
@@ -45,7 +45,7 @@ fn module_or_driver_answers(rt: HostRuntime) {
     let count = Kind::Count { n: 0 };
     push(&rt, &mut chain, End::A, count, (false, false));
     push(&rt, &mut chain, End::A, Kind::Pass, (false, false));
-    play(&rt, &mut chain, &[write(b"x")]);
+    play(&rt, &mut chain, &[Write(b"x")]);
     ask(&rt, &mut chain, 1, 1);
     let counted = Message::of_ack(1, 1, None);
     assert_eq!(rt; chain.end_ioctl(End::A), Some(counted));
@@ -53,6 +53,15 @@ fn module_or_driver_answers(rt: HostRuntime) {
     let refused = Message::of_nak(2, Errno::EINVAL);
     assert_eq!(rt; chain.end_ioctl(End::A), Some(refused));
 }
+
+const LATE_ANSWER: [Call; 2] = [Read(b"aaaaa"), Settle(&[DRV_A, WR_1])];
+
+const LATE_ANSWER_IS_DROPPED: [Call; 4] = [
+    Write(b"aaaaa"),
+    Settle(&[WR_1, DRV_A]),
+    Write(b"bbbbb"),
+    Settle(&[WR_1]),
+];
 
 /// The ioctl waits behind data for a full driver, so no answer has come when it is given up. Its
 /// late answer is not that of the next ioctl, and is dropped.
@@ -62,19 +71,13 @@ fn late_answer_is_dropped(rt: HostRuntime) {
     let count = Kind::Count { n: 0 };
     push(&rt, &mut chain, End::A, count, (false, false));
     push(&rt, &mut chain, End::A, Kind::Pass, (false, true));
-    let fill = [
-        write(b"aaaaa"),
-        Settle(&[wr(1), DRV_A]),
-        write(b"bbbbb"),
-        Settle(&[wr(1)]),
-    ];
-    play(&rt, &mut chain, &fill);
+    play(&rt, &mut chain, &LATE_ANSWER_IS_DROPPED);
     ask(&rt, &mut chain, 1, 1);
     play(&rt, &mut chain, &[Settle(&[])]);
     assert_eq!(rt; chain.end_ioctl(End::A), None);
 
     begins(&rt, &mut chain, 2);
-    play(&rt, &mut chain, &[read(b"aaaaa"), Settle(&[DRV_A, wr(1)])]);
+    play(&rt, &mut chain, &LATE_ANSWER);
     assert_eq!(rt; chain.state(End::A).pending, Some(2));
     assert_eq!(rt; chain.end_ioctl(End::A), None);
 }

@@ -1,10 +1,10 @@
 //! Messages through chains, row by row.
 use super::Call::{
-    Comes, Deliver, FullAhead, HeadHeld, HeadLen, LineFull, May, Read, Serve, Settle,
+    Comes, Deliver, FullAhead, HeadHeld, HeadLen, LineFull, May, Read, Serve, Settle, Take, Write,
 };
 use super::{
-    Call, DRV_A, HEAD_A, TOP_A, Text, chain_over, data, made, message, play, push, rd, read, wr,
-    write,
+    Call, DRV_A, HEAD_A, RD_1, TOP_A, Text, WR_1, WR_2, chain_over, deliver, made, message, play,
+    push,
 };
 use std::alloc::Global;
 use std::process::Abort;
@@ -25,15 +25,25 @@ fn insert_pass(rt: &impl Abort, chain: &mut Chain<Box<dyn Module>>, serial: u64)
 
 /// The head holds 5 bytes after the first move, which is its high mark, so the second message waits
 /// in the driver until the first is taken.
-const ECHO: [Call<'static>; 8] = [
-    Deliver(TOP_A, Text::Data(0, b"aaaaa")),
+const ECHO: [Call; 9] = [
+    Write(b"aaaaa"),
     May(DRV_A, true),
     Serve(DRV_A),
     HeadHeld(End::A, 5),
-    Deliver(TOP_A, Text::Data(0, b"b")),
+    Write(b"b"),
     May(DRV_A, false),
     Settle(&[]),
-    Read(End::A, Text::Data(0, b"aaaaa")),
+    Read(b"aaaaa"),
+    Settle(&[DRV_A]),
+];
+
+const ECHO_WAITS_FOR_ITS_HEAD: [Call; 6] = [
+    Write(b"c"),
+    May(DRV_A, false),
+    Serve(WR_1),
+    Settle(&[DRV_A]),
+    Read(b"b"),
+    Read(b"c"),
 ];
 
 /// A boxed module comes between and is taken out again: what is written waits in it and then in the
@@ -42,46 +52,54 @@ const ECHO: [Call<'static>; 8] = [
 fn echo_waits_for_its_head(rt: HostRuntime) {
     let mut chain: Chain<Box<dyn Module>> = chain_over(&rt, rt.alloc(), Driver::Echo);
     play(&rt, &mut chain, &ECHO);
-    play(&rt, &mut chain, &[Settle(&[DRV_A])]);
     insert_pass(&rt, &mut chain, 7);
-    let through = [
-        write(b"c"),
-        May(DRV_A, false),
-        Serve(wr(1)),
-        Settle(&[DRV_A]),
-        read(b"b"),
-        read(b"c"),
-    ];
-    play(&rt, &mut chain, &through);
+    play(&rt, &mut chain, &ECHO_WAITS_FOR_ITS_HEAD);
     let removed = chain.remove(End::A).expect(&rt, "a module");
     assert_eq!(rt; removed.shape().serial, 7);
     assert_eq!(rt; removed.shape().kind, Kind::Pass);
     assert!(rt; chain.remove(End::A).is_none());
 }
 
+const LINE_TAKES_WHAT_COMES_IN: [Call; 8] = [
+    Comes(Text::Data(0, b"aaaaa")),
+    Settle(&[DRV_A]),
+    Comes(Text::Data(0, b"bbbbb")),
+    Settle(&[]),
+    LineFull(true),
+    Read(b"aaaaa"),
+    Settle(&[DRV_A]),
+    LineFull(false),
+];
+
 /// What came in waits in the line's list while the head holds its 5 bytes. A message that is put back
 /// comes before those of its rank.
 #[test]
 fn line_takes_what_comes_in(rt: HostRuntime) {
     let mut chain = made(&rt, rt.alloc(), Driver::Line);
-    let calls = [
-        Comes(data(b"aaaaa")),
-        Settle(&[DRV_A]),
-        Comes(data(b"bbbbb")),
-        Settle(&[]),
-        LineFull(true),
-        read(b"aaaaa"),
-        Settle(&[DRV_A]),
-        LineFull(false),
-    ];
-    play(&rt, &mut chain, &calls);
+    play(&rt, &mut chain, &LINE_TAKES_WHAT_COMES_IN);
     assert_eq!(rt; chain.head_room(End::A, 0), Ok(()));
     assert!(rt; chain.driver() == Driver::Line);
     assert_eq!(rt; chain.line_room(0), Ok(()));
-    let z = message(&rt, rt.alloc(), data(b"z"));
+    let z = message(&rt, rt.alloc(), Text::Data(0, b"z"));
     assert_eq!(rt; chain.put_back_head(End::A, z), Ok(()));
-    play(&rt, &mut chain, &[read(b"z"), read(b"bbbbb")]);
+    play(&rt, &mut chain, &[Read(b"z"), Read(b"bbbbb")]);
 }
+
+const TEE_STANDS_OVER_A_BLOCKED_MODULE: [Call; 13] = [
+    Write(b"aaaaa"),
+    FullAhead(true),
+    Write(b"bbbbb"),
+    HeadHeld(End::A, 10),
+    Settle(&[WR_2]),
+    Read(b"aaaaa"),
+    Settle(&[]),
+    Read(b"bbbbb"),
+    Settle(&[DRV_A, WR_2]),
+    FullAhead(false),
+    Read(b"aaaaa"),
+    Settle(&[DRV_A]),
+    Read(b"bbbbb"),
+];
 
 /// The copies go up to the head at once, which takes them though it is full. The messages wait in
 /// the module below: one fits the driver, and moves on once the head has been read empty.
@@ -90,50 +108,44 @@ fn tee_stands_over_a_blocked_module(rt: HostRuntime) {
     let mut chain = made(&rt, rt.alloc(), Driver::Echo);
     push(&rt, &mut chain, End::A, Kind::Pass, (false, true));
     push(&rt, &mut chain, End::A, Kind::Tee, (false, false));
-    let calls = [
-        write(b"aaaaa"),
-        FullAhead(true),
-        write(b"bbbbb"),
-        HeadHeld(End::A, 10),
-        Settle(&[wr(2)]),
-        read(b"aaaaa"),
-        Settle(&[]),
-        read(b"bbbbb"),
-        Settle(&[DRV_A, wr(2)]),
-        FullAhead(false),
-        read(b"aaaaa"),
-        Settle(&[DRV_A]),
-        read(b"bbbbb"),
-    ];
-    play(&rt, &mut chain, &calls);
+    play(&rt, &mut chain, &TEE_STANDS_OVER_A_BLOCKED_MODULE);
 }
+
+const FAR_END_OF_A_LOOP_IS_CLOSED_BEFORE: [Call; 7] = [
+    Write(b"aaaaa"),
+    Settle(&[DRV_A]),
+    Write(b"bbbbb"),
+    Settle(&[]),
+    FullAhead(true),
+    HeadLen(End::A, 0),
+    HeadLen(End::B, 1),
+];
+
+const FAR_END_OF_A_LOOP_IS_CLOSED_AFTER: [Call; 5] = [
+    HeadLen(End::B, 0),
+    Settle(&[DRV_A]),
+    FullAhead(false),
+    HeadLen(End::B, 0),
+    Deliver(HEAD_A, Text::Hangup),
+];
 
 /// What waits for the far end's head moves on once that end is closed, and is dropped there.
 #[test]
 fn far_end_of_a_loop_is_closed(rt: HostRuntime) {
     let mut chain = made(&rt, rt.alloc(), Driver::Loop);
-    let before = [
-        write(b"aaaaa"),
-        Settle(&[DRV_A]),
-        write(b"bbbbb"),
-        Settle(&[]),
-        FullAhead(true),
-        HeadLen(End::A, 0),
-        HeadLen(End::B, 1),
-    ];
-    play(&rt, &mut chain, &before);
+    play(&rt, &mut chain, &FAR_END_OF_A_LOOP_IS_CLOSED_BEFORE);
     assert_eq!(rt; chain.dismantle(End::B).len(), 0);
     assert!(rt; !chain.is_open(End::B));
-    let after = [
-        HeadLen(End::B, 0),
-        Settle(&[DRV_A]),
-        FullAhead(false),
-        HeadLen(End::B, 0),
-        Deliver(HEAD_A, Text::Hangup),
-    ];
-    play(&rt, &mut chain, &after);
+    play(&rt, &mut chain, &FAR_END_OF_A_LOOP_IS_CLOSED_AFTER);
     assert!(rt; chain.state(End::A).hung);
 }
+
+const ECHO_LACKS_THE_FAR_END: [Call; 4] = [
+    May(Place::Drv { end: End::B }, false),
+    May(Place::Wr { end: End::B, i: 1 }, false),
+    May(Place::Rd { end: End::A, i: 0 }, false),
+    Settle(&[]),
+];
 
 /// An echo has no end B: there is no spot, and no place of it moves.
 #[test]
@@ -142,37 +154,50 @@ fn echo_lacks_the_far_end(rt: HostRuntime) {
     assert!(rt; chain.is_open(End::A));
     assert!(rt; !chain.is_open(End::B));
     assert!(rt; !chain.has_spot(Spot::top(End::B)));
-    let end = End::B;
-    let calls = [
-        May(Place::Drv { end }, false),
-        May(Place::Wr { end, i: 1 }, false),
-        May(Place::Rd { end: End::A, i: 0 }, false),
-        Settle(&[]),
-    ];
-    play(&rt, &mut chain, &calls);
+    play(&rt, &mut chain, &ECHO_LACKS_THE_FAR_END);
     assert!(rt; !chain.full_ahead(End::B, 0));
 }
+
+const BANDS_ARE_HELD_BACK_BY_THEMSELVES: [Call; 11] = [
+    Write(b"aaaaa"),
+    Settle(&[DRV_A]),
+    Write(b"b"),
+    Deliver(TOP_A, Text::Data(5, b"u")),
+    Settle(&[DRV_A]),
+    Take(Text::Data(5, b"u")),
+    Deliver(TOP_A, Text::High(b"h")),
+    Deliver(TOP_A, Text::High(b"i")),
+    Take(Text::High(b"h")),
+    Read(b"aaaaa"),
+    HeadLen(End::A, 0),
+];
 
 /// A message of a band that isn't full passes a head that is full in another, and high messages are
 /// not held back. The head keeps the first of two high ones.
 #[test]
 fn bands_are_held_back_by_themselves(rt: HostRuntime) {
     let mut chain = made(&rt, rt.alloc(), Driver::Echo);
-    let calls = [
-        write(b"aaaaa"),
-        Settle(&[DRV_A]),
-        write(b"b"),
-        Deliver(TOP_A, Text::Data(5, b"u")),
-        Settle(&[DRV_A]),
-        Read(End::A, Text::Data(5, b"u")),
-        Deliver(TOP_A, Text::High(b"h")),
-        Deliver(TOP_A, Text::High(b"i")),
-        Read(End::A, Text::High(b"h")),
-        read(b"aaaaa"),
-        HeadLen(End::A, 0),
-    ];
-    play(&rt, &mut chain, &calls);
+    play(&rt, &mut chain, &BANDS_ARE_HELD_BACK_BY_THEMSELVES);
 }
+
+const HIGH_MESSAGES_PASS_WHAT_IS_BLOCKED: [Call; 16] = [
+    Write(b"aaaaa"),
+    Settle(&[WR_1, DRV_A, RD_1]),
+    HeadHeld(End::A, 5),
+    Write(b"bbbbb"),
+    Settle(&[WR_1, DRV_A]),
+    May(RD_1, false),
+    Deliver(HEAD_A, Text::High(b"h")),
+    HeadLen(End::A, 2),
+    Take(Text::High(b"h")),
+    Write(b"c"),
+    Deliver(TOP_A, Text::High(b"i")),
+    HeadLen(End::A, 2),
+    Take(Text::High(b"i")),
+    May(RD_1, false),
+    Read(b"aaaaa"),
+    HeadLen(End::A, 0),
+];
 
 /// The head is full, and the module holds the second message on its read side and the third on its
 /// write side. A high message from below is taken into the full head, and one that is written passes
@@ -181,26 +206,15 @@ fn bands_are_held_back_by_themselves(rt: HostRuntime) {
 fn high_messages_pass_what_is_blocked(rt: HostRuntime) {
     let mut chain = made(&rt, rt.alloc(), Driver::Echo);
     push(&rt, &mut chain, End::A, Kind::Pass, (true, true));
-    let fill = [
-        write(b"aaaaa"),
-        Settle(&[wr(1), DRV_A, rd(1)]),
-        HeadHeld(End::A, 5),
-        write(b"bbbbb"),
-        Settle(&[wr(1), DRV_A]),
-        May(rd(1), false),
-        Deliver(HEAD_A, Text::High(b"h")),
-        HeadLen(End::A, 2),
-        Read(End::A, Text::High(b"h")),
-        write(b"c"),
-        Deliver(TOP_A, Text::High(b"i")),
-        HeadLen(End::A, 2),
-        Read(End::A, Text::High(b"i")),
-        May(rd(1), false),
-        read(b"aaaaa"),
-        HeadLen(End::A, 0),
-    ];
-    play(&rt, &mut chain, &fill);
+    play(&rt, &mut chain, &HIGH_MESSAGES_PASS_WHAT_IS_BLOCKED);
 }
+
+const TOP_IS_THE_SPOT_OF_THE_TOPMOST: [Call; 4] = [
+    Write(b"x"),
+    May(WR_1, true),
+    May(WR_2, false),
+    May(DRV_A, false),
+];
 
 /// A message for the topmost of two modules goes to `Spot::top`, and waits in that one.
 #[test]
@@ -208,13 +222,7 @@ fn top_is_the_spot_of_the_topmost(rt: HostRuntime) {
     let mut chain = made(&rt, rt.alloc(), Driver::Echo);
     push(&rt, &mut chain, End::A, Kind::Pass, (false, true));
     push(&rt, &mut chain, End::A, Kind::Pass, (false, true));
-    let top = Spot::top(End::A);
-    assert_eq!(rt; top, Spot::Down { end: End::A, i: 1 });
-    let calls = [
-        Deliver(top, data(b"x")),
-        May(wr(1), true),
-        May(wr(2), false),
-        May(DRV_A, false),
-    ];
-    play(&rt, &mut chain, &calls);
+    let x = message(&rt, rt.alloc(), Text::Data(0, b"x"));
+    assert_eq!(rt; deliver(&rt, &mut chain, Spot::top(End::A), x), Ok(()));
+    play(&rt, &mut chain, &TOP_IS_THE_SPOT_OF_THE_TOPMOST);
 }

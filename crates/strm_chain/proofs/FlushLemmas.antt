@@ -1,21 +1,19 @@
 -- What a head sends down comes back to a head with FLUSHW cleared, so that it sends nothing.
-use Rattle.std.proofs.Common.{◌≡◌, ◌∙◌, ◌-◌, ℕ, Bool, true, false, cond, Option, Some, None, [], refl, sym, ap, fold, suc, zero}
+use Rattle.std.proofs.Common.{◌≡◌, ◌∙◌, ◌-◌, ℕ, Bool, true, false, cond, Option, Some, None, refl, sym, ap, fold, suc, zero}
 use Rattle.strm_msg.specs.Message.{Msg, bare}
 use Rattle.strm_msg.specs.declared.kind.MsgKind.TheVariants.{MFlush}
 use Rattle.strm_msg.specs.declared.words.End.{End}
 use Rattle.strm_msg.specs.declared.words.Side.TheVariants.{Rd, Wr}
 use Rattle.strm_module.specs.Eight.{eight}
 use Rattle.strm_module.specs.declared.kind.Kind.{Kind}
-use Rattle.strm_qpair.specs.Pair.{QueuePair}
 use Rattle.strm_qpair.specs.End.{EndState, pair_at, found_gets}
-use Rattle.strm_qpair.specs.Head.{HeadStep, head_does, open_head, keeps}
-use Rattle.strm_qpair.specs.Driver.{DriverStep, driver_at, consumes, flush_up}
+use Rattle.strm_qpair.specs.Head.{head_does, open_head, keeps}
+use Rattle.strm_qpair.specs.Driver.{driver_at, consumes, flush_up}
 use Rattle.strm_qpair.specs.declared.driver.Driver.{Driver}
 use Rattle.strm_qpair.specs.declared.driver.Driver.TheVariants.{Echo, Loop, Line}
-use Rattle.strm_qpair.specs.declared.driver.DriverSends.{DriverSends}
 use Rattle.strm_qpair.specs.declared.driver.DriverSends.TheVariants.{Nothing}
 use Rattle.strm_chain.specs.Image.{Image, end_of, with_end, has_end, count_of}
-use Rattle.strm_chain.specs.Deliver.{Onward, OnwardPast, Passing, passing, head_gets, send_on, up_through, down_through, driver_does, driver_sends, route, sent_down_with}
+use Rattle.strm_chain.specs.Deliver.{Onward, OnwardPast, Passing, passing, head_gets, send_on, up_through, down_through, driver_does, driver_sends, route}
 use Rattle.strm_chain.specs.HeadFlush.{HeadSendsOnce}
 
 abbrev flush : Bool → Bool → Option ℕ → Msg

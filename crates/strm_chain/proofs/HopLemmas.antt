@@ -1,5 +1,5 @@
 -- The hops that a message makes, over plain images.
-use Rattle.std.proofs.Common.{◌≡◌, ℕ, ◌+◌, ◌-◌, ◌<◌, Bool, true, false, Option, Some, None, List, [], ◌∷◌, ◌++◌, map, length, fold, refl, sym, ◌∙◌, ap, arith, suc, zero, IfSome, IfNone}
+use Rattle.std.proofs.Common.{◌≡◌, ℕ, ◌-◌, ◌<◌, Bool, true, false, Option, Some, None, List, [], ◌∷◌, ◌++◌, map, length, fold, refl, sym, ◌∙◌, ap, arith, suc, zero}
 use Rattle.std.proofs.lemmas.List.{length-map}
 use Rattle.std.proofs.lemmas.List.Sums.{fold-append}
 use Rattle.strm_msg.specs.Message.{Msg}
@@ -9,9 +9,8 @@ use Rattle.strm_msg.specs.declared.words.Side.{Side}
 use Rattle.strm_msg.specs.declared.words.Side.TheVariants.{Rd, Wr}
 use Rattle.strm_module.specs.Kinds.{OutList, Meaning}
 use Rattle.strm_qpair.specs.Pair.{QueuePair}
-use Rattle.strm_qpair.specs.Modules.{Identity, identity_of, identities_of}
+use Rattle.strm_qpair.specs.Modules.{identity_of, identities_of}
 use Rattle.strm_qpair.specs.Head.{head_does}
-use Rattle.strm_qpair.specs.declared.driver.DriverSends.{DriverSends}
 use Rattle.strm_qpair.specs.declared.driver.DriverSends.TheVariants.{Nothing, Reply, Across}
 use Rattle.strm_chain.specs.declared.chain.hop.Hop.{Hop}
 use Rattle.strm_chain.specs.declared.place.Place.TheVariants as Place

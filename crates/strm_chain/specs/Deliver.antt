@@ -1,6 +1,6 @@
 -- Where a message goes, and what it leaves on its way (Programmer's Guide: STREAMS, "Message Processing"; putnext(9F)).
 -- Modules are counted from 1, which is the topmost; on the way up 0 is the head.
-use Rattle.std.specs.Prelude.{ℕ, ◌+◌, ◌-◌, ◌&&◌, nat_le, Bool, true, false, Option, Some, None, List, if◌then◌else◌, fold, suc, zero}
+use Rattle.std.specs.Prelude.{ℕ, ◌+◌, ◌-◌, ◌&&◌, nat_le, Bool, true, false, Option, Some, None, if◌then◌else◌, fold, suc, zero}
 use Rattle.strm_msg.specs.Message.{Msg}
 use Rattle.strm_msg.specs.declared.words.End.{End}
 use Rattle.strm_msg.specs.declared.words.Side.{Side}

@@ -1,5 +1,5 @@
 -- The queue ahead of each place, in the order in which messages go (Programmer's Guide: STREAMS, "Flow Control").
-use Rattle.std.specs.Prelude.{ℕ, ◌+◌, Option, List, [], slice_get, if◌then◌else◌}
+use Rattle.std.specs.Prelude.{◌+◌, Option, List, [], slice_get, if◌then◌else◌}
 use Rattle.strm_msg.specs.Message.{Msg}
 use Rattle.strm_msg.specs.declared.words.Side.TheVariants.{Rd, Wr}
 use Rattle.strm_qpair.specs.End.{list_at}

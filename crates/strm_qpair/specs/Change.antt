@@ -1,5 +1,5 @@
 -- What the calls of an end change (streamio(7): I_PUSH, I_POP, I_STR, I_SRDOPT; close(2)).
-use Rattle.std.specs.Prelude.{ℕ, ◌+◌, ◌==◌, ◌&&◌, nat_lt, Bool, false, Option, Some, None, List, [], ◌∷◌, length, drop, if◌then◌else◌}
+use Rattle.std.specs.Prelude.{ℕ, ◌+◌, ◌==◌, ◌&&◌, nat_lt, Bool, false, Option, Some, None, [], ◌∷◌, length, drop, if◌then◌else◌}
 use Rattle.strm_msg.specs.declared.words.ReadMode.{ReadMode}
 use Rattle.strm_msg.specs.declared.words.ReadMode.TheVariants.{Rnorm}
 use Rattle.strm_msg.specs.declared.words.Prot.{Prot}

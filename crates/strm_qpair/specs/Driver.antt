@@ -1,5 +1,5 @@
 -- What a driver does with a message that comes down (Programmer's Guide: STREAMS, "Drivers" and "Loop-Around Driver").
-use Rattle.std.specs.Prelude.{ℕ, Bool, true, false, Option, Some, None, List, if◌then◌else◌}
+use Rattle.std.specs.Prelude.{ℕ, Bool, true, false, Option, if◌then◌else◌}
 use Rattle.strm_msg.specs.Message.{Msg, bare}
 use Rattle.strm_msg.specs.declared.kind.MsgKind.{MsgKind}
 use Rattle.strm_msg.specs.declared.kind.MsgKind.TheVariants.{MData, MProto, MPcproto, MIoctl, MIocnak, MFlush}

@@ -1,6 +1,6 @@
 -- One end of a stream: the head, the modules with their queues, and the driver's list (Programmer's Guide: STREAMS, "Overview
 -- of STREAMS": stream head, modules, driver).
-use Rattle.std.specs.Prelude.{◌≤◌, ◌+◌, ℕ, Bool, Option, Some, None, List, [], length, map, slice_get, slice_set, suc, zero}
+use Rattle.std.specs.Prelude.{◌≤◌, ◌+◌, ℕ, Bool, Option, Some, None, List, [], map, slice_get, slice_set, suc, zero}
 use Rattle.strm_msg.specs.Message.{Msg}
 use Rattle.strm_msg.specs.declared.words.Side.{Side}
 use Rattle.strm_queue.specs.Queue.{WaterMarks}

@@ -1,5 +1,5 @@
 -- What no message changes about an end: which modules stand there and where they queue, and which ioctl is awaited.
-use Rattle.std.specs.Prelude.{◌≡◌, ◌<◌, ◌≤◌, ◌&&◌, ℕ, nat_lt, Bool, true, Option, Some, None, List, map, length, vec_capacity}
+use Rattle.std.specs.Prelude.{◌≡◌, ◌<◌, ◌&&◌, ℕ, nat_lt, Bool, true, Option, Some, None, List, map}
 use Rattle.std.specs.List.{list_all}
 use Rattle.strm_queue.specs.Queue.{WaterMarks}
 use Rattle.strm_module.specs.declared.shape.Shape.{Shape}

@@ -1,7 +1,7 @@
-use Rattle.std.proofs.Common.{◌≡◌, ◌∙◌, [], ◌∷◌, false, OnOk, ap, subst}
+use Rattle.std.proofs.Common.{◌≡◌, ◌∙◌, false, OnOk, ap, subst}
 use Rattle.strm_chain.specs.Image.{Image, partner, end_of}
 use Rattle.strm_chain.specs.Service.{move}
-use Rattle.strm_chain.specs.Hop.{carry_all, up_hop}
+use Rattle.strm_chain.specs.Hop.{carry_all}
 use Rattle.strm_chain.specs.declared.place.Place.TheVariants as Place
 use Rattle.strm_chain.proofs.HopLemmas.{carries_up, driver_moves, driver_stays}
 use Rattle.strm_chain.proofs.chain.Chain.move_driver.Goals as goal

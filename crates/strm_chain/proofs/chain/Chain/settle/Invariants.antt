@@ -1,4 +1,4 @@
-use Rattle.std.proofs.Common.{◌≡◌, ◌-◌, ◌^◌, [], false, length}
+use Rattle.std.proofs.Common.{◌≡◌, ◌-◌, ◌^◌, false, length}
 use Rattle.strm_chain.specs.Fault.{SameModules}
 use Rattle.strm_chain.specs.Service.{Leads, NoneMay}
 use Rattle.strm_chain.proofs.chain.Chain.settle.Given as goal

@@ -1,4 +1,4 @@
-use Rattle.std.proofs.Common.{◌≡◌, ◌-◌, ◌∙◌, map, ap}
+use Rattle.std.proofs.Common.{◌-◌, ◌∙◌, map, ap}
 use Rattle.strm_msg.specs.declared.words.Side.{Side}
 use Rattle.strm_chain.specs.Hop.{carry, hop_of, next_module}
 use Rattle.strm_chain.proofs.HopLemmas.{rest_after, module_hop}

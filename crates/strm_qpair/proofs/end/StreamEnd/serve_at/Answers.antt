@@ -1,4 +1,4 @@
-use Rattle.std.proofs.Common.{◌≡◌, ◌<◌, ◌-◌, length, Some, refl, sym, ap, rules, arith}
+use Rattle.std.proofs.Common.{◌≡◌, ◌<◌, ◌-◌, length, Some, refl, rules}
 use Rattle.strm_qpair.specs.End.{pair_at}
 use Rattle.strm_qpair.proofs.EndLemmas.{identities-set, fit-set, pair_at-found, serves_found}
 use Rattle.strm_qpair.proofs.end.StreamEnd.serve_at.Goals as goal

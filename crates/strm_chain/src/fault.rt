@@ -4,6 +4,7 @@ ghost use Rattle.std.specs.Fmt.{padded};
 ghost use Rattle.strm_chain.specs.Fault.{number_of, text_of};
 
 use std::fmt;
+use strm_msg::NoMem;
 use thiserror::Error;
 
 /// Why a message was not delivered, or a place not served.
@@ -46,5 +47,17 @@ impl fmt::Display for ChainFault {
 
     fn fmt<W: fmt::Write>(&self, f: &mut fmt::Formatter<W>) -> fmt::Result {
         f.pad(self.text())
+    }
+}
+
+/// No memory, and nothing was changed.
+impl From<NoMem> for ChainFault {
+    ghost use Rattle.std.specs.Prelude.{◌≡◌};
+    ghost use Rattle.strm_chain.specs.declared.fault.ChainFault.TheVariants as Faults;
+
+    ghost from_gives = { λ _ fault. fault ≡ Faults.NoMem };
+
+    fn from(_: NoMem) -> Self {
+        ChainFault::NoMem
     }
 }

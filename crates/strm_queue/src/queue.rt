@@ -182,6 +182,13 @@ impl BandQueue {
         self.items.first()
     }
 
+    /// The message at a place, counted from 0 for the one that `get` would take.
+    pub fn at(&self, i: usize) -> Option<&Message>
+        ensures { option_copied result ≡ slice_get self.now.messages i }
+    {
+        self.items.get(i)
+    }
+
     /// The number of messages. They are in order of rank.
     pub fn len(&self) -> usize
         ensures count { result ≡ length self.now.messages }

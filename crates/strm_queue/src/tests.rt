@@ -177,6 +177,18 @@ fn put(rt: &impl Abort, q: &mut BandQueue, made: Result<Message, NoMem>) {
     q.put(m).expect(rt, "a put");
 }
 
+// By hand: the place is counted from 0, in order of rank.
+#[test]
+fn a_message_is_found_at_its_place(rt: HostRuntime) {
+    let alloc = rt.alloc();
+    let mut q = empty_queue(&rt, alloc);
+    put(&rt, &mut q, Message::of_data(alloc, 0, b"a"));
+    put(&rt, &mut q, Message::of_data(alloc, 3, b"b"));
+    assert!(rt; q.at(0).expect(&rt, "a message").band == 3);
+    assert!(rt; q.at(1).expect(&rt, "a message").band == 0);
+    assert!(rt; q.at(2).is_none());
+}
+
 // By hand: a high message is of no band that is asked for, and a flush takes the others.
 #[test]
 fn an_ordinary_message_of_a_band_is_found(rt: HostRuntime) {

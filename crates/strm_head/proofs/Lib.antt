@@ -1,2 +1,4 @@
-pub mod StreamLemmas
+pub mod CallLemmas
+pub mod KeptLemmas
+pub mod HistoryLemmas
 mod WorkedExamples

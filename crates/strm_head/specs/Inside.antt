@@ -1,42 +1,24 @@
--- What the two queues of an echo stream keep.
-use Rattle.std.specs.Prelude.{◌≡◌, ◌<◌, Bool, true, false}
-use Rattle.std.specs.List.{list_all}
-use Rattle.strm_msg.specs.declared.kind.MsgKind.{MsgKind}
-use Rattle.strm_msg.specs.declared.kind.MsgKind.TheVariants.{MData, MProto, MPcproto, MIoctl, MIocack, MIocnak, MFlush, MHangup, MError}
-use Rattle.strm_queue.specs.Queue.{Queue}
-use Rattle.strm_head.specs.Image.{Image, fresh_state, fresh_end}
+-- What a stream keeps between calls.
+use Rattle.std.specs.Prelude.{ℕ, ◌≡◌, ◌&&◌, nat_lt, Bool, true, false}
+use Rattle.strm_msg.specs.declared.words.End.{End}
+use Rattle.strm_chain.specs.Image.{Image, end_of, has_end}
+use Rattle.strm_chain.specs.Service.{IsQuiet}
 
--- the kinds that wait in the driver
-abbrev pub is_plain : MsgKind → Bool
-is_plain MData = true
-is_plain MProto = true
-is_plain MPcproto = false
-is_plain (MIoctl id cmd) = false
-is_plain (MIocack id rval) = false
-is_plain (MIocnak id errno) = false
-is_plain (MFlush r w band) = false
-is_plain MHangup = false
-is_plain (MError errno) = false
+-- the ends that are open are the driver's
+abbrev pub HasItsEnds : {K : Type 0} → Image K → Type 0
+HasItsEnds image = (e : End) → (end_of image e).is_open ≡ true → has_end image.driver e ≡ true
 
--- the kinds that a putmsg sends
-abbrev pub is_sent : MsgKind → Bool
-is_sent MData = true
-is_sent MProto = true
-is_sent MPcproto = true
-is_sent (MIoctl id cmd) = false
-is_sent (MIocack id rval) = false
-is_sent (MIocnak id errno) = false
-is_sent (MFlush r w band) = false
-is_sent MHangup = false
-is_sent (MError errno) = false
+-- no place must move, unless the stream is broken, and no end is open that the driver lacks
+pub record IsKept {K : Type 0} (image : Image K) : Type 0 where
+  pub quiet : image.broken ≡ false → IsQuiet image
+  pub ends : HasItsEnds image
 
--- the head's low mark is below its high one, and only data and protocol messages wait in the driver
-pub record IsKept (head driver : Queue) : Type 0 where
-  pub head_marks : head.marks.lo < head.marks.hi
-  pub plain : list_all (λ m. is_plain m.kind) driver.messages ≡ true
+-- what no call changes before any queue moves: the driver and whether the stream is broken; and no closed end is opened
+pub record OpensNone {K : Type 0} (old new : Image K) : Type 0 where
+  pub driver : new.driver ≡ old.driver
+  pub broken : new.broken ≡ old.broken
+  pub ends : (e : End) → (end_of new e).is_open ≡ true → (end_of old e).is_open ≡ true
 
--- end A is open and nothing happened to its head but messages, and end B is closed
-pub record IsEcho (image : Image) : Type 0 where
-  pub a_open : image.a.is_open ≡ true
-  pub a_state : image.a.state ≡ fresh_state
-  pub b_closed : image.b ≡ fresh_end false
+-- each pair is a high mark and a lower one
+abbrev pub are_marks : ℕ × ℕ → ℕ × ℕ → Bool
+are_marks head drv = nat_lt head.1 head.0 && nat_lt drv.1 drv.0

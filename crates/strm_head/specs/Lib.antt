@@ -1,8 +1,4 @@
-pub mod Image
-pub mod Inside
-pub mod Deliver
-pub mod Move
-pub mod Cut
 pub mod Begin
-pub mod Step
 pub mod Fault
+pub mod Inside
+pub mod Step

@@ -1,86 +1,117 @@
--- Steps of a stream, and the histories that it can have.
-use Rattle.std.specs.Prelude.{◌≡◌, ℕ, not, ◌&&◌, ◌||◌, Bool, true, false, Option, Some, None, List, [], ◌∷◌, if◌then◌else◌}
+-- One step of a stream, and the histories that steps make.
+use Rattle.std.specs.Prelude.{ℕ, ◌≡◌, ◌&&◌, ◌||◌, not, Bool, true, false, Option, Some, None, List, [], ◌∷◌, map, if◌then◌else◌}
 use Rattle.strm_msg.specs.Kind.{is_high}
 use Rattle.strm_msg.specs.Message.{Msg}
-use Rattle.strm_msg.specs.declared.errno.Errno.{Errno}
-use Rattle.strm_msg.specs.declared.errno.Errno.TheVariants.{ENOSR}
 use Rattle.strm_msg.specs.declared.words.End.{End}
-use Rattle.strm_queue.specs.Queue.{put_in, is_full}
-use Rattle.strm_head.specs.declared.place.Driver.{Driver}
-use Rattle.strm_head.specs.declared.place.Driver.TheVariants.{Echo}
-use Rattle.strm_head.specs.declared.place.Place.{Place}
-use Rattle.strm_head.specs.declared.request.Request.{Request}
-use Rattle.strm_head.specs.declared.answer.Refusal.{Refusal}
-use Rattle.strm_head.specs.declared.answer.Reply.{Reply}
-use Rattle.strm_head.specs.declared.answer.Answer.{Answer}
-use Rattle.strm_head.specs.declared.answer.Answer.TheVariants.{Done, Refused, Broke}
+use Rattle.strm_queue.specs.Queue.{is_full, put_in}
+use Rattle.strm_module.specs.Kinds.{Meaning}
+use Rattle.strm_module.specs.declared.shape.Shape.{Shape}
+use Rattle.strm_qpair.specs.declared.driver.Driver.{Driver}
+use Rattle.strm_qpair.specs.declared.driver.Driver.TheVariants.{Echo, Loop, Line}
+use Rattle.strm_chain.specs.declared.place.Place.{Place}
+use Rattle.strm_chain.specs.declared.place.Spot.TheVariants.{Up}
+use Rattle.strm_chain.specs.Image.{Image, end_of, with_drv, count_of}
+use Rattle.strm_chain.specs.Deliver.{deliver}
+use Rattle.strm_chain.specs.Service.{Leads, IsQuiet}
+use Rattle.strm_chain.specs.Fault.{Breaks}
+use Rattle.strm_call.specs.declared.request.Request.{Request}
+use Rattle.strm_call.specs.declared.refusal.Refusal.{Refusal}
+use Rattle.strm_call.specs.declared.refusal.Refusal.TheVariants.{NoMemory}
+use Rattle.strm_call.specs.declared.answer.Reply.{Reply}
+use Rattle.strm_call.specs.declared.answer.Answer.{Answer}
+use Rattle.strm_call.specs.declared.answer.Answer.TheVariants.{Done, Refused, Broke}
+use Rattle.strm_call.specs.Begun.{Begun, begun}
 use Rattle.strm_head.specs.declared.history.Event.{Event}
 use Rattle.strm_head.specs.declared.history.Event.TheVariants.{Asked, Arrived}
 use Rattle.strm_head.specs.declared.history.Entry.{Entry}
-use Rattle.strm_head.specs.Image.{Image, end_of, with_end}
-use Rattle.strm_head.specs.Deliver.{with_driver, up}
-use Rattle.strm_head.specs.Move.{Settles}
 use Rattle.strm_head.specs.Begin.{refusal_of, begun_of}
 
--- the refusal that an answer names: the first that holds, and want of memory, number 10, only where
--- none does
-abbrev pub IsRefusedBy : Option Refusal → ℕ → Errno → Type 0
-IsRefusedBy None number errno = (number ≡ 10) × (errno ≡ ENOSR)
-IsRefusedBy (Some refusal) number errno = (number ≡ refusal.no) × (errno ≡ refusal.errno)
+-- the refusal that a call has: the first that holds, and want of memory only where none does
+abbrev pub IsRefusedBy : Option Refusal → Refusal → Type 0
+IsRefusedBy None refusal = refusal ≡ NoMemory
+IsRefusedBy (Some first) refusal = refusal ≡ first
 
--- both ends are open or closed as they were
-pub record SameEnds (image after : Image) : Type 0 where
-  pub on_a : after.a.is_open ≡ image.a.is_open
-  pub on_b : after.b.is_open ≡ image.b.is_open
+-- a refused call: nothing moves, is taken out or changed
+pub record IsRefused {K : Type 0} (first : Option Refusal) (refusal : Refusal) (image : Image K) (moves : List Place) (out : List ℕ) (after : Image K) : Type 0 where
+  pub is_first : IsRefusedBy first refusal
+  pub stays : moves ≡ []
+  pub takes_none : out ≡ []
+  pub unchanged : after ≡ image
 
--- memory ran out after a first change: the stream is broken, and nothing else is said of it
-pub record Breaks (image after : Image) : Type 0 where
-  pub broken : after.broken ≡ true
-  pub ends : SameEnds image after
+-- the modules that a call has taken out, by their serials
+abbrev pub serials_of : {K : Type 0} → List (Shape K) → List ℕ
+serials_of shapes = map (λ s. s.serial) shapes
 
--- from the image that a call began with: moves are made until the stream is quiet, or it breaks
-abbrev pub Finishes : Image → Reply → Answer → List Place → Image → Type 0
-Finishes image reply (Refused number errno) moves after = ⊥
-Finishes image reply (Done answer) moves after = (answer ≡ reply) × Settles image moves after
-Finishes image reply Broke moves after = Breaks image after
+-- memory ran out after a first change: the stream is broken, and keeps the ends and modules that the call has left
+pub record IsBroken {K : Type 0} (begun : Begun K) (moves : List Place) (out : List ℕ) (after : Image K) : Type 0 where
+  pub breaks : Breaks begun.image after
+  pub stays : moves ≡ []
+  pub takes : out ≡ serials_of begun.out
 
--- a call on an end: refused, which changes nothing, or begun and then finished
-abbrev pub Answers : Image → End → Request → Answer → List Place → Image → Type 0
-Answers image e request (Refused number errno) moves after =
-    IsRefusedBy (refusal_of image e request) number errno × (moves ≡ []) × (after ≡ image)
-Answers image e request (Done reply) moves after =
-    (refusal_of image e request ≡ None) × Finishes (begun_of image e request).image (begun_of image e request).reply (Done reply) moves after
-Answers image e request Broke moves after =
-    (refusal_of image e request ≡ None) × Finishes (begun_of image e request).image (begun_of image e request).reply Broke moves after
-
--- the drivers to which messages come from a line: an echo is not one of them
+-- the driver to which messages come from a line
 abbrev pub is_line : Driver → Bool
 is_line Echo = false
+is_line Loop = false
+is_line Line = true
 
--- a message can come in: from a line, at an open end of a stream that is not broken, and an ordinary
--- one unless its band is full in the driver
-abbrev pub can_arrive : Image → End → Msg → Bool
+-- a message can come in: from a line, at an open end of a stream that is not broken, and an ordinary one unless its band is
+-- full in the line's list
+abbrev pub can_arrive : {K : Type 0} → Image K → End → Msg → Bool
 can_arrive image e m =
-    is_line image.driver && (end_of image e).is_open && not image.broken && (is_high m.kind || not (is_full image.driver_marks (end_of image e).driver m.band))
+    is_line image.driver && (end_of image e).is_open && not image.broken && (is_high m.kind || not (is_full (end_of image e).drv_marks (end_of image e).drv m.band))
 
--- an ordinary message that came in waits in the driver, a high one goes up at once
-abbrev pub arrived_of : Image → End → Msg → Image
-arrived_of image e m =
-    if is_high m.kind then up image e m else with_end image e (with_driver (end_of image e) (put_in (end_of image e).driver m))
+-- what a message that came in has made
+abbrev pub arrival : {K : Type 0} → Image K → Begun K
+arrival image = begun image Reply.Line
 
--- a message comes in from a line, after which moves are made until the stream is quiet
-abbrev pub Lands : Image → End → Msg → Answer → List Place → Image → Type 0
-Lands image e m (Refused number errno) moves after = ⊥
-Lands image e m (Done reply) moves after = (can_arrive image e m ≡ true) × Settles (arrived_of image e m) moves after
-Lands image e m Broke moves after = (can_arrive image e m ≡ true) × Breaks (arrived_of image e m) after
+-- for kinds of any meaning
+module _ {K : Type 0} (means : Meaning K) where
+  -- these moves are made from an image, each of a place that may move, until no place must
+  pub record Settles (image : Image K) (moves : List Place) (after : Image K) : Type 0 where
+    pub leads : Leads means image moves after
+    pub quiet : IsQuiet after
 
--- one step of a stream
-abbrev pub Step : Image → End → Event → Answer → List Place → Image → Type 0
-Step image e (Asked request) answer moves after = Answers image e request answer moves after
-Step image e (Arrived m) answer moves after = Lands image e m answer moves after
+  -- a call that is done: it was begun, and then what must move has moved
+  pub record IsDone (begun : Begun K) (reply : Reply) (moves : List Place) (out : List ℕ) (after : Image K) : Type 0 where
+    pub replies : reply ≡ begun.reply
+    pub settles : Settles begun.image moves after
+    pub takes : out ≡ serials_of begun.out
 
--- there are images, from the first to the last, with a step from each to the next
-abbrev pub Legal : Image → List Entry → Image → Type 0
-Legal image [] after = after ≡ image
-Legal image (entry ∷ entries) after =
-    (next : Image) × Step image entry.end entry.event entry.answer entry.moves next × Legal next entries after
+  -- from what a call has begun to its answer
+  abbrev pub Finishes : Begun K → Answer → List Place → List ℕ → Image K → Type 0
+  Finishes begun (Refused refusal) moves out after = ⊥
+  Finishes begun (Done reply) moves out after = IsDone begun reply moves out after
+  Finishes begun Broke moves out after = IsBroken begun moves out after
+
+  -- a call on an end: refused, or begun and finished
+  abbrev pub Answers : Image K → End → Request (Shape K) → Answer → List Place → List ℕ → Image K → Type 0
+  Answers image e request (Refused refusal) moves out after =
+      IsRefused (refusal_of image e request) refusal image moves out after
+  Answers image e request (Done reply) moves out after =
+      (refusal_of image e request ≡ None) × Finishes (begun_of means image e request) (Done reply) moves out after
+  Answers image e request Broke moves out after =
+      (refusal_of image e request ≡ None) × Finishes (begun_of means image e request) Broke moves out after
+
+  -- an ordinary message that came in from a line waits in the line's list, a high one goes up at once
+  abbrev pub arrived_of : Image K → End → Msg → Image K
+  arrived_of image e m =
+      if is_high m.kind then deliver means image (Up e (count_of image e)) m else with_drv image e (put_in (end_of image e).drv m)
+
+  -- a message comes in from a line, after which what must move has moved
+  abbrev pub Lands : Image K → End → Msg → Answer → List Place → List ℕ → Image K → Type 0
+  Lands image e m (Refused refusal) moves out after = ⊥
+  Lands image e m (Done reply) moves out after =
+      (can_arrive image e m ≡ true) × IsDone (arrival (arrived_of image e m)) reply moves out after
+  Lands image e m Broke moves out after =
+      (can_arrive image e m ≡ true) × IsBroken (arrival (arrived_of image e m)) moves out after
+
+  -- one step of a stream: an event at an end, its answer, the moves, and the serials of the modules that were taken out
+  abbrev pub Step : Image K → End → Event K → Answer → List Place → List ℕ → Image K → Type 0
+  Step image e (Asked request) answer moves out after = Answers image e request answer moves out after
+  Step image e (Arrived m) answer moves out after = Lands image e m answer moves out after
+
+  -- there are images, from the first to the last, with a step from each to the next
+  abbrev pub Legal : Image K → List (Entry K) → Image K → Type 0
+  Legal image [] after = after ≡ image
+  Legal image (entry ∷ entries) after =
+      (next : Image K) × Step image entry.end entry.event entry.answer entry.moves entry.out.items next × Legal next entries after

@@ -1,21 +1,21 @@
-//! The stream head: putmsg and getmsg on a stream, and the services that each call runs.
+//! The stream head: the calls on a stream, and the services that each of them runs.
 //!
 //! A call never waits. It is refused with an errno, or it is done, and then messages move on until
 //! none must move any longer (Programmer's Guide: STREAMS, "Flow Control").
 #![tactic(auto)]
 
-mod answer;
-mod cut;
+mod call;
+mod fault;
 mod history;
-mod place;
-mod request;
+mod outcome;
 mod stream;
 
-pub use answer::{Answer, Outcome, Reply};
+pub use fault::NewFault;
 pub use history::{Entry, Event};
-pub use place::{Driver, Moves, Place};
-pub use request::{MAX_CONTROL, MAX_DATA, More, Priority, Request, Wanted};
-pub use stream::{NewFault, Stream};
-
-#[cfg(test)]
-mod tests;
+pub use outcome::Outcome;
+pub use stream::Stream;
+pub use strm_call::{
+    Answer, GetFlag, MAX_CONTROL, MAX_DATA, More, Peeked, Priority, PutFlag, Received, Refusal,
+    Reply, Request, Wanted,
+};
+pub use strm_chain::{Driver, Moves, Place};

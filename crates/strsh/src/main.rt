@@ -2,14 +2,23 @@
 #![tactic(auto)]
 
 mod spell;
+#[cfg(test)]
+mod tests;
 
 use spell::CallLine;
 use std::alloc::Global;
 use strm_head::{Driver, Entry, Priority, Request, Stream, Wanted};
+use strm_module::{Instance, Kind, Module};
 use strm_msg::{Bytes, End, NoMem};
 
+/// The objects of the stream's modules.
+type Object = Box<dyn Module>;
+
+/// A call: the end on which it is made, and what is asked.
+type Call = (End, Request<Instance<Object>>);
+
 /// What the process asks, in order.
-fn calls(alloc: Global) -> Result<Vec<(End, Request)>, NoMem> {
+fn calls(alloc: Global) -> Result<Vec<Call>, NoMem> {
     let ctl = Some(Bytes::from_slice(alloc, b"c")?);
     let dat = Some(Bytes::from_slice(alloc, b"hello")?);
     let flag = Priority::Norm;
@@ -26,7 +35,7 @@ fn calls(alloc: Global) -> Result<Vec<(End, Request)>, NoMem> {
 }
 
 /// Prints what happened to the stream, a line for each call.
-fn print(rt: &impl Print, entries: &[Entry]) -> anyhow::Result<()> {
+fn print(rt: &impl Print, entries: &[Entry<Kind>]) -> anyhow::Result<()> {
     println!(rt; "stream s")?;
     for entry in entries {
         let line = CallLine {
@@ -42,7 +51,7 @@ fn print(rt: &impl Print, entries: &[Entry]) -> anyhow::Result<()> {
 
 fn main(rt: HostRuntime) -> anyhow::Result<()> {
     let alloc: Global = rt.alloc();
-    let mut stream = Stream::new(alloc, Driver::Echo, (16, 4), (16, 4))?;
+    let mut stream: Stream<Object> = Stream::new(alloc, Driver::Echo, (16, 4), (16, 4))?;
     let entries = stream.apply_all(alloc, calls(alloc)?)?;
     print(&rt, entries.as_slice())
 }

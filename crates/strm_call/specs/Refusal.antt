@@ -1,0 +1,52 @@
+-- Refusals of calls, their numbers and errnos (streamio(7), getmsg(2), putmsg(2): "Errors").
+use Rattle.std.specs.Prelude.{ℕ, Bool, Option, Some, None, List, codes, if◌then◌else◌}
+use Rattle.strm_msg.specs.declared.errno.Errno.{Errno}
+use Rattle.strm_msg.specs.declared.errno.Errno.TheVariants.{EBADF, ENOSR, EINVAL, ERANGE, ENXIO, EBADMSG, ENODATA, EAGAIN}
+use Rattle.strm_call.specs.declared.refusal.Refusal.{Refusal}
+use Rattle.strm_call.specs.declared.refusal.Refusal.TheVariants.{Closed, Broken, Error, Invalid, TooLong, HungUp, BadMessage, NoMessage, WouldWait, NoMemory}
+
+-- in the order in which refusals are looked for
+abbrev pub number_of : Refusal → ℕ
+number_of Closed = 1
+number_of Broken = 2
+number_of (Error errno) = 3
+number_of Invalid = 4
+number_of TooLong = 5
+number_of HungUp = 6
+number_of BadMessage = 7
+number_of NoMessage = 8
+number_of WouldWait = 9
+number_of NoMemory = 10
+
+abbrev pub errno_of : Refusal → Errno
+errno_of Closed = EBADF
+errno_of Broken = ENOSR
+errno_of (Error errno) = errno
+errno_of Invalid = EINVAL
+errno_of TooLong = ERANGE
+errno_of HungUp = ENXIO
+errno_of BadMessage = EBADMSG
+errno_of NoMessage = ENODATA
+errno_of WouldWait = EAGAIN
+errno_of NoMemory = ENOSR
+
+-- the text that a refusal prints
+abbrev pub text_of : Refusal → List ℕ
+text_of Closed = codes "the end is closed"
+text_of Broken = codes "the stream is broken"
+text_of (Error errno) = codes "an error came up"
+text_of Invalid = codes "the call does not take an argument"
+text_of TooLong = codes "a part is too long"
+text_of HungUp = codes "the end is hung up"
+text_of BadMessage = codes "the first message has control"
+text_of NoMessage = codes "no message is there"
+text_of WouldWait = codes "the call would have to wait"
+text_of NoMemory = codes "no memory"
+
+abbrev pub refused_if : Bool → Refusal → Option Refusal
+refused_if holds refusal = if holds then Some refusal else None
+
+-- the earlier of two refusals
+abbrev pub or_else : Option Refusal → Option Refusal → Option Refusal
+or_else None later = later
+or_else (Some refusal) later = Some refusal

@@ -1,0 +1,13 @@
+//! What all calls on a stream share: requests, replies and refusals.
+//!
+//! A call never waits. It is refused with an errno, or it is done and has a reply (streamio(7),
+//! getmsg(2), putmsg(2)). What each call does stands in the crates of the families of calls.
+#![tactic(auto)]
+
+mod answer;
+mod refusal;
+mod request;
+
+pub use answer::{Answer, More, Peeked, Received, Reply};
+pub use refusal::Refusal;
+pub use request::{GetFlag, MAX_CONTROL, MAX_DATA, Priority, PutFlag, Request, Wanted};

@@ -1,0 +1,174 @@
+//! What is asked of a stream.
+use strm_msg::{Bytes, Prot, ReadMode};
+
+/// The most bytes of control that a call sends; more is refused with ERANGE.
+pub const MAX_CONTROL: usize = 1024;
+
+/// The most bytes of data that a call sends; more is refused with ERANGE.
+pub const MAX_DATA: usize = 4096;
+
+/// The priority of a message that putmsg sends or that getmsg took (putmsg(2), getmsg(2)).
+#[derive(Clone, Copy, Debug, PartialEq, Eq)]
+pub enum Priority {
+    /// An ordinary message (0).
+    Norm,
+    /// A high-priority message (RS_HIPRI).
+    Hipri,
+}
+
+/// The flag of a putpmsg (putpmsg(2)).
+#[derive(Clone, Copy, Debug, PartialEq, Eq)]
+pub enum PutFlag {
+    /// No flag, which putpmsg does not take.
+    Zero,
+    /// An ordinary message of a band (MSG_BAND).
+    Band,
+    /// A high-priority message (MSG_HIPRI).
+    Hipri,
+}
+
+/// Which first message a getmsg or a peek takes (getmsg(2), I_PEEK).
+#[derive(Clone, Copy, Debug, PartialEq, Eq)]
+pub enum Wanted {
+    /// Whatever is first (0).
+    Any,
+    /// A high-priority message alone (RS_HIPRI).
+    Hipri,
+}
+
+/// The flag of a getpmsg: which first message it takes (getpmsg(2)).
+#[derive(Clone, Copy, Debug, PartialEq, Eq)]
+pub enum GetFlag {
+    /// No flag, which getpmsg does not take.
+    Zero,
+    /// Whatever is first (MSG_ANY).
+    Any,
+    /// A message of at least the band that is asked for, or a high-priority one (MSG_BAND).
+    Band,
+    /// A high-priority message alone (MSG_HIPRI).
+    Hipri,
+}
+
+/// One call on an end of a stream.
+///
+/// A push carries `P`: the module when the call is made, and the module's shape in a history.
+///
+/// Beside the refusals that it names, each call is refused where its end is closed, the stream is
+/// broken, or an error came up; these three are looked at first. A call that takes memory is refused
+/// last where that is wanting.
+#[derive(Debug, Drop)]
+pub enum Request<P> {
+    /// Sends a message (putmsg(2)): `MProto` of band 0 with control, `MPcproto` with control and
+    /// `Hipri`, `MData` of band 0 with data alone, and nothing without a part.
+    ///
+    /// Refused with EINVAL (`Hipri` without control), ERANGE (a part over its greatest size), ENXIO
+    /// (hung up) and EAGAIN (an ordinary message, and the first write queue is full), in this order.
+    Putmsg {
+        /// The control part, if the message has one.
+        ctl: Option<Bytes>,
+        /// The data part, if the message has one.
+        dat: Option<Bytes>,
+        /// The priority with which it is sent.
+        flag: Priority,
+    },
+    /// Sends a message of a band (putpmsg(2)): with `Band` an `MProto` or an `MData` of that band,
+    /// and nothing without a part; with `Hipri` as putmsg does.
+    ///
+    /// Refused with EINVAL (`Zero`, and `Hipri` without control or with a band other than 0), ERANGE,
+    /// ENXIO and EAGAIN as putmsg is, in this order.
+    Putpmsg {
+        /// The control part, if the message has one.
+        ctl: Option<Bytes>,
+        /// The data part, if the message has one.
+        dat: Option<Bytes>,
+        /// The band of an ordinary message, and 0 for a high one.
+        band: u8,
+        /// The priority with which it is sent.
+        flag: PutFlag,
+    },
+    /// Takes the first message, or a part of it (getmsg(2)). Of an empty list at a hung up end it
+    /// takes two parts of no bytes.
+    ///
+    /// Refused with EAGAIN where no message is there and the end is not hung up, or the first is not
+    /// the one that is wanted.
+    Getmsg {
+        /// The most bytes of control to take; with `None` the control part stays.
+        maxctl: Option<u16>,
+        /// The most bytes of data to take; with `None` the data part stays.
+        maxdat: Option<u16>,
+        /// Which message is wanted.
+        flag: Wanted,
+    },
+    /// Takes the first message, or a part of it, of some band (getpmsg(2)). Of an empty list at a
+    /// hung up end it takes two parts of no bytes.
+    ///
+    /// Refused with EINVAL (`Zero`), and with EAGAIN as getmsg is, in this order.
+    Getpmsg {
+        /// The most bytes of control to take; with `None` the control part stays.
+        maxctl: Option<u16>,
+        /// The most bytes of data to take; with `None` the data part stays.
+        maxdat: Option<u16>,
+        /// With `Band`, the least band that is wanted.
+        band: u8,
+        /// Which message is wanted.
+        flag: GetFlag,
+    },
+    /// Reads bytes (read(2)), as the read mode says. 0 bytes are read without a look at the stream,
+    /// and at a hung up end without messages there are none to read.
+    ///
+    /// Refused with EBADMSG where the first message has control and the mode has `Norm`, and with
+    /// EAGAIN where no message is there and the end is not hung up, in this order.
+    Read {
+        /// The most bytes to read.
+        max: u16,
+    },
+    /// Sends one `MData` of band 0, an empty one too (write(2)).
+    ///
+    /// Refused with ERANGE (over `MAX_DATA` bytes), ENXIO (hung up) and EAGAIN (the first write queue
+    /// is full), in this order.
+    Write {
+        /// The bytes to send.
+        dat: Bytes,
+    },
+    /// Puts a module in just below the head (I_PUSH).
+    ///
+    /// Refused with EINVAL (`MOST_MODULES` modules stand there) and ENXIO (hung up), in this order.
+    Push {
+        /// The module.
+        instance: P,
+    },
+    /// Asks how many messages wait at the head, and how much data the first has (I_NREAD).
+    Nread,
+    /// Looks at the first message, as getmsg would take it, and leaves it there (I_PEEK).
+    Peek {
+        /// The most bytes of control to show; with `None` control is not shown.
+        maxctl: Option<u16>,
+        /// The most bytes of data to show; with `None` data is not shown.
+        maxdat: Option<u16>,
+        /// Which message is wanted.
+        flag: Wanted,
+    },
+    /// Sets how reads treat messages (I_SRDOPT).
+    SetRead {
+        /// What becomes of the bounds of messages.
+        mode: ReadMode,
+        /// What becomes of control.
+        prot: Prot,
+    },
+    /// Asks how reads treat messages (I_GRDOPT).
+    GetRead,
+    /// Asks whether an ordinary message of a band could be sent (I_CANPUT).
+    Canput {
+        /// The band.
+        band: u8,
+    },
+    /// Asks whether an ordinary message of a band waits at the head (I_CKBAND).
+    Ckband {
+        /// The band.
+        band: u8,
+    },
+    /// Asks for the band of the first message at the head (I_GETBAND).
+    ///
+    /// Refused with ENODATA where none is there.
+    Getband,
+}

@@ -1,0 +1,46 @@
+-- Calls that ask about the messages at the head, and about room below it (streamio(7)).
+use Rattle.std.specs.Prelude.{ℕ, not, Bool, true, false, Option, List, [], ◌∷◌, length}
+use Rattle.strm_msg.specs.Message.{Msg, part_len}
+use Rattle.strm_msg.specs.declared.words.End.{End}
+use Rattle.strm_queue.specs.Queue.{has_band}
+use Rattle.strm_qpair.specs.Canput.{below, full_in}
+use Rattle.strm_chain.specs.Image.{Image, end_of}
+use Rattle.strm_call.specs.declared.refusal.Refusal.{Refusal}
+use Rattle.strm_call.specs.declared.refusal.Refusal.TheVariants.{NoMessage}
+use Rattle.strm_call.specs.declared.answer.Reply.TheVariants.{Nread, Canput, Ckband, Getband}
+use Rattle.strm_call.specs.Refusal.{refused_if}
+use Rattle.strm_call.specs.Begun.{Begun, told}
+
+-- the bytes of data of the first message
+abbrev pub first_data : List Msg → ℕ
+first_data [] = 0
+first_data (m ∷ q) = part_len m.dat
+
+-- I_NREAD
+abbrev pub nread_begun : {K : Type 0} → Image K → End → Begun K
+nread_begun image e =
+    let q = (end_of image e).head in told image (Nread (length q) (first_data q))
+
+-- I_CANPUT: the first write queue is not full in the band
+abbrev pub canput_begun : {K : Type 0} → Image K → End → ℕ → Begun K
+canput_begun image e band = told image (Canput (not (full_in (below image.driver (end_of image e) 0) band)))
+
+-- I_CKBAND: an ordinary message of the band waits
+abbrev pub ckband_begun : {K : Type 0} → Image K → End → ℕ → Begun K
+ckband_begun image e band = told image (Ckband (has_band (end_of image e).head band))
+
+abbrev pub is_empty : List Msg → Bool
+is_empty [] = true
+is_empty (m ∷ q) = false
+
+abbrev pub getband_refusal : {K : Type 0} → Image K → End → Option Refusal
+getband_refusal image e = refused_if (is_empty (end_of image e).head) NoMessage
+
+-- a high message is of band 0
+abbrev pub first_band : List Msg → ℕ
+first_band [] = 0
+first_band (m ∷ q) = m.band
+
+-- I_GETBAND
+abbrev pub getband_begun : {K : Type 0} → Image K → End → Begun K
+getband_begun image e = told image (Getband (first_band (end_of image e).head))

@@ -1,0 +1,3 @@
+pub mod Ask
+pub mod Options
+pub mod Modules

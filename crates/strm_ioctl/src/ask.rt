@@ -1,0 +1,78 @@
+//! Nread, canput, ckband and getband: questions, which change nothing and take no memory.
+ghost use Rattle.std.specs.Prelude.{◌≡◌, true, is_some, slice_get};
+ghost use Rattle.strm_msg.specs.Message.{part_len};
+ghost use Rattle.strm_chain.specs.Image.{end_of};
+ghost use Rattle.strm_ioctl.specs.Ask.{nread_begun, canput_begun, ckband_begun, getband_begun, getband_refusal};
+
+use strm_call::{Refusal, Reply};
+use strm_chain::Chain;
+use strm_module::ModuleOf;
+use strm_msg::{End, Message};
+
+/// How many bytes of data a message has.
+fn data_len(m: &Message) -> u64
+    ensures { result ≡ part_len m.now.dat }
+{
+    match &m.dat {
+        Some(dat) => dat.len() as u64,
+        None => 0,
+    }
+}
+
+/// Tells how many messages wait at the head, and how many bytes of data the first of them has
+/// (streamio(7), I_NREAD).
+pub fn nread<M: ModuleOf>(chain: &Chain<M>, end: End) -> Reply
+    ensures { result ≡ (nread_begun chain.now.image end).reply }
+{
+    let head = chain.head(end);
+    let bytes = match head.first() {
+        Some(first) => data_len(first),
+        None => 0,
+    };
+    Reply::Nread {
+        messages: head.len() as u64,
+        bytes,
+    }
+}
+
+/// Tells whether an ordinary message of a band could be sent: the first write queue is not full in
+/// it (streamio(7), I_CANPUT).
+pub fn canput<M: ModuleOf>(chain: &Chain<M>, end: End, band: u8) -> Reply
+    ensures { result ≡ (canput_begun chain.now.image end band).reply }
+{
+    Reply::Canput {
+        can: !chain.full_ahead(end, band),
+    }
+}
+
+/// Tells whether an ordinary message of a band waits at the head (streamio(7), I_CKBAND).
+pub fn ckband<M: ModuleOf>(chain: &Chain<M>, end: End, band: u8) -> Reply
+    ensures { result ≡ (ckband_begun chain.now.image end band).reply }
+{
+    Reply::Ckband {
+        waits: chain.head(end).has_band(band),
+    }
+}
+
+/// The refusal of a getband's own: ENODATA where no message waits at the head (streamio(7),
+/// I_GETBAND).
+pub fn getband_refusal<M: ModuleOf>(chain: &Chain<M>, end: End) -> Option<Refusal>
+    ensures { result ≡ getband_refusal chain.now.image end }
+{
+    match chain.head(end).first() {
+        Some(_) => None,
+        None => Some(Refusal::NoMessage),
+    }
+}
+
+/// Tells the band of the first message at the head, 0 for a high one (streamio(7), I_GETBAND). To be
+/// called where a message waits.
+pub fn getband<M: ModuleOf>(chain: &Chain<M>, end: End) -> Reply
+    requires { is_some (slice_get (end_of chain.now.image end).head 0) ≡ true }
+    ensures { result ≡ (getband_begun chain.now.image end).reply }
+{
+    let first = chain.head(end).first().unwrap();
+    Reply::Getband {
+        band: u64::from(first.band),
+    }
+}

@@ -1,0 +1,28 @@
+//! How reads treat messages: asked and set, without memory.
+ghost use Rattle.std.specs.Prelude.{◌≡◌};
+ghost use Rattle.strm_ioctl.specs.Options.{set_read_begun, get_read_begun};
+
+use strm_call::Reply;
+use strm_chain::Chain;
+use strm_module::ModuleOf;
+use strm_msg::{End, Prot, ReadMode};
+
+/// Sets how reads at an end treat the bounds of messages, and control (streamio(7), I_SRDOPT).
+pub fn set_read<M: ModuleOf>(chain: &mut Chain<M>, end: End, mode: ReadMode, prot: Prot) -> Reply
+    ensures reply { result ≡ (set_read_begun chain.old.image end mode prot).reply }
+    ensures image { chain.new.image ≡ (set_read_begun chain.old.image end mode prot).image }
+{
+    chain.set_mode(end, mode, prot);
+    Reply::SetRead
+}
+
+/// Tells how reads at an end treat the bounds of messages, and control (streamio(7), I_GRDOPT).
+pub fn get_read<M: ModuleOf>(chain: &Chain<M>, end: End) -> Reply
+    ensures { result ≡ (get_read_begun chain.now.image end).reply }
+{
+    let state = chain.state(end);
+    Reply::GetRead {
+        mode: state.mode,
+        prot: state.prot,
+    }
+}

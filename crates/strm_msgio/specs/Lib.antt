@@ -1,0 +1,4 @@
+pub mod Cut
+pub mod Read
+pub mod Send
+pub mod Take

@@ -1,0 +1,101 @@
+-- Calls that send a message down: putmsg, putpmsg and write (putmsg(2), write(2)).
+use Rattle.std.specs.Prelude.{ℕ, ◌==◌, ◌||◌, not, nat_lt, Bool, true, false, Option, Some, None, List, length, option_map, is_none, if◌then◌else◌}
+use Rattle.strm_msg.specs.Kind.{is_high}
+use Rattle.strm_msg.specs.Message.{Msg, Part, part_len, data_msg, proto_msg, pcproto_msg}
+use Rattle.strm_msg.specs.declared.words.End.{End}
+use Rattle.strm_module.specs.Kinds.{Meaning}
+use Rattle.strm_qpair.specs.Canput.{below, full_in}
+use Rattle.strm_chain.specs.declared.place.Spot.TheVariants.{Down}
+use Rattle.strm_chain.specs.Image.{Image, end_of}
+use Rattle.strm_chain.specs.Deliver.{deliver}
+use Rattle.strm_call.specs.declared.request.TheConstants.{MAX_CONTROL, MAX_DATA}
+use Rattle.strm_call.specs.declared.request.Priority.{Priority}
+use Rattle.strm_call.specs.declared.request.Priority.TheVariants.{Norm, Hipri}
+use Rattle.strm_call.specs.declared.request.PutFlag.{PutFlag}
+use Rattle.strm_call.specs.declared.refusal.Refusal.{Refusal}
+use Rattle.strm_call.specs.declared.refusal.Refusal.TheVariants.{Invalid, TooLong, HungUp, WouldWait}
+use Rattle.strm_call.specs.declared.answer.Reply.TheVariants as Reply
+use Rattle.strm_call.specs.Refusal.{refused_if, or_else}
+use Rattle.strm_call.specs.Begun.{Begun, begun}
+
+-- an ordinary message of a band: with control a protocol message, else data; none without a part
+abbrev pub ordinary_message : ℕ → Part → Part → Option Msg
+ordinary_message band None dat = option_map (data_msg band) dat
+ordinary_message band (Some ctl) dat = Some (proto_msg band ctl dat)
+
+-- a high-priority message, which has control
+abbrev pub high_message : Part → Part → Option Msg
+high_message None dat = None
+high_message (Some ctl) dat = Some (pcproto_msg ctl dat)
+
+-- the message that a putmsg sends
+abbrev pub putmsg_message : Part → Part → Priority → Option Msg
+putmsg_message ctl dat Norm = ordinary_message 0 ctl dat
+putmsg_message ctl dat Hipri = high_message ctl dat
+
+-- the message that a putpmsg sends
+abbrev pub putpmsg_message : Part → Part → ℕ → PutFlag → Option Msg
+putpmsg_message ctl dat band PutFlag.Zero = None
+putpmsg_message ctl dat band PutFlag.Band = ordinary_message band ctl dat
+putpmsg_message ctl dat band PutFlag.Hipri = high_message ctl dat
+
+-- the greatest sizes of a part that a call sends, in bytes
+abbrev pub is_too_long : Part → Part → Bool
+is_too_long ctl dat = nat_lt MAX_CONTROL (part_len ctl) || nat_lt MAX_DATA (part_len dat)
+
+-- the band of the message that a call sends, where that is an ordinary one
+abbrev pub ordinary_band : Option Msg → Option ℕ
+ordinary_band None = None
+ordinary_band (Some m) = if is_high m.kind then None else Some m.band
+
+-- an ordinary message of a band would have to wait to be sent: the first write queue of the end is full in the band
+abbrev pub would_wait : {K : Type 0} → Image K → End → Option ℕ → Bool
+would_wait image e None = false
+would_wait image e (Some band) = full_in (below image.driver (end_of image e) 0) band
+
+abbrev pub waiting_refusal : {K : Type 0} → Image K → End → Option ℕ → Option Refusal
+waiting_refusal image e band =
+    or_else (refused_if (end_of image e).state.hung HungUp) (refused_if (would_wait image e band) WouldWait)
+
+-- what refuses each call that sends: a part that is too long, an end that is hung up, a queue that is full
+abbrev pub sending_refusal : {K : Type 0} → Image K → End → Part → Part → Option ℕ → Option Refusal
+sending_refusal image e ctl dat band = or_else (refused_if (is_too_long ctl dat) TooLong) (waiting_refusal image e band)
+
+-- a high message has control
+abbrev pub is_invalid_putmsg : Part → Priority → Bool
+is_invalid_putmsg ctl Norm = false
+is_invalid_putmsg ctl Hipri = is_none ctl
+
+abbrev pub putmsg_refusal : {K : Type 0} → Image K → End → Part → Part → Priority → Option Refusal
+putmsg_refusal image e ctl dat flag =
+    or_else (refused_if (is_invalid_putmsg ctl flag) Invalid) (sending_refusal image e ctl dat (ordinary_band (putmsg_message ctl dat flag)))
+
+-- there is a flag, and a high message has control and band 0
+abbrev pub is_invalid_putpmsg : Part → ℕ → PutFlag → Bool
+is_invalid_putpmsg ctl band PutFlag.Zero = true
+is_invalid_putpmsg ctl band PutFlag.Band = false
+is_invalid_putpmsg ctl band PutFlag.Hipri = is_none ctl || not (band == 0)
+
+abbrev pub putpmsg_refusal : {K : Type 0} → Image K → End → Part → Part → ℕ → PutFlag → Option Refusal
+putpmsg_refusal image e ctl dat band flag =
+    or_else (refused_if (is_invalid_putpmsg ctl band flag) Invalid) (sending_refusal image e ctl dat (ordinary_band (putpmsg_message ctl dat band flag)))
+
+abbrev pub write_refusal : {K : Type 0} → Image K → End → List ℕ → Option Refusal
+write_refusal image e dat = sending_refusal image e None (Some dat) (Some 0)
+
+-- for kinds of any meaning
+module _ {K : Type 0} (means : Meaning K) where
+  -- a message goes down from the head
+  abbrev pub sent_of : Image K → End → Option Msg → Image K
+  sent_of image e None = image
+  sent_of image e (Some m) = deliver means image (Down e 1) m
+
+  abbrev pub putmsg_begun : Image K → End → Part → Part → Priority → Begun K
+  putmsg_begun image e ctl dat flag = begun (sent_of image e (putmsg_message ctl dat flag)) Reply.Putmsg
+
+  abbrev pub putpmsg_begun : Image K → End → Part → Part → ℕ → PutFlag → Begun K
+  putpmsg_begun image e ctl dat band flag = begun (sent_of image e (putpmsg_message ctl dat band flag)) Reply.Putpmsg
+
+  -- a write is one message of band 0, an empty one too
+  abbrev pub write_begun : Image K → End → List ℕ → Begun K
+  write_begun image e dat = begun (sent_of image e (Some (data_msg 0 dat))) (Reply.Write (length dat))

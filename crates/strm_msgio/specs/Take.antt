@@ -1,0 +1,102 @@
+-- Calls that take the first message at the head, or look at it: getmsg, getpmsg and peek (getmsg(2); streamio(7), I_PEEK).
+use Rattle.std.specs.Prelude.{ℕ, ◌||◌, not, nat_le, Bool, true, false, Option, Some, None, List, [], ◌∷◌, slice_get, if◌then◌else◌}
+use Rattle.strm_msg.specs.Kind.{is_high}
+use Rattle.strm_msg.specs.Message.{Msg}
+use Rattle.strm_msg.specs.declared.words.End.{End}
+use Rattle.strm_queue.specs.Queue.{put_back_in}
+use Rattle.strm_qpair.specs.End.{EndState}
+use Rattle.strm_chain.specs.Image.{Image, end_of, with_head}
+use Rattle.strm_call.specs.declared.request.Priority.{Priority}
+use Rattle.strm_call.specs.declared.request.Priority.TheVariants.{Norm, Hipri}
+use Rattle.strm_call.specs.declared.request.Wanted.{Wanted}
+use Rattle.strm_call.specs.declared.request.GetFlag.{GetFlag}
+use Rattle.strm_call.specs.declared.refusal.Refusal.{Refusal}
+use Rattle.strm_call.specs.declared.refusal.Refusal.TheVariants.{Invalid, WouldWait}
+use Rattle.strm_call.specs.declared.answer.More.TheVariants.{Nothing}
+use Rattle.strm_call.specs.declared.answer.Received.{Received}
+use Rattle.strm_call.specs.declared.answer.Peeked.{Peeked}
+use Rattle.strm_call.specs.declared.answer.Reply.{Reply}
+use Rattle.strm_call.specs.Refusal.{refused_if, or_else}
+use Rattle.strm_call.specs.Begun.{Begun, begun, told}
+use Rattle.strm_msgio.specs.Cut.{Most, cut_of}
+
+-- whether a getmsg takes this message
+abbrev pub is_wanted : Wanted → Msg → Bool
+is_wanted Wanted.Any m = true
+is_wanted Wanted.Hipri m = is_high m.kind
+
+-- whether a getpmsg takes this message
+abbrev pub is_wanted_in : GetFlag → ℕ → Msg → Bool
+is_wanted_in GetFlag.Zero band m = false
+is_wanted_in GetFlag.Any band m = true
+is_wanted_in GetFlag.Band band m = is_high m.kind || nat_le band m.band
+is_wanted_in GetFlag.Hipri band m = is_high m.kind
+
+abbrev pub first_of : List Msg → Option Msg
+first_of q = slice_get q 0
+
+-- the call would have to wait: the first message is not one that it takes, or none is there and the end is not hung up
+abbrev pub lacks_message : {K : Type 0} → EndState K → Option Msg → (Msg → Bool) → Bool
+lacks_message e None takes = not e.state.hung
+lacks_message e (Some m) takes = not (takes m)
+
+abbrev pub getmsg_refusal : {K : Type 0} → Image K → End → Wanted → Option Refusal
+getmsg_refusal image e flag = refused_if (lacks_message (end_of image e) (first_of (end_of image e).head) (is_wanted flag)) WouldWait
+
+abbrev pub is_zero : GetFlag → Bool
+is_zero GetFlag.Zero = true
+is_zero GetFlag.Any = false
+is_zero GetFlag.Band = false
+is_zero GetFlag.Hipri = false
+
+abbrev pub getpmsg_refusal : {K : Type 0} → Image K → End → ℕ → GetFlag → Option Refusal
+getpmsg_refusal image e band flag =
+    or_else (refused_if (is_zero flag) Invalid) (refused_if (lacks_message (end_of image e) (first_of (end_of image e).head) (is_wanted_in flag band)) WouldWait)
+
+abbrev pub put_back_if : List Msg → Option Msg → List Msg
+put_back_if q None = q
+put_back_if q (Some m) = put_back_in q m
+
+-- the list of a head from whose first message this much is taken; the rest is put back
+abbrev pub taken_from : List Msg → Most → Most → List Msg
+taken_from [] maxctl maxdat = []
+taken_from (m ∷ q) maxctl maxdat = put_back_if q (cut_of m maxctl maxdat).rest
+
+abbrev pub priority_of : Msg → Priority
+priority_of m = if is_high m.kind then Hipri else Norm
+
+abbrev pub received_of : Msg → Received
+received_of m = if is_high m.kind then Received.Hipri else Received.Band m.band
+
+-- what is given of the first message; at a hung up end without messages both parts have length 0
+abbrev pub getmsg_reply : Option Msg → Most → Most → Reply
+getmsg_reply None maxctl maxdat = Reply.Getmsg (Some []) (Some []) Norm Nothing
+getmsg_reply (Some m) maxctl maxdat =
+    let cut = cut_of m maxctl maxdat in Reply.Getmsg cut.ctl cut.dat (priority_of m) cut.more
+
+abbrev pub getpmsg_reply : Option Msg → Most → Most → Reply
+getpmsg_reply None maxctl maxdat = Reply.Getpmsg (Some []) (Some []) (Received.Band 0) Nothing
+getpmsg_reply (Some m) maxctl maxdat =
+    let cut = cut_of m maxctl maxdat in Reply.Getpmsg cut.ctl cut.dat (received_of m) cut.more
+
+abbrev pub getmsg_begun : {K : Type 0} → Image K → End → Most → Most → Begun K
+getmsg_begun image e maxctl maxdat =
+    let q = (end_of image e).head in begun (with_head image e (taken_from q maxctl maxdat)) (getmsg_reply (first_of q) maxctl maxdat)
+
+abbrev pub getpmsg_begun : {K : Type 0} → Image K → End → Most → Most → Begun K
+getpmsg_begun image e maxctl maxdat =
+    let q = (end_of image e).head in begun (with_head image e (taken_from q maxctl maxdat)) (getpmsg_reply (first_of q) maxctl maxdat)
+
+-- what a peek shows of a message that it wants
+abbrev pub shown_of : Msg → Most → Most → Peeked
+shown_of m maxctl maxdat =
+    let cut = cut_of m maxctl maxdat in record { ctl = cut.ctl; dat = cut.dat; flag = priority_of m }
+
+abbrev pub peeked_of : Option Msg → Most → Most → Wanted → Option Peeked
+peeked_of None maxctl maxdat flag = None
+peeked_of (Some m) maxctl maxdat flag = if is_wanted flag m then Some (shown_of m maxctl maxdat) else None
+
+-- a peek takes nothing away
+abbrev pub peek_begun : {K : Type 0} → Image K → End → Most → Most → Wanted → Begun K
+peek_begun image e maxctl maxdat flag =
+    told image (Reply.Peek (peeked_of (first_of (end_of image e).head) maxctl maxdat flag))

@@ -1,0 +1,233 @@
+//! Putmsg, putpmsg and write: a message is made and sent down.
+ghost use Rattle.std.specs.Prelude.{◌≡◌, true, false, IfOk, OnOk, IfErr, IsOk, IsNone, nat_lt};
+ghost use Rattle.strm_msg.specs.Message.{part_len};
+ghost use Rattle.strm_chain.specs.Deliver.{is_there};
+ghost use Rattle.strm_chain.specs.declared.place.Spot.TheVariants as Spots;
+ghost use Rattle.strm_call.specs.Begun.{Fails};
+ghost use Rattle.strm_msgio.specs.Send.{putmsg_refusal, putpmsg_refusal, write_refusal, putmsg_begun, putpmsg_begun, write_begun, putmsg_message, putpmsg_message, ordinary_message, high_message, ordinary_band, waiting_refusal, sending_refusal, sent_of};
+
+use strm_call::{MAX_CONTROL, MAX_DATA, Priority, PutFlag, Refusal, Reply};
+use strm_chain::{Chain, ChainFault, Spot};
+use strm_module::ModuleOf;
+use strm_msg::{Bytes, End, Message, MsgKind};
+
+/// Whether a part has more bytes than `most`.
+fn is_longer(part: &Option<Bytes>, most: usize) -> bool
+    ensures { result ≡ nat_lt most (part_len part.now) }
+{
+    match part {
+        Some(bytes) => bytes.len() > most,
+        None => false,
+    }
+}
+
+/// What refuses each call that sends, but for a part that is too long: an end that is hung up, and a
+/// first write queue that is full in the band of an ordinary message.
+fn waiting_refusal<M: ModuleOf>(chain: &Chain<M>, end: End, band: Option<u8>) -> Option<Refusal>
+    ensures { result ≡ waiting_refusal chain.now.image end band }
+{
+    if chain.state(end).hung {
+        return Some(Refusal::HungUp);
+    }
+    match band {
+        Some(band) if chain.full_ahead(end, band) => Some(Refusal::WouldWait),
+        _ => None,
+    }
+}
+
+/// What refuses each call that sends.
+fn sending_refusal<M: ModuleOf>(
+    chain: &Chain<M>,
+    end: End,
+    ctl: &Option<Bytes>,
+    dat: &Option<Bytes>,
+    band: Option<u8>,
+) -> Option<Refusal>
+    ensures { result ≡ sending_refusal chain.now.image end ctl.now dat.now band }
+{
+    if is_longer(ctl, MAX_CONTROL) || is_longer(dat, MAX_DATA) {
+        return Some(Refusal::TooLong);
+    }
+    waiting_refusal(chain, end, band)
+}
+
+/// The band of an ordinary message of these parts, if they make one.
+fn ordinary_band(band: u8, ctl: &Option<Bytes>, dat: &Option<Bytes>) -> Option<u8>
+    ensures { result ≡ ordinary_band (ordinary_message band ctl.now dat.now) }
+{
+    match (ctl, dat) {
+        (None, None) => None,
+        _ => Some(band),
+    }
+}
+
+/// The ordinary message of a band that these parts make, if they make one.
+fn ordinary_message(band: u8, ctl: Option<Bytes>, dat: Option<Bytes>) -> Option<Message>
+    ensures { result ≡ ordinary_message band ctl dat }
+{
+    match ctl {
+        Some(ctl) => Some(Message {
+            kind: MsgKind::MProto,
+            band,
+            ctl: Some(ctl),
+            dat,
+        }),
+        None => dat.map(|dat| Message {
+            kind: MsgKind::MData,
+            band,
+            ctl: None,
+            dat: Some(dat),
+        }),
+    }
+}
+
+/// The high-priority message that these parts make, if there is control.
+fn high_message(ctl: Option<Bytes>, dat: Option<Bytes>) -> Option<Message>
+    ensures { result ≡ high_message ctl dat }
+{
+    ctl.map(|ctl| Message {
+        kind: MsgKind::MPcproto,
+        band: 0,
+        ctl: Some(ctl),
+        dat,
+    })
+}
+
+/// Sends a message down from the head, if there is one.
+fn send<M: ModuleOf>(chain: &mut Chain<M>, end: End, m: Option<Message>) -> Result<(), ChainFault>
+    requires there { is_there chain.old.image (Spots.Down end 1) ≡ true }
+    requires whole { chain.old.image.broken ≡ false }
+    ensures image { OnOk result (chain.new.image ≡ sent_of M.Kind.means chain.old.image end m) }
+    ensures refused { IfErr result (λ fault. Fails fault chain.old.image (sent_of M.Kind.means chain.old.image end m) chain.new.image) }
+    ensures nothing { IsNone m → IsOk result }
+{
+    match m {
+        Some(m) => chain.deliver(Spot::top(end), m),
+        None => Ok(()),
+    }
+}
+
+/// The first of a putmsg's own refusals that holds: EINVAL for a high message without control,
+/// ERANGE for a part over its greatest size, ENXIO for an end that is hung up, and EAGAIN for an
+/// ordinary message whose band is full in the first write queue (putmsg(2)).
+pub fn putmsg_refusal<M: ModuleOf>(
+    chain: &Chain<M>,
+    end: End,
+    ctl: &Option<Bytes>,
+    dat: &Option<Bytes>,
+    flag: Priority,
+) -> Option<Refusal>
+    ensures { result ≡ putmsg_refusal chain.now.image end ctl.now dat.now flag }
+{
+    let band = match flag {
+        Priority::Norm => ordinary_band(0, ctl, dat),
+        Priority::Hipri if ctl.is_none() => return Some(Refusal::Invalid),
+        Priority::Hipri => None,
+    };
+    sending_refusal(chain, end, ctl, dat, band)
+}
+
+/// Makes the message of a putmsg and sends it down. Without a part nothing is sent, but a high
+/// message without control is a refusal (putmsg(2)).
+///
+/// To be called where the end is there, and the chain is not broken. Refused for want of memory
+/// alone, and not where nothing is sent: nothing is changed, or the chain breaks.
+pub fn putmsg<M: ModuleOf>(
+    chain: &mut Chain<M>,
+    end: End,
+    ctl: Option<Bytes>,
+    dat: Option<Bytes>,
+    flag: Priority,
+) -> Result<Reply, ChainFault>
+    requires there { is_there chain.old.image (Spots.Down end 1) ≡ true }
+    requires whole { chain.old.image.broken ≡ false }
+    ensures reply { IfOk result (λ reply. reply ≡ (putmsg_begun M.Kind.means chain.old.image end ctl dat flag).reply) }
+    ensures image { OnOk result (chain.new.image ≡ (putmsg_begun M.Kind.means chain.old.image end ctl dat flag).image) }
+    ensures refused { IfErr result (λ fault. Fails fault chain.old.image (putmsg_begun M.Kind.means chain.old.image end ctl dat flag).image chain.new.image) }
+    ensures nothing { IsNone (putmsg_message ctl dat flag) → IsOk result }
+{
+    let m = match flag {
+        Priority::Norm => ordinary_message(0, ctl, dat),
+        Priority::Hipri => high_message(ctl, dat),
+    };
+    send(chain, end, m)?;
+    Ok(Reply::Putmsg)
+}
+
+/// The first of a putpmsg's own refusals that holds: EINVAL without a flag, and for a high message
+/// without control or of a band other than 0; ERANGE for a part over its greatest size; ENXIO for an
+/// end that is hung up; and EAGAIN for an ordinary message whose band is full in the first write
+/// queue (putpmsg(2)).
+pub fn putpmsg_refusal<M: ModuleOf>(
+    chain: &Chain<M>,
+    end: End,
+    ctl: &Option<Bytes>,
+    dat: &Option<Bytes>,
+    band: u8,
+    flag: PutFlag,
+) -> Option<Refusal>
+    ensures { result ≡ putpmsg_refusal chain.now.image end ctl.now dat.now band flag }
+{
+    let ordinary = match flag {
+        PutFlag::Zero => return Some(Refusal::Invalid),
+        PutFlag::Band => ordinary_band(band, ctl, dat),
+        PutFlag::Hipri if ctl.is_none() || band != 0 => return Some(Refusal::Invalid),
+        PutFlag::Hipri => None,
+    };
+    sending_refusal(chain, end, ctl, dat, ordinary)
+}
+
+/// Makes the message of a putpmsg and sends it down. Without a part nothing is sent (putpmsg(2)).
+///
+/// To be called where the end is there, and the chain is not broken. Refused for want of memory
+/// alone, and not where nothing is sent: nothing is changed, or the chain breaks.
+pub fn putpmsg<M: ModuleOf>(
+    chain: &mut Chain<M>,
+    end: End,
+    ctl: Option<Bytes>,
+    dat: Option<Bytes>,
+    band: u8,
+    flag: PutFlag,
+) -> Result<Reply, ChainFault>
+    requires there { is_there chain.old.image (Spots.Down end 1) ≡ true }
+    requires whole { chain.old.image.broken ≡ false }
+    ensures reply { IfOk result (λ reply. reply ≡ (putpmsg_begun M.Kind.means chain.old.image end ctl dat band flag).reply) }
+    ensures image { OnOk result (chain.new.image ≡ (putpmsg_begun M.Kind.means chain.old.image end ctl dat band flag).image) }
+    ensures refused { IfErr result (λ fault. Fails fault chain.old.image (putpmsg_begun M.Kind.means chain.old.image end ctl dat band flag).image chain.new.image) }
+    ensures nothing { IsNone (putpmsg_message ctl dat band flag) → IsOk result }
+{
+    let m = match flag {
+        PutFlag::Zero => None,
+        PutFlag::Band => ordinary_message(band, ctl, dat),
+        PutFlag::Hipri => high_message(ctl, dat),
+    };
+    send(chain, end, m)?;
+    Ok(Reply::Putpmsg)
+}
+
+/// The first of a write's own refusals that holds: ERANGE for more than `MAX_DATA` bytes, ENXIO for
+/// an end that is hung up, and EAGAIN where band 0 is full in the first write queue (write(2)).
+pub fn write_refusal<M: ModuleOf>(chain: &Chain<M>, end: End, dat: &Bytes) -> Option<Refusal>
+    ensures { result ≡ write_refusal chain.now.image end dat.now }
+{
+    if dat.len() > MAX_DATA {
+        return Some(Refusal::TooLong);
+    }
+    waiting_refusal(chain, end, Some(0))
+}
+
+/// Sends the bytes of a write down as one message of band 0, an empty one too (write(2)).
+///
+/// To be called where the end is there, and the chain is not broken. Refused for want of memory
+/// alone, and not where nothing is sent: nothing is changed, or the chain breaks.
+pub fn write<M: ModuleOf>(chain: &mut Chain<M>, end: End, dat: Bytes) -> Result<Reply, ChainFault>
+    requires there { is_there chain.old.image (Spots.Down end 1) ≡ true }
+    requires whole { chain.old.image.broken ≡ false }
+    ensures reply { IfOk result (λ reply. reply ≡ (write_begun M.Kind.means chain.old.image end dat).reply) }
+    ensures image { OnOk result (chain.new.image ≡ (write_begun M.Kind.means chain.old.image end dat).image) }
+    ensures refused { IfErr result (λ fault. Fails fault chain.old.image (write_begun M.Kind.means chain.old.image end dat).image chain.new.image) }
+{
+    let len = dat.len() as u64;
+    send(chain, end, ordinary_message(0, None, Some(dat)))?;
+    Ok(Reply::Write { len })
+}

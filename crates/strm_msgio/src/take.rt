@@ -1,0 +1,224 @@
+//! Getmsg, getpmsg and peek: the first message at the head is taken in part or whole, or looked at.
+ghost use Rattle.std.specs.Prelude.{◌≡◌, ◌<◌, true, [], OnOk, OnErr, IfOk, IsOk, IsNone, drop, slice_get, is_some};
+ghost use Rattle.strm_msg.specs.Message.{rank_of};
+ghost use Rattle.strm_queue.specs.Room.{room_for};
+ghost use Rattle.strm_chain.specs.Image.{end_of, with_head, room_of};
+ghost use Rattle.strm_msgio.specs.Take.{first_of, peeked_of, is_wanted, is_wanted_in, getmsg_refusal, getpmsg_refusal, put_back_if, priority_of, received_of, getmsg_begun, getpmsg_begun, peek_begun};
+
+use crate::cut::Cut;
+use std::alloc::Global;
+use strm_call::{GetFlag, More, Peeked, Priority, Received, Refusal, Reply, Wanted};
+use strm_chain::Chain;
+use strm_module::ModuleOf;
+use strm_msg::{Bytes, End, Message, NoMem};
+
+/// Whether a getmsg or a peek wants a message.
+fn is_wanted(flag: Wanted, m: &Message) -> bool
+    ensures { result ≡ is_wanted flag m.now }
+{
+    match flag {
+        Wanted::Any => true,
+        Wanted::Hipri => m.is_high(),
+    }
+}
+
+/// Whether a getpmsg wants a message.
+fn is_wanted_in(flag: GetFlag, band: u8, m: &Message) -> bool
+    ensures { result ≡ is_wanted_in flag band m.now }
+{
+    match flag {
+        GetFlag::Zero => false,
+        GetFlag::Any => true,
+        GetFlag::Band => m.is_high() || m.band >= band,
+        GetFlag::Hipri => m.is_high(),
+    }
+}
+
+fn priority_of(m: &Message) -> Priority
+    ensures { result ≡ priority_of m.now }
+{
+    if m.is_high() {
+        Priority::Hipri
+    } else {
+        Priority::Norm
+    }
+}
+
+fn received_of(m: &Message) -> Received
+    ensures { result ≡ received_of m.now }
+{
+    if m.is_high() {
+        Received::Hipri
+    } else {
+        Received::Band {
+            band: u64::from(m.band),
+        }
+    }
+}
+
+/// No bytes. Takes no memory.
+fn no_bytes(alloc: Global) -> Bytes
+    ensures { result ≡ [] }
+{
+    Bytes::from(Vec::new(alloc))
+}
+
+/// Takes the first message away from a head, and puts back what stays of it.
+fn replace_first<M: ModuleOf>(
+    chain: &mut Chain<M>,
+    end: End,
+    rest: Option<Message>,
+) -> Result<(), NoMem>
+    ensures ok { OnOk result (chain.new.image ≡ with_head chain.old.image end (put_back_if (drop 1 (end_of chain.old.image end).head) rest)) }
+    ensures err { OnErr result (chain.new.image ≡ chain.old.image) }
+{
+    let Some(rest) = rest else {
+        let _ = chain.take_head(end);
+        return Ok(());
+    };
+    chain.head_room(end, rest.rank())?;
+    let _ = chain.take_head(end);
+    chain.put_back_head(end, rest).unwrap();
+    Ok(())
+}
+
+/// The refusal of a getmsg's own: EAGAIN where no message is there and the end is not hung up, or
+/// the first is not the one that is wanted (getmsg(2)).
+pub fn getmsg_refusal<M: ModuleOf>(chain: &Chain<M>, end: End, flag: Wanted) -> Option<Refusal>
+    ensures { result ≡ getmsg_refusal chain.now.image end flag }
+{
+    let is_there = match chain.head(end).first() {
+        Some(m) => is_wanted(flag, m),
+        None => chain.state(end).hung,
+    };
+    if is_there {
+        None
+    } else {
+        Some(Refusal::WouldWait)
+    }
+}
+
+/// The first of a getpmsg's own refusals that holds: EINVAL without a flag, and EAGAIN where no
+/// message is there and the end is not hung up, or the first is not the one that is wanted
+/// (getpmsg(2)).
+pub fn getpmsg_refusal<M: ModuleOf>(
+    chain: &Chain<M>,
+    end: End,
+    band: u8,
+    flag: GetFlag,
+) -> Option<Refusal>
+    ensures { result ≡ getpmsg_refusal chain.now.image end band flag }
+{
+    if flag == GetFlag::Zero {
+        return Some(Refusal::Invalid);
+    }
+    let is_there = match chain.head(end).first() {
+        Some(m) => is_wanted_in(flag, band, m),
+        None => chain.state(end).hung,
+    };
+    if is_there {
+        None
+    } else {
+        Some(Refusal::WouldWait)
+    }
+}
+
+/// Takes of the first message what a getmsg asks for, and puts the rest back before its equals; of a
+/// hung up end without messages two parts of no bytes (getmsg(2)).
+///
+/// Refused for want of memory alone, which is not met where no message is there. Then nothing is
+/// changed.
+pub fn getmsg<M: ModuleOf>(
+    chain: &mut Chain<M>,
+    end: End,
+    maxctl: Option<u16>,
+    maxdat: Option<u16>,
+) -> Result<Reply, NoMem>
+    ensures reply { IfOk result (λ reply. reply ≡ (getmsg_begun chain.old.image end maxctl maxdat).reply) }
+    ensures image { OnOk result (chain.new.image ≡ (getmsg_begun chain.old.image end maxctl maxdat).image) }
+    ensures err { OnErr result (chain.new.image ≡ chain.old.image) }
+    ensures empty { (end_of chain.old.image end).head ≡ [] → IsOk result }
+{
+    let alloc = chain.alloc();
+    let Some(first) = chain.head(end).first() else {
+        return Ok(Reply::Getmsg {
+            ctl: Some(no_bytes(alloc)),
+            dat: Some(no_bytes(alloc)),
+            flag: Priority::Norm,
+            more: More::Nothing,
+        });
+    };
+    let flag = priority_of(first);
+    let taken = Cut::of(alloc, first, maxctl, maxdat)?;
+    replace_first(chain, end, taken.rest)?;
+    Ok(Reply::Getmsg {
+        ctl: taken.ctl,
+        dat: taken.dat,
+        flag,
+        more: taken.more,
+    })
+}
+
+/// Takes of the first message what a getpmsg asks for, as `getmsg` does, and tells its band
+/// (getpmsg(2)).
+///
+/// Refused for want of memory alone, which is not met where no message is there. Then nothing is
+/// changed.
+pub fn getpmsg<M: ModuleOf>(
+    chain: &mut Chain<M>,
+    end: End,
+    maxctl: Option<u16>,
+    maxdat: Option<u16>,
+) -> Result<Reply, NoMem>
+    ensures reply { IfOk result (λ reply. reply ≡ (getpmsg_begun chain.old.image end maxctl maxdat).reply) }
+    ensures image { OnOk result (chain.new.image ≡ (getpmsg_begun chain.old.image end maxctl maxdat).image) }
+    ensures err { OnErr result (chain.new.image ≡ chain.old.image) }
+    ensures empty { (end_of chain.old.image end).head ≡ [] → IsOk result }
+{
+    let alloc = chain.alloc();
+    let Some(first) = chain.head(end).first() else {
+        return Ok(Reply::Getpmsg {
+            ctl: Some(no_bytes(alloc)),
+            dat: Some(no_bytes(alloc)),
+            flag: Received::Band { band: 0 },
+            more: More::Nothing,
+        });
+    };
+    let flag = received_of(first);
+    let taken = Cut::of(alloc, first, maxctl, maxdat)?;
+    replace_first(chain, end, taken.rest)?;
+    Ok(Reply::Getpmsg {
+        ctl: taken.ctl,
+        dat: taken.dat,
+        flag,
+        more: taken.more,
+    })
+}
+
+/// Shows of the first message what a getmsg would take of it, if it is the one that is wanted, and
+/// takes nothing away (streamio(7), I_PEEK).
+///
+/// Refused for want of memory alone, which is not met where nothing is shown.
+pub fn peek<M: ModuleOf>(
+    chain: &Chain<M>,
+    end: End,
+    maxctl: Option<u16>,
+    maxdat: Option<u16>,
+    flag: Wanted,
+) -> Result<Reply, NoMem>
+    ensures reply { IfOk result (λ reply. reply ≡ (peek_begun chain.now.image end maxctl maxdat flag).reply) }
+    ensures unseen { IsNone (peeked_of (first_of (end_of chain.now.image end).head) maxctl maxdat flag) → IsOk result }
+{
+    let found = match chain.head(end).first() {
+        Some(first) if is_wanted(flag, first) => {
+            let taken = Cut::of(chain.alloc(), first, maxctl, maxdat)?;
+            Some(Peeked {
+                ctl: taken.ctl,
+                dat: taken.dat,
+                flag: priority_of(first),
+            })
+        }
+        _ => None,
+    };
+    Ok(Reply::Peek { found })
+}

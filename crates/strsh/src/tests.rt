@@ -1,0 +1,302 @@
+//! Lines written by hand from the rules of spelling, each beside the call and the answer that it is
+//! of.
+use rows::{Ask, Pushes, Row, Say, play};
+use strm_call::{GetFlag, More, Priority, PutFlag, Received, Refusal, Wanted};
+use strm_msg::End::{A, B};
+use strm_msg::{Errno, Prot, ReadMode};
+
+mod rows;
+
+/// Messages that are sent. A space is `%20`, `%` is `%25`, and DEL and bytes above it are spelt so.
+const SENT: [Row; 7] = [
+    (
+        A,
+        Ask::Putmsg(Some(b"c"), Some(b"hello"), Priority::Norm),
+        Say::Putmsg,
+        "p putmsg s:a =c =hello norm : 0",
+    ),
+    (
+        B,
+        Ask::Putmsg(Some(b""), None, Priority::Hipri),
+        Say::Putmsg,
+        "p putmsg s:b = - hipri : 0",
+    ),
+    (
+        A,
+        Ask::Putmsg(None, Some(b" !~\x7f%\x00\xff"), Priority::Norm),
+        Say::Putmsg,
+        "p putmsg s:a - =%20!~%7f%25%00%ff norm : 0",
+    ),
+    (
+        A,
+        Ask::Putpmsg(None, None, 0, PutFlag::Zero),
+        Say::Refused(Refusal::Invalid),
+        "p putpmsg s:a - - 0 zero : EINVAL",
+    ),
+    (
+        A,
+        Ask::Putpmsg(Some(b"x\ny"), Some(b""), 255, PutFlag::Band),
+        Say::Putpmsg,
+        "p putpmsg s:a =x%0ay = 255 band : 0",
+    ),
+    (
+        B,
+        Ask::Putpmsg(Some(b"="), Some(b"-"), 0, PutFlag::Hipri),
+        Say::Putpmsg,
+        "p putpmsg s:b == =- 0 hipri : 0",
+    ),
+    (
+        A,
+        Ask::Write(b"a b"),
+        Say::Write(3),
+        "p write s:a =a%20b : 3",
+    ),
+];
+
+/// Messages that are taken, with each word for what stays.
+const TAKEN: [Row; 9] = [
+    (
+        A,
+        Ask::Getmsg(Some(64), Some(65535), Wanted::Any),
+        Say::Getmsg(Some(b"c"), Some(b"hello"), Priority::Norm, More::Nothing),
+        "p getmsg s:a 64 65535 any : =c =hello norm 0",
+    ),
+    (
+        B,
+        Ask::Getmsg(None, Some(0), Wanted::Hipri),
+        Say::Getmsg(None, Some(b""), Priority::Hipri, More::Ctl),
+        "p getmsg s:b -1 0 hipri : - = hipri ctl",
+    ),
+    (
+        A,
+        Ask::Getmsg(Some(1), None, Wanted::Any),
+        Say::Getmsg(Some(b"\t"), None, Priority::Norm, More::Data),
+        "p getmsg s:a 1 -1 any : =%09 - norm data",
+    ),
+    (
+        A,
+        Ask::Getpmsg(Some(1), Some(2), 7, GetFlag::Band),
+        Say::Getpmsg(
+            Some(b"a"),
+            Some(b"bc"),
+            Received::Band { band: 9 },
+            More::Both,
+        ),
+        "p getpmsg s:a 1 2 7 band : =a =bc band 9 both",
+    ),
+    (
+        A,
+        Ask::Getpmsg(None, None, 0, GetFlag::Any),
+        Say::Getpmsg(None, None, Received::Hipri, More::Both),
+        "p getpmsg s:a -1 -1 0 any : - - hipri both",
+    ),
+    (
+        A,
+        Ask::Getpmsg(Some(8), Some(8), 0, GetFlag::Zero),
+        Say::Refused(Refusal::Invalid),
+        "p getpmsg s:a 8 8 0 zero : EINVAL",
+    ),
+    (
+        A,
+        Ask::Getpmsg(Some(8), Some(8), 0, GetFlag::Hipri),
+        Say::Refused(Refusal::WouldWait),
+        "p getpmsg s:a 8 8 0 hipri : EAGAIN",
+    ),
+    (
+        A,
+        Ask::Read(5),
+        Say::Read(b"he\x80lo"),
+        "p read s:a 5 : =he%80lo",
+    ),
+    (B, Ask::Read(0), Say::Read(b""), "p read s:b 0 : ="),
+];
+
+/// Calls that tell or set something.
+const TOLD: [Row; 14] = [
+    (A, Ask::Nread, Say::Nread(2, 5), "p nread s:a : 2 5"),
+    (
+        A,
+        Ask::Peek(Some(4), None, Wanted::Any),
+        Say::Peek(Some(b"c"), None, Priority::Norm),
+        "p peek s:a 4 -1 any : =c - norm",
+    ),
+    (
+        B,
+        Ask::Peek(None, Some(4), Wanted::Hipri),
+        Say::Peek(None, Some(b"%"), Priority::Hipri),
+        "p peek s:b -1 4 hipri : - =%25 hipri",
+    ),
+    (
+        A,
+        Ask::Peek(Some(4), Some(4), Wanted::Any),
+        Say::PeekNone,
+        "p peek s:a 4 4 any : none",
+    ),
+    (
+        A,
+        Ask::SetRead(ReadMode::Rnorm, Prot::Norm),
+        Say::SetRead,
+        "p setread s:a rnorm norm : 0",
+    ),
+    (
+        A,
+        Ask::SetRead(ReadMode::Rmsgn, Prot::Dat),
+        Say::SetRead,
+        "p setread s:a rmsgn dat : 0",
+    ),
+    (
+        A,
+        Ask::SetRead(ReadMode::Rmsgd, Prot::Dis),
+        Say::SetRead,
+        "p setread s:a rmsgd dis : 0",
+    ),
+    (
+        A,
+        Ask::GetRead,
+        Say::GetRead(ReadMode::Rmsgd, Prot::Norm),
+        "p getread s:a : rmsgd norm",
+    ),
+    (A, Ask::Canput(3), Say::Canput(true), "p canput s:a 3 : 1"),
+    (
+        A,
+        Ask::Canput(255),
+        Say::Canput(false),
+        "p canput s:a 255 : 0",
+    ),
+    (A, Ask::Ckband(0), Say::Ckband(true), "p ckband s:a 0 : 1"),
+    (A, Ask::Ckband(1), Say::Ckband(false), "p ckband s:a 1 : 0"),
+    (B, Ask::Getband, Say::Getband(200), "p getband s:b : 200"),
+    (A, Ask::Nread, Say::Line, "p nread s:a : 0"),
+];
+
+/// Modules that are pushed. A map's bytes stand in ascending order, whatever their images are.
+const PUSHED: [Row; 9] = [
+    (
+        A,
+        Ask::Push(Pushes::Pass),
+        Say::Push,
+        "p push s:a pass mod_1 16/4 100/0 : 0",
+    ),
+    (
+        A,
+        Ask::Push(Pushes::Table(&[(b'z', b'A'), (b'%', b' '), (b'a', b'z')])),
+        Say::Push,
+        "p push s:a table mod_1 - - =%25az =%20zA : 0",
+    ),
+    (
+        A,
+        Ask::Push(Pushes::Table(&[])),
+        Say::Push,
+        "p push s:a table mod_1 - - = = : 0",
+    ),
+    (
+        B,
+        Ask::Push(Pushes::CrNl),
+        Say::Push,
+        "p push s:b crnl mod_1 - - : 0",
+    ),
+    (
+        A,
+        Ask::Push(Pushes::Line),
+        Say::Push,
+        "p push s:a line mod_1 - - : 0",
+    ),
+    (
+        A,
+        Ask::Push(Pushes::Count),
+        Say::Push,
+        "p push s:a count mod_1 - - : 0",
+    ),
+    (
+        A,
+        Ask::Push(Pushes::Band(12)),
+        Say::Push,
+        "p push s:a band mod_1 - - 12 : 0",
+    ),
+    (
+        A,
+        Ask::Push(Pushes::Tee),
+        Say::Push,
+        "p push s:a tee mod_1 - - : 0",
+    ),
+    (
+        A,
+        Ask::Push(Pushes::Mute),
+        Say::Refused(Refusal::Invalid),
+        "p push s:a mute mod_1 - - : EINVAL",
+    ),
+];
+
+/// Each refusal, and a stream that broke.
+const REFUSED: [Row; 11] = [
+    (
+        A,
+        Ask::Getband,
+        Say::Refused(Refusal::Closed),
+        "p getband s:a : EBADF",
+    ),
+    (
+        A,
+        Ask::Getband,
+        Say::Refused(Refusal::Broken),
+        "p getband s:a : ENOSR",
+    ),
+    (
+        A,
+        Ask::Getband,
+        Say::Refused(Refusal::Error {
+            errno: Errno::EPROTO,
+        }),
+        "p getband s:a : EPROTO",
+    ),
+    (
+        A,
+        Ask::Getband,
+        Say::Refused(Refusal::Invalid),
+        "p getband s:a : EINVAL",
+    ),
+    (
+        A,
+        Ask::Getband,
+        Say::Refused(Refusal::TooLong),
+        "p getband s:a : ERANGE",
+    ),
+    (
+        A,
+        Ask::Getband,
+        Say::Refused(Refusal::HungUp),
+        "p getband s:a : ENXIO",
+    ),
+    (
+        A,
+        Ask::Getband,
+        Say::Refused(Refusal::BadMessage),
+        "p getband s:a : EBADMSG",
+    ),
+    (
+        A,
+        Ask::Getband,
+        Say::Refused(Refusal::NoMessage),
+        "p getband s:a : ENODATA",
+    ),
+    (
+        A,
+        Ask::Getband,
+        Say::Refused(Refusal::WouldWait),
+        "p getband s:a : EAGAIN",
+    ),
+    (
+        A,
+        Ask::Getband,
+        Say::Refused(Refusal::NoMemory),
+        "p getband s:a : ENOSR",
+    ),
+    (A, Ask::Getband, Say::Broke, "p getband s:a : ENOSR broke"),
+];
+
+#[test]
+fn calls_are_spelt_with_their_answers(rt: HostRuntime) {
+    for rows in [SENT.as_slice(), &TAKEN, &TOLD, &PUSHED, &REFUSED] {
+        play(&rt, rt.alloc(), rows);
+    }
+}

@@ -121,7 +121,7 @@ pub enum Reply {
     Line,
 }
 
-/// The answer to a call.
+/// The answer to a call, or to a message that came in from a line.
 #[derive(Debug, Drop, PartialEq, Eq)]
 pub enum Answer {
     /// The call was done.

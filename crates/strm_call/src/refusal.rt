@@ -7,7 +7,8 @@ use std::fmt;
 use strm_msg::Errno;
 use thiserror::Error;
 
-/// Why a call was refused, in the order in which refusals are looked for. A call has its first.
+/// Why a call was refused, in the order in which refusals are looked for. A call is refused with the
+/// first that holds.
 #[derive(Clone, Copy, Debug, PartialEq, Eq, Error)]
 pub enum Refusal {
     /// The end is closed: EBADF.

@@ -7,7 +7,8 @@ pub const MAX_CONTROL: usize = 1024;
 /// The most bytes of data that a call sends; more is refused with ERANGE.
 pub const MAX_DATA: usize = 4096;
 
-/// The priority of a message that putmsg sends or that getmsg took (putmsg(2), getmsg(2)).
+/// The priority of a message that putmsg sends, that getmsg took or that a peek showed (putmsg(2),
+/// getmsg(2)).
 #[derive(Clone, Copy, Debug, PartialEq, Eq)]
 pub enum Priority {
     /// An ordinary message (0).
@@ -54,8 +55,8 @@ pub enum GetFlag {
 /// A push carries `P`: the module when the call is made, and the module's shape in a history.
 ///
 /// Beside the refusals that it names, each call is refused where its end is closed, the stream is
-/// broken, or an error came up; these three are looked at first. A call that takes memory is refused
-/// last where that is wanting.
+/// broken, or an error came up; these three are looked at first. Want of memory is looked at last: it
+/// refuses a call that has changed nothing yet, and else breaks the stream.
 #[derive(Debug, Drop)]
 pub enum Request<P> {
     /// Sends a message (putmsg(2)): `MProto` of band 0 with control, `MPcproto` with control and

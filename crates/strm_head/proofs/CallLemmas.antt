@@ -15,7 +15,7 @@ use Rattle.strm_call.specs.declared.answer.Reply.{Reply}
 use Rattle.strm_call.specs.declared.answer.Answer.{Answer}
 use Rattle.strm_call.specs.declared.answer.Answer.TheVariants.{Done, Refused, Broke}
 use Rattle.strm_call.specs.Begun.{Begun, begun}
-use Rattle.strm_head.specs.Begin.{begun_of, refusal_of, is_quiet_call}
+use Rattle.strm_head.specs.Begin.{begun_of, refusal_of, changes_no_queue}
 use Rattle.strm_head.specs.Inside.{IsKept}
 use Rattle.strm_head.specs.Step.{Answers, Finishes}
 use Rattle.strm_head.proofs.KeptLemmas.{whole_of, quiet_begun}
@@ -44,28 +44,29 @@ module _ {K : Type 0} (means : Meaning K) where
   same_begun : (image : Image K) (e : End) (request : Request (Shape K)) (new : Image K) (reply : Reply) → new ≡ (begun_of means image e request).image → reply ≡ (begun_of means image e request).reply → begun new reply ≡ begun_of means image e request
   same_begun image e request new reply i r = rw (i, r, sym (none_out image e request)) refl
 
-  from_begun : (image : Image K) (e : End) (request : Request (Shape K)) (answer : Answer) (moves : List Place) (after : Image K) → refusal_of image e request ≡ None → Finishes means (begun_of means image e request) answer moves [] after → Answers means image e request answer moves [] after
-  from_begun image e request (Refused refusal) moves after unrefused finishes = absurd finishes
-  from_begun image e request (Done reply) moves after unrefused finishes = (unrefused, finishes)
-  from_begun image e request Broke moves after unrefused finishes = (unrefused, finishes)
+  from_begun : (image : Image K) (e : End) (request : Request (Shape K)) (answer : Answer) (moves : List Place) (after : Image K) → refusal_of image e request ≡ None → changes_no_queue request ≡ false → Finishes means (begun_of means image e request) answer moves [] after → Answers means image e request answer moves [] after
+  from_begun image e request (Refused refusal) moves after unrefused changes finishes = absurd finishes
+  from_begun image e request (Done reply) moves after unrefused changes finishes =
+      (unrefused, (λ quiet. absurd (let no : true ≡ false = sym quiet ∙ changes in cc)), finishes)
+  from_begun image e request Broke moves after unrefused changes finishes = (unrefused, changes, finishes)
 
   -- a call that was begun and finished
-  pub finished_answers : (image : Image K) (e : End) (request : Request (Shape K)) (new : Image K) (reply : Reply) (answer : Answer) (moves : List Place) (after : Image K) → refusal_of image e request ≡ None → new ≡ (begun_of means image e request).image → reply ≡ (begun_of means image e request).reply → Finishes means (begun new reply) answer moves [] after → Answers means image e request answer moves [] after
-  finished_answers image e request new reply answer moves after unrefused i r finishes =
-      from_begun image e request answer moves after unrefused
+  pub finished_answers : (image : Image K) (e : End) (request : Request (Shape K)) (new : Image K) (reply : Reply) (answer : Answer) (moves : List Place) (after : Image K) → refusal_of image e request ≡ None → changes_no_queue request ≡ false → new ≡ (begun_of means image e request).image → reply ≡ (begun_of means image e request).reply → Finishes means (begun new reply) answer moves [] after → Answers means image e request answer moves [] after
+  finished_answers image e request new reply answer moves after unrefused changes i r finishes =
+      from_begun image e request answer moves after unrefused changes
       (subst (λ b. Finishes means b answer moves [] after) (same_begun image e request new reply i r) finishes)
 
   -- a call that changes no queue is finished when it was begun
-  pub quiet_answers : (image : Image K) (e : End) (request : Request (Shape K)) (reply : Reply) (answer : Answer) (moves : List Place) (after : Image K) → IsKept image → refusal_of image e request ≡ None → is_quiet_call request ≡ true → after ≡ (begun_of means image e request).image → reply ≡ (begun_of means image e request).reply → answer ≡ Done reply → moves ≡ [] → Answers means image e request answer moves [] after
+  pub quiet_answers : (image : Image K) (e : End) (request : Request (Shape K)) (reply : Reply) (answer : Answer) (moves : List Place) (after : Image K) → IsKept image → refusal_of image e request ≡ None → changes_no_queue request ≡ true → after ≡ (begun_of means image e request).image → reply ≡ (begun_of means image e request).reply → answer ≡ Done reply → moves ≡ [] → Answers means image e request answer moves [] after
   quiet_answers image e request reply answer moves after kept unrefused is i r a m =
       rw (a, m, i)
-      (unrefused, record { replies = r; settles = record { leads = refl; quiet = quiet_begun means image e request is (kept.quiet (whole_of image e request unrefused)) }; takes = rw (none_out image e request) refl })
+      (unrefused, (λ quiet. refl), record { replies = r; settles = record { leads = refl; quiet = quiet_begun means image e request is (kept.quiet (whole_of image e request unrefused)) }; takes = rw (none_out image e request) refl })
 
   -- a call after whose change memory was wanting
-  pub broken_answers : (image : Image K) (e : End) (request : Request (Shape K)) (answer : Answer) (moves : List Place) (after : Image K) → refusal_of image e request ≡ None → Breaks (begun_of means image e request).image after → answer ≡ Broke → moves ≡ [] → Answers means image e request answer moves [] after
-  broken_answers image e request answer moves after unrefused breaks a m =
+  pub broken_answers : (image : Image K) (e : End) (request : Request (Shape K)) (answer : Answer) (moves : List Place) (after : Image K) → refusal_of image e request ≡ None → changes_no_queue request ≡ false → Breaks (begun_of means image e request).image after → answer ≡ Broke → moves ≡ [] → Answers means image e request answer moves [] after
+  broken_answers image e request answer moves after unrefused changes breaks a m =
       rw (a, m)
-      (unrefused, record { breaks = breaks; stays = refl; takes = rw (none_out image e request) refl })
+      (unrefused, changes, record { breaks = breaks; stays = refl; takes = rw (none_out image e request) refl })
 
   -- service that broke off
   pub broken_finishes : (begun1 : Begun K) (answer : Answer) (moves : List Place) (after : Image K) → begun1.out ≡ [] → Breaks begun1.image after → answer ≡ Broke → moves ≡ [] → Finishes means begun1 answer moves [] after

@@ -27,7 +27,7 @@ use Rattle.strm_call.specs.declared.answer.Answer.TheVariants.{Done, Refused, Br
 use Rattle.strm_call.specs.Refusal.{refused_if, or_else}
 use Rattle.strm_call.specs.Begun.{Begun}
 use Rattle.strm_msgio.specs.Send.{sent_of, putmsg_message, putpmsg_message, ordinary_message}
-use Rattle.strm_head.specs.Begin.{begun_of, refusal_of, is_quiet_call}
+use Rattle.strm_head.specs.Begin.{begun_of, refusal_of, changes_no_queue}
 use Rattle.strm_head.specs.Inside.{HasItsEnds, IsKept, OpensNone}
 use Rattle.strm_head.specs.Step.{Answers, Finishes}
 
@@ -139,7 +139,7 @@ module _ {K : Type 0} (means : Meaning K) where
   begun_opens image e Getband = none_opens image
 
   -- calls that change no queue leave a quiet stream quiet
-  pub quiet_begun : (image : Image K) (e : End) (request : Request (Shape K)) → is_quiet_call request ≡ true → IsQuiet image → IsQuiet (begun_of means image e request).image
+  pub quiet_begun : (image : Image K) (e : End) (request : Request (Shape K)) → changes_no_queue request ≡ true → IsQuiet image → IsQuiet (begun_of means image e request).image
   quiet_begun image e (Putmsg ctl dat flag) is quiet = cc
   quiet_begun image e (Putpmsg ctl dat band flag) is quiet = cc
   quiet_begun image e (Getmsg maxctl maxdat flag) is quiet = cc
@@ -178,6 +178,6 @@ module _ {K : Type 0} (means : Meaning K) where
   pub answered_kept : (image : Image K) (e : End) (request : Request (Shape K)) (answer : Answer) (moves : List Place) (out : List ℕ) (after : Image K) → IsKept image → Answers means image e request answer moves out after → IsKept after
   answered_kept image e request (Refused refusal) moves out after kept answers = rw answers.unchanged kept
   answered_kept image e request (Done reply) moves out after kept answers =
-      finished_kept (begun_of means image e request) (Done reply) moves out after (ends_stay image (begun_of means image e request).image (begun_opens image e request) kept.ends) answers.1
+      finished_kept (begun_of means image e request) (Done reply) moves out after (ends_stay image (begun_of means image e request).image (begun_opens image e request) kept.ends) answers.2
   answered_kept image e request Broke moves out after kept answers =
-      finished_kept (begun_of means image e request) Broke moves out after (ends_stay image (begun_of means image e request).image (begun_opens image e request) kept.ends) answers.1
+      finished_kept (begun_of means image e request) Broke moves out after (ends_stay image (begun_of means image e request).image (begun_opens image e request) kept.ends) answers.2

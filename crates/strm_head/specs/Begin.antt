@@ -20,7 +20,7 @@ use Rattle.strm_ioctl.specs.Ask.{getband_refusal, nread_begun, canput_begun, ckb
 use Rattle.strm_ioctl.specs.Options.{set_read_begun, get_read_begun}
 use Rattle.strm_ioctl.specs.Modules.{push_refusal, push_begun}
 
--- the refusals of a call's own
+-- the first refusal of a call's own
 abbrev pub own_refusal : {K : Type 0} → Image K → End → Request (Shape K) → Option Refusal
 own_refusal image e (Putmsg ctl dat flag) = putmsg_refusal image e ctl dat flag
 own_refusal image e (Putpmsg ctl dat band flag) = putpmsg_refusal image e ctl dat band flag
@@ -64,17 +64,17 @@ begun_of means image e (Ckband band) = ckband_begun image e band
 begun_of means image e Getband = getband_begun image e
 
 -- the calls that change no queue: no service follows them
-abbrev pub is_quiet_call : {P : Type 0} → Request P → Bool
-is_quiet_call Nread = true
-is_quiet_call (Peek maxctl maxdat flag) = true
-is_quiet_call (SetRead mode prot) = true
-is_quiet_call GetRead = true
-is_quiet_call (Canput band) = true
-is_quiet_call (Ckband band) = true
-is_quiet_call Getband = true
-is_quiet_call request = false
+abbrev pub changes_no_queue : {P : Type 0} → Request P → Bool
+changes_no_queue Nread = true
+changes_no_queue (Peek maxctl maxdat flag) = true
+changes_no_queue (SetRead mode prot) = true
+changes_no_queue GetRead = true
+changes_no_queue (Canput band) = true
+changes_no_queue (Ckband band) = true
+changes_no_queue Getband = true
+changes_no_queue request = false
 
--- the calls that take no memory
+-- the calls that never want for memory
 abbrev pub takes_no_memory : {P : Type 0} → Request P → Bool
 takes_no_memory Nread = true
 takes_no_memory (SetRead mode prot) = true

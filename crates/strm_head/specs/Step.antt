@@ -1,6 +1,6 @@
 -- One step of a stream, and the histories that steps make.
 use Rattle.std.specs.Prelude.{ℕ, ◌≡◌, ◌&&◌, ◌||◌, not, Bool, true, false, Option, Some, None, List, [], ◌∷◌, map, if◌then◌else◌}
-use Rattle.strm_msg.specs.Kind.{is_high}
+use Rattle.strm_msg.specs.Kind.{is_high, is_from_line}
 use Rattle.strm_msg.specs.Message.{Msg}
 use Rattle.strm_msg.specs.declared.words.End.{End}
 use Rattle.strm_queue.specs.Queue.{is_full, put_in}
@@ -24,16 +24,16 @@ use Rattle.strm_call.specs.Begun.{Begun, begun}
 use Rattle.strm_head.specs.declared.history.Event.{Event}
 use Rattle.strm_head.specs.declared.history.Event.TheVariants.{Asked, Arrived}
 use Rattle.strm_head.specs.declared.history.Entry.{Entry}
-use Rattle.strm_head.specs.Begin.{refusal_of, begun_of}
+use Rattle.strm_head.specs.Begin.{refusal_of, begun_of, changes_no_queue, takes_no_memory}
 
--- the refusal that a call has: the first that holds, and want of memory only where none does
-abbrev pub IsRefusedBy : Option Refusal → Refusal → Type 0
-IsRefusedBy None refusal = refusal ≡ NoMemory
-IsRefusedBy (Some first) refusal = refusal ≡ first
+-- the refusal that a call has: the first that holds, and where none does want of memory, of a call that takes memory
+abbrev pub IsRefusedBy : {P : Type 0} → Option Refusal → Request P → Refusal → Type 0
+IsRefusedBy None request refusal = (refusal ≡ NoMemory) × (takes_no_memory request ≡ false)
+IsRefusedBy (Some first) request refusal = refusal ≡ first
 
 -- a refused call: nothing moves, is taken out or changed
-pub record IsRefused {K : Type 0} (first : Option Refusal) (refusal : Refusal) (image : Image K) (moves : List Place) (out : List ℕ) (after : Image K) : Type 0 where
-  pub is_first : IsRefusedBy first refusal
+pub record IsRefused {K : Type 0} (first : Option Refusal) (request : Request (Shape K)) (refusal : Refusal) (image : Image K) (moves : List Place) (out : List ℕ) (after : Image K) : Type 0 where
+  pub is_first : IsRefusedBy first request refusal
   pub stays : moves ≡ []
   pub takes_none : out ≡ []
   pub unchanged : after ≡ image
@@ -54,13 +54,13 @@ is_line Echo = false
 is_line Loop = false
 is_line Line = true
 
--- a message can come in: from a line, at an open end of a stream that is not broken, and an ordinary one unless its band is
--- full in the line's list
+-- a message can come in: from a line, of a kind that comes from there, at an open end of a stream that is not broken, and an
+-- ordinary one unless its band is full in the line's list
 abbrev pub can_arrive : {K : Type 0} → Image K → End → Msg → Bool
 can_arrive image e m =
-    is_line image.driver && (end_of image e).is_open && not image.broken && (is_high m.kind || not (is_full (end_of image e).drv_marks (end_of image e).drv m.band))
+    is_line image.driver && is_from_line m.kind && (end_of image e).is_open && not image.broken && (is_high m.kind || not (is_full (end_of image e).drv_marks (end_of image e).drv m.band))
 
--- what a message that came in has made
+-- what an arrival has done before any queue moves
 abbrev pub arrival : {K : Type 0} → Image K → Begun K
 arrival image = begun image Reply.Line
 
@@ -83,14 +83,14 @@ module _ {K : Type 0} (means : Meaning K) where
   Finishes begun (Done reply) moves out after = IsDone begun reply moves out after
   Finishes begun Broke moves out after = IsBroken begun moves out after
 
-  -- a call on an end: refused, or begun and finished
+  -- a call on an end: refused, or begun and finished. A call that changes no queue makes no move, and breaks nothing
   abbrev pub Answers : Image K → End → Request (Shape K) → Answer → List Place → List ℕ → Image K → Type 0
   Answers image e request (Refused refusal) moves out after =
-      IsRefused (refusal_of image e request) refusal image moves out after
+      IsRefused (refusal_of image e request) request refusal image moves out after
   Answers image e request (Done reply) moves out after =
-      (refusal_of image e request ≡ None) × Finishes (begun_of means image e request) (Done reply) moves out after
+      (refusal_of image e request ≡ None) × (changes_no_queue request ≡ true → moves ≡ []) × Finishes (begun_of means image e request) (Done reply) moves out after
   Answers image e request Broke moves out after =
-      (refusal_of image e request ≡ None) × Finishes (begun_of means image e request) Broke moves out after
+      (refusal_of image e request ≡ None) × (changes_no_queue request ≡ false) × Finishes (begun_of means image e request) Broke moves out after
 
   -- an ordinary message that came in from a line waits in the line's list, a high one goes up at once
   abbrev pub arrived_of : Image K → End → Msg → Image K

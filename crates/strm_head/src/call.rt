@@ -1,8 +1,8 @@
 //! A call on a chain: the first refusal that holds, what the call does, and the services after it.
-ghost use Rattle.std.specs.Prelude.{◌≡◌, true, false, [], None, IsOk, IfOk, OnOk, OnErr, IfErr};
+ghost use Rattle.std.specs.Prelude.{◌≡◌, true, false, [], None, IfOk, OnOk, OnErr, IfErr};
 ghost use Rattle.strm_call.specs.declared.answer.Answer.TheVariants as Answer;
 ghost use Rattle.strm_call.specs.Begun.{Fails, begun};
-ghost use Rattle.strm_head.specs.Begin.{own_refusal, common_refusal, refusal_of, begun_of, is_quiet_call, takes_no_memory, pushed_of, back_of, wants_memory};
+ghost use Rattle.strm_head.specs.Begin.{own_refusal, common_refusal, refusal_of, begun_of, changes_no_queue, takes_no_memory, pushed_of, back_of, wants_memory};
 ghost use Rattle.strm_head.specs.Inside.{IsKept};
 ghost use Rattle.strm_head.specs.Step.{Finishes, Answers};
 
@@ -76,8 +76,8 @@ pub(crate) fn first_refusal<M: ModuleOf>(
 }
 
 /// Whether a call changes no queue, so that no service follows it.
-fn is_quiet_call<P>(request: &Request<P>) -> bool
-    ensures { result ≡ is_quiet_call request.now }
+fn changes_no_queue<P>(request: &Request<P>) -> bool
+    ensures { result ≡ changes_no_queue request.now }
 {
     matches!(
         request,
@@ -102,7 +102,8 @@ fn begin<M: ModuleOf>(
     ensures reply { IfOk result (λ reply. reply ≡ (begun_of M.Kind.means chain.old.image end request).reply) }
     ensures image { OnOk result (chain.new.image ≡ (begun_of M.Kind.means chain.old.image end request).image) }
     ensures failed { IfErr result (λ fault. Fails fault chain.old.image (begun_of M.Kind.means chain.old.image end request).image chain.new.image) }
-    ensures memory { takes_no_memory request ≡ true → IsOk result }
+    ensures memory { OnErr result (takes_no_memory request ≡ false) }
+    ensures broken { IfErr result (λ fault. fault ≡ ChainFault.Broken → changes_no_queue request ≡ false) }
     ensures pushed { OnErr result (pushed_of request ≡ []) }
 {
     match request {
@@ -175,7 +176,7 @@ fn finish<M: ModuleOf>(chain: &mut Chain<M>, reply: Reply) -> Answered
     }
 }
 
-/// Begins and finishes a call that nothing refuses.
+/// Begins and finishes a call that none of the refusals 1 to 9 refuses.
 pub(crate) fn perform<M: ModuleOf>(
     chain: &mut Chain<M>,
     end: End,
@@ -188,7 +189,7 @@ pub(crate) fn perform<M: ModuleOf>(
     ensures memory { takes_no_memory request ≡ true → wants_memory result.answer ≡ false }
 {
     let alloc = chain.alloc();
-    let is_quiet = is_quiet_call(&request);
+    let is_quiet = changes_no_queue(&request);
     match begin(chain, end, request) {
         Ok(reply) if is_quiet => Answered::still(alloc, Answer::Done(reply)),
         Ok(reply) => finish(chain, reply),

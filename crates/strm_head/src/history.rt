@@ -14,7 +14,7 @@ use strm_msg::{Bytes, End, Message, NoMem};
 pub enum Event<K> {
     /// A call was made. A module that was pushed is its shape as it was handed in.
     Asked(Request<Shape<K>>),
-    /// A message came in from a line.
+    /// A message came in from a line. No call makes this yet.
     Arrived(Message),
 }
 
@@ -29,7 +29,7 @@ pub struct Entry<K> {
     pub answer: Answer,
     /// The places that moved.
     pub moves: Moves,
-    /// The serials of the modules that the call took out, topmost first.
+    /// The serials of the modules that the call took out, topmost first. None takes one out yet.
     pub out: ArrayVec<u64, MOST_MODULES>,
 }
 

@@ -18,4 +18,4 @@ pub use strm_call::{
     Answer, GetFlag, MAX_CONTROL, MAX_DATA, More, Peeked, Priority, PutFlag, Received, Refusal,
     Reply, Request, Wanted,
 };
-pub use strm_chain::{Driver, Moves, Place};
+pub use strm_chain::{Driver, MOST_MODULES, Moves, Place};

@@ -15,9 +15,9 @@ use strm_module::{Instance, ModuleOf};
 pub struct Outcome<M: ModuleOf> {
     /// The answer.
     pub answer: Answer,
-    /// The places that moved before the stream was quiet again; of a call that is done alone.
+    /// The places that moved before the stream was quiet again. Only a call that is done has any.
     pub moves: Moves,
-    /// The modules that come back: the one of a push that was refused. Each is `Some`.
+    /// The module of a push that was refused, as `Some`; else nothing.
     pub back: ArrayVec<Option<Instance<M>>, MOST_MODULES>,
 }
 

@@ -79,8 +79,8 @@ impl<M: ModuleOf> Stream<M> {
     /// modules that come back.
     ///
     /// A refusal is the first that holds, in the order of `Refusal`, and leaves the stream as it was.
-    /// An end that the driver lacks counts as closed. Calls that change no queue make no move, and
-    /// those of them that only tell or set something take no memory.
+    /// An end that the driver lacks is never open. Calls that change no queue make no move, and those
+    /// of them that only tell or set something never want for memory.
     pub fn apply(&mut self, end: End, request: Request<Instance<M>>) -> Outcome<M>
         ensures step { Step M.Kind.means self.old end (Events.Asked request) result.answer result.moves [] self.new }
         ensures back { result.back.items ≡ back_of request result.answer }

@@ -1,8 +1,8 @@
-//! Calls of a stream head that ask about messages and modules, and that set how it reads
-//! (streamio(7)).
+//! Calls of a stream head that ask about messages and room, set how reads treat messages, and put
+//! modules in (streamio(7)).
 //!
-//! Each call is two functions over a chain: its refusals of its own, in their order, and what it does
-//! before any queue moves. The refusals that all calls share, and the services that follow a call,
+//! Each call is two functions over a chain: its refusals of its own, in their order, if it has any, and
+//! what it does before any queue moves. The refusals that all calls share, and the services that follow a call,
 //! are the stream's.
 #![tactic(auto)]
 

@@ -9,8 +9,9 @@ use strm_chain::Chain;
 use strm_module::{Instance, ModuleOf};
 use strm_msg::End;
 
-/// The first of a push's own refusals that holds: EINVAL where as many modules stand there as may,
-/// and ENXIO for an end that is hung up (streamio(7), I_PUSH).
+/// The first of a push's own refusals that holds: EINVAL where as many modules stand there as may, or
+/// the end is closed, which is refused before; and ENXIO for an end that is hung up (streamio(7),
+/// I_PUSH).
 pub fn push_refusal<M: ModuleOf>(chain: &Chain<M>, end: End) -> Option<Refusal>
     ensures { result ≡ push_refusal chain.now.image end }
 {

@@ -1,4 +1,4 @@
--- What a read takes of a message, and what stays (getmsg(2)).
+-- What a getmsg or a read takes of a message, and what stays (getmsg(2)).
 use Rattle.std.specs.Prelude.{ℕ, nat_le, Option, Some, None, length, take, drop, if◌then◌else◌, option_map}
 use Rattle.strm_msg.specs.Message.{Msg, Part, data_msg}
 use Rattle.strm_call.specs.declared.answer.More.{More}

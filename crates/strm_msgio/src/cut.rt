@@ -1,4 +1,4 @@
-//! What a read takes of a message.
+//! What a getmsg or a read takes of a message.
 ghost use Rattle.std.specs.Prelude.{◌≡◌, true, is_some, IfOk};
 ghost use Rattle.strm_msgio.specs.Cut.{cut_of, given, left_of, more_of, remainder};
 

@@ -1,7 +1,7 @@
-//! Calls of a stream head that send messages, take them and look at them.
+//! Calls of a stream head that send messages, take them, look at them and read them.
 //!
-//! Each call is two functions over a chain: its refusals of its own, in their order, and what it does
-//! before any queue moves. The refusals that all calls share, and the services that follow a call,
+//! Each call is two functions over a chain: its refusals of its own, in their order, if it has any, and
+//! what it does before any queue moves. The refusals that all calls share, and the services that follow a call,
 //! are the stream's.
 #![tactic(auto)]
 

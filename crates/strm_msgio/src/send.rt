@@ -219,7 +219,7 @@ pub fn write_refusal<M: ModuleOf>(chain: &Chain<M>, end: End, dat: &Bytes) -> Op
 /// Sends the bytes of a write down as one message of band 0, an empty one too (write(2)).
 ///
 /// To be called where the end is there, and the chain is not broken. Refused for want of memory
-/// alone, and not where nothing is sent: nothing is changed, or the chain breaks.
+/// alone: nothing is changed, or the chain breaks.
 pub fn write<M: ModuleOf>(chain: &mut Chain<M>, end: End, dat: Bytes) -> Result<Reply, ChainFault>
     requires there { is_there chain.old.image (Spots.Down end 1) ≡ true }
     requires whole { chain.old.image.broken ≡ false }

@@ -45,8 +45,3 @@ text_of NoMemory = codes "no memory"
 
 abbrev pub refused_if : Bool → Refusal → Option Refusal
 refused_if holds refusal = if holds then Some refusal else None
-
--- the earlier of two refusals
-abbrev pub or_else : Option Refusal → Option Refusal → Option Refusal
-or_else None later = later
-or_else (Some refusal) later = Some refusal

@@ -1,5 +1,6 @@
 -- What a stream keeps from call to call: which ends are open, and that no place must move.
 use Rattle.std.proofs.Common.{◌≡◌, ℕ, ◌+◌, ◌||◌, not, true, false, Bool, Option, Some, None, List, suc, zero, refl, sym, ◌∙◌, ap}
+use Rattle.std.specs.Option.{option_or}
 use Rattle.strm_msg.specs.Message.{Msg}
 use Rattle.strm_msg.specs.Kind.{is_high}
 use Rattle.strm_msg.specs.declared.words.End.{End}
@@ -24,7 +25,7 @@ use Rattle.strm_call.specs.declared.refusal.Refusal.{Refusal}
 use Rattle.strm_call.specs.declared.refusal.Refusal.TheVariants.{Closed, Broken}
 use Rattle.strm_call.specs.declared.answer.Answer.{Answer}
 use Rattle.strm_call.specs.declared.answer.Answer.TheVariants.{Done, Refused, Broke}
-use Rattle.strm_call.specs.Refusal.{refused_if, or_else}
+use Rattle.strm_call.specs.Refusal.{refused_if}
 use Rattle.strm_call.specs.Begun.{Begun}
 use Rattle.strm_msgio.specs.Send.{sent_of, putmsg_message, putpmsg_message, ordinary_message}
 use Rattle.strm_head.specs.Begin.{begun_of, refusal_of, changes_no_queue}
@@ -61,7 +62,7 @@ pub ends_stay : {K : Type 0} (old new : Image K) → OpensNone old new → HasIt
 ends_stay old new opens ends e h = ap (λ d. has_end d e) opens.driver ∙ ends e (opens.ends e h)
 
 -- a call that is not refused finds a stream that is not broken
-whole_if : (opened broken : Bool) (error own : Option Refusal) → or_else (or_else (refused_if (not opened) Closed) (or_else (refused_if broken Broken) error)) own ≡ None → broken ≡ false
+whole_if : (opened broken : Bool) (error own : Option Refusal) → option_or (option_or (refused_if (not opened) Closed) (option_or (refused_if broken Broken) error)) own ≡ None → broken ≡ false
 whole_if true false error own h = refl
 whole_if true true error own h = cc
 whole_if false broken error own h = cc

@@ -1,5 +1,6 @@
 -- What a call does before any queue moves, by the call: the first refusal that holds, or what the call has done.
 use Rattle.std.specs.Prelude.{not, Bool, true, false, Option, Some, None, List, [], ◌∷◌}
+use Rattle.std.specs.Option.{option_or}
 use Rattle.strm_msg.specs.declared.errno.Errno.{Errno}
 use Rattle.strm_msg.specs.declared.words.End.{End}
 use Rattle.strm_module.specs.Kinds.{Meaning}
@@ -11,7 +12,7 @@ use Rattle.strm_call.specs.declared.refusal.Refusal.{Refusal}
 use Rattle.strm_call.specs.declared.refusal.Refusal.TheVariants.{Closed, Broken, Error, NoMemory}
 use Rattle.strm_call.specs.declared.answer.Answer.{Answer}
 use Rattle.strm_call.specs.declared.answer.Answer.TheVariants.{Done, Refused, Broke}
-use Rattle.strm_call.specs.Refusal.{refused_if, or_else}
+use Rattle.strm_call.specs.Refusal.{refused_if}
 use Rattle.strm_call.specs.Begun.{Begun}
 use Rattle.strm_msgio.specs.Send.{putmsg_refusal, putpmsg_refusal, write_refusal, putmsg_begun, putpmsg_begun, write_begun}
 use Rattle.strm_msgio.specs.Read.{read_refusal, read_begun}
@@ -40,11 +41,11 @@ error_refusal (Some errno) = Some (Error errno)
 -- what refuses every call, in this order: a closed end, a broken stream, an error that came up
 abbrev pub common_refusal : {K : Type 0} → Image K → End → Option Refusal
 common_refusal image e =
-    or_else (refused_if (not (end_of image e).is_open) Closed) (or_else (refused_if image.broken Broken) (error_refusal (end_of image e).state.errno))
+    option_or (refused_if (not (end_of image e).is_open) Closed) (option_or (refused_if image.broken Broken) (error_refusal (end_of image e).state.errno))
 
 -- the first refusal that holds
 abbrev pub refusal_of : {K : Type 0} → Image K → End → Request (Shape K) → Option Refusal
-refusal_of image e request = or_else (common_refusal image e) (own_refusal image e request)
+refusal_of image e request = option_or (common_refusal image e) (own_refusal image e request)
 
 -- what a call has done
 abbrev pub begun_of : {K : Type 0} → Meaning K → Image K → End → Request (Shape K) → Begun K

@@ -9,7 +9,7 @@ use Rattle.strm_call.specs.declared.refusal.Refusal.{Refusal}
 use Rattle.strm_call.specs.declared.refusal.Refusal.TheVariants.{NoMessage}
 use Rattle.strm_call.specs.declared.answer.Reply.TheVariants.{Nread, Canput, Ckband, Getband}
 use Rattle.strm_call.specs.Refusal.{refused_if}
-use Rattle.strm_call.specs.Begun.{Begun, told}
+use Rattle.strm_call.specs.Begun.{Begun, begun}
 
 -- the bytes of data of the first message
 abbrev pub first_data : List Msg → ℕ
@@ -19,15 +19,15 @@ first_data (m ∷ q) = part_len m.dat
 -- I_NREAD
 abbrev pub nread_begun : {K : Type 0} → Image K → End → Begun K
 nread_begun image e =
-    let q = (end_of image e).head in told image (Nread (length q) (first_data q))
+    let q = (end_of image e).head in begun image (Nread (length q) (first_data q))
 
 -- I_CANPUT: the first write queue is not full in the band
 abbrev pub canput_begun : {K : Type 0} → Image K → End → ℕ → Begun K
-canput_begun image e band = told image (Canput (not (full_in (below image.driver (end_of image e) 0) band)))
+canput_begun image e band = begun image (Canput (not (full_in (below image.driver (end_of image e) 0) band)))
 
 -- I_CKBAND: an ordinary message of the band waits
 abbrev pub ckband_begun : {K : Type 0} → Image K → End → ℕ → Begun K
-ckband_begun image e band = told image (Ckband (has_band (end_of image e).head band))
+ckband_begun image e band = begun image (Ckband (has_band (end_of image e).head band))
 
 abbrev pub is_empty : List Msg → Bool
 is_empty [] = true
@@ -43,4 +43,4 @@ first_band (m ∷ q) = m.band
 
 -- I_GETBAND
 abbrev pub getband_begun : {K : Type 0} → Image K → End → Begun K
-getband_begun image e = told image (Getband (first_band (end_of image e).head))
+getband_begun image e = begun image (Getband (first_band (end_of image e).head))

@@ -5,7 +5,7 @@ use Rattle.strm_msg.specs.declared.words.ReadMode.{ReadMode}
 use Rattle.strm_qpair.specs.Change.{with_mode}
 use Rattle.strm_chain.specs.Image.{Image, end_of, with_state}
 use Rattle.strm_call.specs.declared.answer.Reply.TheVariants.{SetRead, GetRead}
-use Rattle.strm_call.specs.Begun.{Begun, begun, told}
+use Rattle.strm_call.specs.Begun.{Begun, begun}
 
 abbrev pub set_read_begun : {K : Type 0} → Image K → End → ReadMode → Prot → Begun K
 set_read_begun image e mode prot =
@@ -13,4 +13,4 @@ set_read_begun image e mode prot =
 
 abbrev pub get_read_begun : {K : Type 0} → Image K → End → Begun K
 get_read_begun image e =
-    let state = (end_of image e).state in told image (GetRead state.mode state.prot)
+    let state = (end_of image e).state in begun image (GetRead state.mode state.prot)

@@ -1,5 +1,6 @@
 -- Calls that send a message down: putmsg, putpmsg and write (putmsg(2), write(2)).
 use Rattle.std.specs.Prelude.{ℕ, ◌==◌, ◌||◌, not, nat_lt, Bool, true, false, Option, Some, None, List, length, option_map, is_none, if◌then◌else◌}
+use Rattle.std.specs.Option.{option_or}
 use Rattle.strm_msg.specs.Kind.{is_high}
 use Rattle.strm_msg.specs.Message.{Msg, Part, part_len, data_msg, proto_msg, pcproto_msg}
 use Rattle.strm_msg.specs.declared.words.End.{End}
@@ -15,7 +16,7 @@ use Rattle.strm_call.specs.declared.request.PutFlag.{PutFlag}
 use Rattle.strm_call.specs.declared.refusal.Refusal.{Refusal}
 use Rattle.strm_call.specs.declared.refusal.Refusal.TheVariants.{Invalid, TooLong, HungUp, WouldWait}
 use Rattle.strm_call.specs.declared.answer.Reply.TheVariants as Reply
-use Rattle.strm_call.specs.Refusal.{refused_if, or_else}
+use Rattle.strm_call.specs.Refusal.{refused_if}
 use Rattle.strm_call.specs.Begun.{Begun, begun}
 
 -- an ordinary message of a band: with control a protocol message, else data; none without a part
@@ -55,11 +56,11 @@ would_wait image e (Some band) = full_in (below image.driver (end_of image e) 0)
 
 abbrev pub waiting_refusal : {K : Type 0} → Image K → End → Option ℕ → Option Refusal
 waiting_refusal image e band =
-    or_else (refused_if (end_of image e).state.hung HungUp) (refused_if (would_wait image e band) WouldWait)
+    option_or (refused_if (end_of image e).state.hung HungUp) (refused_if (would_wait image e band) WouldWait)
 
 -- what refuses each call that sends: a part that is too long, an end that is hung up, a queue that is full
 abbrev pub sending_refusal : {K : Type 0} → Image K → End → Part → Part → Option ℕ → Option Refusal
-sending_refusal image e ctl dat band = or_else (refused_if (is_too_long ctl dat) TooLong) (waiting_refusal image e band)
+sending_refusal image e ctl dat band = option_or (refused_if (is_too_long ctl dat) TooLong) (waiting_refusal image e band)
 
 -- a high message has control
 abbrev pub is_invalid_putmsg : Part → Priority → Bool
@@ -68,7 +69,7 @@ is_invalid_putmsg ctl Hipri = is_none ctl
 
 abbrev pub putmsg_refusal : {K : Type 0} → Image K → End → Part → Part → Priority → Option Refusal
 putmsg_refusal image e ctl dat flag =
-    or_else (refused_if (is_invalid_putmsg ctl flag) Invalid) (sending_refusal image e ctl dat (ordinary_band (putmsg_message ctl dat flag)))
+    option_or (refused_if (is_invalid_putmsg ctl flag) Invalid) (sending_refusal image e ctl dat (ordinary_band (putmsg_message ctl dat flag)))
 
 -- there is a flag, and a high message has control and band 0
 abbrev pub is_invalid_putpmsg : Part → ℕ → PutFlag → Bool
@@ -78,7 +79,7 @@ is_invalid_putpmsg ctl band PutFlag.Hipri = is_none ctl || not (band == 0)
 
 abbrev pub putpmsg_refusal : {K : Type 0} → Image K → End → Part → Part → ℕ → PutFlag → Option Refusal
 putpmsg_refusal image e ctl dat band flag =
-    or_else (refused_if (is_invalid_putpmsg ctl band flag) Invalid) (sending_refusal image e ctl dat (ordinary_band (putpmsg_message ctl dat band flag)))
+    option_or (refused_if (is_invalid_putpmsg ctl band flag) Invalid) (sending_refusal image e ctl dat (ordinary_band (putpmsg_message ctl dat band flag)))
 
 abbrev pub write_refusal : {K : Type 0} → Image K → End → List ℕ → Option Refusal
 write_refusal image e dat = sending_refusal image e None (Some dat) (Some 0)

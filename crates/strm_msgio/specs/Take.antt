@@ -1,5 +1,6 @@
 -- Calls that take the first message at the head, or look at it: getmsg, getpmsg and peek (getmsg(2); streamio(7), I_PEEK).
 use Rattle.std.specs.Prelude.{ℕ, ◌||◌, not, nat_le, Bool, true, false, Option, Some, None, List, [], ◌∷◌, slice_get, if◌then◌else◌}
+use Rattle.std.specs.Option.{option_or}
 use Rattle.strm_msg.specs.Kind.{is_high}
 use Rattle.strm_msg.specs.Message.{Msg}
 use Rattle.strm_msg.specs.declared.words.End.{End}
@@ -16,8 +17,8 @@ use Rattle.strm_call.specs.declared.answer.More.TheVariants.{Nothing}
 use Rattle.strm_call.specs.declared.answer.Received.{Received}
 use Rattle.strm_call.specs.declared.answer.Peeked.{Peeked}
 use Rattle.strm_call.specs.declared.answer.Reply.{Reply}
-use Rattle.strm_call.specs.Refusal.{refused_if, or_else}
-use Rattle.strm_call.specs.Begun.{Begun, begun, told}
+use Rattle.strm_call.specs.Refusal.{refused_if}
+use Rattle.strm_call.specs.Begun.{Begun, begun}
 use Rattle.strm_msgio.specs.Cut.{Most, cut_of}
 
 -- whether a getmsg takes this message
@@ -51,7 +52,7 @@ is_zero GetFlag.Hipri = false
 
 abbrev pub getpmsg_refusal : {K : Type 0} → Image K → End → ℕ → GetFlag → Option Refusal
 getpmsg_refusal image e band flag =
-    or_else (refused_if (is_zero flag) Invalid) (refused_if (lacks_message (end_of image e) (first_of (end_of image e).head) (is_wanted_in flag band)) WouldWait)
+    option_or (refused_if (is_zero flag) Invalid) (refused_if (lacks_message (end_of image e) (first_of (end_of image e).head) (is_wanted_in flag band)) WouldWait)
 
 abbrev pub put_back_if : List Msg → Option Msg → List Msg
 put_back_if q None = q
@@ -99,4 +100,4 @@ peeked_of (Some m) maxctl maxdat flag = if is_wanted flag m then Some (shown_of 
 -- a peek takes nothing away
 abbrev pub peek_begun : {K : Type 0} → Image K → End → Most → Most → Wanted → Begun K
 peek_begun image e maxctl maxdat flag =
-    told image (Reply.Peek (peeked_of (first_of (end_of image e).head) maxctl maxdat flag))
+    begun image (Reply.Peek (peeked_of (first_of (end_of image e).head) maxctl maxdat flag))

@@ -1,5 +1,5 @@
 //! Read: the bytes of the messages at the head are taken, and what stays of them is put back.
-ghost use Rattle.std.specs.Prelude.{◌≡◌, ◌≤◌, ◌++◌, OnOk, OnErr, IfOk, length, take, drop, slice_get, option_copied};
+ghost use Rattle.std.specs.Prelude.{◌≡◌, [], IsOk, ◌≤◌, ◌++◌, OnOk, OnErr, IfOk, length, take, drop, slice_get, option_copied};
 ghost use Rattle.strm_msg.specs.Message.{part_len};
 ghost use Rattle.strm_chain.specs.Image.{end_of, with_head, KeepsHeadRoom};
 ghost use Rattle.strm_msgio.specs.Take.{put_back_if};
@@ -248,14 +248,17 @@ pub fn read_refusal<M: ModuleOf>(chain: &Chain<M>, end: End, max: u16) -> Option
 /// Takes at most `max` bytes of the messages at a head, by the modes that I_SRDOPT sets (read(2)). A
 /// read of no bytes looks at nothing; else a first message without bytes is taken and gives none.
 ///
-/// Refused for want of memory alone, and then nothing is changed.
+/// Refused for want of memory alone, which is not met where there is nothing to read. Then nothing is
+/// changed.
 pub fn read<M: ModuleOf>(chain: &mut Chain<M>, end: End, max: u16) -> Result<Reply, NoMem>
     ensures reply { IfOk result (λ reply. reply ≡ (read_begun chain.old.image end max).reply) }
     ensures image { OnOk result (chain.new.image ≡ (read_begun chain.old.image end max).image) }
     ensures err { OnErr result (chain.new.image ≡ chain.old.image) }
+    ensures nothing { max ≡ 0 → IsOk result }
+    ensures empty { (end_of chain.old.image end).head ≡ [] → IsOk result }
 {
     let alloc = chain.alloc();
-    if max == 0 {
+    if max == 0 || chain.head(end).is_empty() {
         return Ok(Reply::Read {
             dat: Bytes::from(Vec::new(alloc)),
         });

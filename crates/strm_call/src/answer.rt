@@ -1,7 +1,20 @@
 //! What a call answers.
+ghost use Rattle.std.specs.Prelude.{◌≡◌, false, IfOk, IsOk};
+ghost use Rattle.strm_call.specs.Reply.{has_bytes};
+
 use crate::refusal::Refusal;
 use crate::request::Priority;
-use strm_msg::{Bytes, Prot, ReadMode};
+use arrayvec::ArrayVec;
+use std::alloc::Global;
+use strm_chain::MOST_MODULES;
+use strm_module::LONGEST_NAME;
+use strm_msg::{Bytes, Errno, NoMem, Prot, ReadMode};
+
+/// The name of a module or of a driver.
+pub type Name = ArrayVec<u8, LONGEST_NAME>;
+
+/// The most names in a list: those of the modules of an end and of its driver.
+pub const MOST_NAMES: usize = MOST_MODULES + 1;
 
 /// Which parts of a message stay at the stream head, whether or not they were asked for.
 #[derive(Clone, Copy, Debug, PartialEq, Eq)]
@@ -37,6 +50,25 @@ pub struct Peeked {
     pub dat: Option<Bytes>,
     /// The priority of the message.
     pub flag: Priority,
+}
+
+/// What became of an ioctl that was sent down (I_STR).
+#[derive(Debug, Drop, PartialEq, Eq)]
+pub enum Acknowledged {
+    /// It was done (M_IOCACK).
+    Ack {
+        /// The value that it gave.
+        rval: u64,
+        /// The data that it gave, or `None` for length -1.
+        dat: Option<Bytes>,
+    },
+    /// It was refused (M_IOCNAK).
+    Nak {
+        /// The errno.
+        errno: Errno,
+    },
+    /// Nothing has answered it (ETIME).
+    Timeout,
 }
 
 /// What a call that is done gives back, by the call.
@@ -117,8 +149,186 @@ pub enum Reply {
         /// The band.
         band: u64,
     },
+    /// The module was taken out.
+    Pop {
+        /// Its name.
+        name: Name,
+    },
+    /// The topmost module.
+    Look {
+        /// Its name.
+        name: Name,
+    },
+    /// What stands there.
+    List {
+        /// The names of the modules, topmost first, and then of the driver.
+        names: ArrayVec<Name, MOST_NAMES>,
+    },
+    /// Whether a module of the name stands there.
+    Find {
+        /// Whether one does.
+        found: bool,
+    },
+    /// The ioctl was sent.
+    Str {
+        /// What became of it.
+        answer: Acknowledged,
+    },
+    /// The flush was sent.
+    Flush,
+    /// The flush was sent.
+    FlushBand,
+    /// The end was closed.
+    Close {
+        /// The names of the modules that stood there, topmost first.
+        names: ArrayVec<Name, MOST_MODULES>,
+    },
     /// A message that came in from a line was taken.
     Line,
+}
+
+/// A copy of a name. Takes no memory.
+pub fn copy_name(name: &Name) -> Name
+    ensures { result ≡ name.now }
+{
+    ArrayVec::try_from(name.as_slice()).unwrap()
+}
+
+/// A copy of a part that may be missing. Refused for want of memory alone.
+pub fn copy_part(alloc: Global, part: &Option<Bytes>) -> Result<Option<Bytes>, NoMem>
+    ensures { IfOk result (λ copy. copy ≡ part.now) }
+{
+    match part {
+        Some(bytes) => Ok(Some(bytes.copy(alloc)?)),
+        None => Ok(None),
+    }
+}
+
+impl Peeked {
+    /// An equal one. Refused for want of memory alone.
+    pub fn copy(&self, alloc: Global) -> Result<Peeked, NoMem>
+        ensures { IfOk result (λ copy. copy ≡ self.now) }
+    {
+        Ok(Peeked {
+            ctl: copy_part(alloc, &self.ctl)?,
+            dat: copy_part(alloc, &self.dat)?,
+            flag: self.flag,
+        })
+    }
+}
+
+impl Acknowledged {
+    /// An equal one. Refused for want of memory alone.
+    pub fn copy(&self, alloc: Global) -> Result<Acknowledged, NoMem>
+        ensures { IfOk result (λ copy. copy ≡ self.now) }
+    {
+        match self {
+            Acknowledged::Ack { rval, dat } => Ok(Acknowledged::Ack {
+                rval: *rval,
+                dat: copy_part(alloc, dat)?,
+            }),
+            Acknowledged::Nak { errno } => Ok(Acknowledged::Nak { errno: *errno }),
+            Acknowledged::Timeout => Ok(Acknowledged::Timeout),
+        }
+    }
+}
+
+/// A copy of the names in a list. Takes no memory.
+fn copy_names<const N: usize>(names: &ArrayVec<Name, N>) -> ArrayVec<Name, N>
+    ensures { result ≡ names.now }
+{
+    let mut copy = ArrayVec::new();
+    for name in names.as_slice() {
+        copy.push(copy_name(name));
+    }
+    copy
+}
+
+impl Reply {
+    /// An equal one. Refused for want of memory alone, which a reply without bytes does not meet.
+    pub fn copy(&self, alloc: Global) -> Result<Reply, NoMem>
+        ensures ok { IfOk result (λ copy. copy ≡ self.now) }
+        ensures plain { has_bytes self.now ≡ false → IsOk result }
+    {
+        match self {
+            Reply::Getmsg {
+                ctl,
+                dat,
+                flag,
+                more,
+            } => Ok(Reply::Getmsg {
+                ctl: copy_part(alloc, ctl)?,
+                dat: copy_part(alloc, dat)?,
+                flag: *flag,
+                more: *more,
+            }),
+            Reply::Getpmsg {
+                ctl,
+                dat,
+                flag,
+                more,
+            } => Ok(Reply::Getpmsg {
+                ctl: copy_part(alloc, ctl)?,
+                dat: copy_part(alloc, dat)?,
+                flag: *flag,
+                more: *more,
+            }),
+            Reply::Read { dat } => Ok(Reply::Read {
+                dat: dat.copy(alloc)?,
+            }),
+            Reply::Peek { found: Some(seen) } => Ok(Reply::Peek {
+                found: Some(seen.copy(alloc)?),
+            }),
+            Reply::Str { answer } => Ok(Reply::Str {
+                answer: answer.copy(alloc)?,
+            }),
+            plain => Ok(plain.copy_plain()),
+        }
+    }
+
+    /// An equal one, of a reply that has no bytes.
+    fn copy_plain(&self) -> Reply
+        requires { has_bytes self.now ≡ false }
+        ensures { result ≡ self.now }
+    {
+        match self {
+            Reply::Putmsg => Reply::Putmsg,
+            Reply::Putpmsg => Reply::Putpmsg,
+            Reply::Write { len } => Reply::Write { len: *len },
+            Reply::Push => Reply::Push,
+            Reply::Nread { messages, bytes } => Reply::Nread {
+                messages: *messages,
+                bytes: *bytes,
+            },
+            Reply::SetRead => Reply::SetRead,
+            Reply::GetRead { mode, prot } => Reply::GetRead {
+                mode: *mode,
+                prot: *prot,
+            },
+            Reply::Canput { can } => Reply::Canput { can: *can },
+            Reply::Ckband { waits } => Reply::Ckband { waits: *waits },
+            Reply::Getband { band } => Reply::Getband { band: *band },
+            Reply::Pop { name } => Reply::Pop {
+                name: copy_name(name),
+            },
+            Reply::Look { name } => Reply::Look {
+                name: copy_name(name),
+            },
+            Reply::List { names } => Reply::List {
+                names: copy_names(names),
+            },
+            Reply::Find { found } => Reply::Find { found: *found },
+            Reply::Flush => Reply::Flush,
+            Reply::FlushBand => Reply::FlushBand,
+            Reply::Close { names } => Reply::Close {
+                names: copy_names(names),
+            },
+            Reply::Line => Reply::Line,
+            Reply::Peek { .. } => Reply::Peek { found: None },
+            Reply::Getmsg { .. } | Reply::Getpmsg { .. } | Reply::Read { .. } | Reply::Str { .. } =>
+                unreachable!(),
+        }
+    }
 }
 
 /// The answer to a call, or to a message that came in from a line.

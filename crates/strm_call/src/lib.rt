@@ -5,9 +5,15 @@
 #![tactic(auto)]
 
 mod answer;
+mod delivery;
 mod refusal;
 mod request;
+mod twins;
 
-pub use answer::{Answer, More, Peeked, Received, Reply};
+pub use answer::{
+    Acknowledged, Answer, MOST_NAMES, More, Name, Peeked, Received, Reply, copy_name, copy_part,
+};
+pub use delivery::deliver;
 pub use refusal::Refusal;
 pub use request::{GetFlag, MAX_CONTROL, MAX_DATA, Priority, PutFlag, Request, Wanted};
+pub use twins::Twins;

@@ -4,7 +4,8 @@ use strm_msg::{Bytes, Prot, ReadMode};
 /// The most bytes of control that a call sends; more is refused with ERANGE.
 pub const MAX_CONTROL: usize = 1024;
 
-/// The most bytes of data that a call sends; more is refused with ERANGE.
+/// The most bytes of data that a call sends; more is refused with ERANGE, and with EINVAL for an
+/// ioctl.
 pub const MAX_DATA: usize = 4096;
 
 /// The priority of a message that putmsg sends, that getmsg took or that a peek showed (putmsg(2),
@@ -54,9 +55,9 @@ pub enum GetFlag {
 ///
 /// A push carries `P`: the module when the call is made, and the module's shape in a history.
 ///
-/// Beside the refusals that it names, each call is refused where its end is closed, the stream is
-/// broken, or an error came up; these three are looked at first. Want of memory is looked at last: it
-/// refuses a call that has changed nothing yet, and else breaks the stream.
+/// Beside the refusals that it names, each call but a close is refused where its end is closed, the
+/// stream is broken, or an error came up; these three are looked at first. Want of memory is looked at
+/// last: it refuses a call that has changed nothing yet, and else breaks the stream.
 #[derive(Debug, Drop)]
 pub enum Request<P> {
     /// Sends a message (putmsg(2)): `MProto` of band 0 with control, `MPcproto` with control and
@@ -172,4 +173,57 @@ pub enum Request<P> {
     ///
     /// Refused with ENODATA where none is there.
     Getband,
+    /// Takes the topmost module out, and drops what its queues hold (I_POP).
+    ///
+    /// Refused with EINVAL (no module stands there) and ENXIO (hung up), in this order.
+    Pop,
+    /// Asks for the name of the topmost module (I_LOOK).
+    ///
+    /// Refused with EINVAL where no module stands there.
+    Look,
+    /// Asks for the names of the modules, topmost first, and then of the driver (I_LIST).
+    List,
+    /// Asks whether a module of some name stands there (I_FIND). The driver is none.
+    ///
+    /// Refused with EINVAL where the name has no byte, or more than `LONGEST_NAME`.
+    Find {
+        /// The name.
+        name: Bytes,
+    },
+    /// Sends an ioctl down, and tells what has answered it when no queue must move any longer
+    /// (I_STR).
+    ///
+    /// Refused with EINVAL (over `MAX_DATA` bytes of data), ENXIO (hung up) and EAGAIN (the greatest
+    /// id was given out), in this order.
+    Str {
+        /// The command, as the modules and the driver know it.
+        cmd: u32,
+        /// The data that goes with it, if any.
+        dat: Option<Bytes>,
+    },
+    /// Sends a flush of all bands down (I_FLUSH).
+    ///
+    /// Refused with EINVAL (neither side is to be flushed) and ENXIO (hung up), in this order.
+    Flush {
+        /// Whether read queues are flushed (FLUSHR).
+        r: bool,
+        /// Whether write queues are flushed (FLUSHW).
+        w: bool,
+    },
+    /// Sends a flush of one band down (I_FLUSHBAND).
+    ///
+    /// Refused with EINVAL (neither side is to be flushed) and ENXIO (hung up), in this order.
+    FlushBand {
+        /// The band.
+        band: u8,
+        /// Whether read queues are flushed (FLUSHR).
+        r: bool,
+        /// Whether write queues are flushed (FLUSHW).
+        w: bool,
+    },
+    /// Takes all modules out, topmost first, and closes the end (close(2)). What its modules' queues
+    /// and its head hold is dropped; the driver's list stays. The other end of a loop is hung up.
+    ///
+    /// Refused where the end is closed, and for nothing else. On a broken stream no service follows.
+    Close,
 }

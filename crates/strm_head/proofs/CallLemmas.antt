@@ -1,77 +1,310 @@
 -- From what the parts of a call promise to a step of the stream.
-use Rattle.std.proofs.Common.{◌≡◌, suc, zero, Bool, true, false, None, List, [], refl, sym, ◌∙◌, ap, subst}
+use Rattle.std.proofs.Common.{◌≡◌, ℕ, suc, zero, not, Bool, true, false, Option, Some, None, List, [], refl, sym, ◌∙◌, ap, subst}
 use Rattle.strm_msg.specs.declared.words.End.{End}
 use Rattle.strm_module.specs.Kinds.{Meaning}
 use Rattle.strm_module.specs.declared.shape.Shape.{Shape}
 use Rattle.strm_chain.specs.declared.place.Place.{Place}
-use Rattle.strm_chain.specs.Image.{Image}
+use Rattle.strm_chain.specs.Image.{Image, end_of}
 use Rattle.strm_chain.specs.declared.fault.ChainFault.{ChainFault}
 use Rattle.strm_chain.specs.declared.fault.ChainFault.TheVariants.{NoMem, Broken}
 use Rattle.strm_chain.specs.Fault.{Breaks, Refuses}
 use Rattle.strm_chain.proofs.QuietLemmas.{same_end}
 use Rattle.strm_call.specs.declared.request.Request.{Request}
-use Rattle.strm_call.specs.declared.request.Request.TheVariants.{Putmsg, Putpmsg, Getmsg, Getpmsg, Read, Write, Push, Nread, Peek, SetRead, GetRead, Canput, Ckband, Getband}
+use Rattle.strm_call.specs.declared.request.Request.TheVariants.{Putmsg, Putpmsg, Getmsg, Getpmsg, Read, Write, Push, Nread, Peek, SetRead, GetRead, Canput, Ckband, Getband, Pop, Look, Find, Str, Flush, FlushBand, Close}
+use Rattle.strm_call.specs.declared.request.Request.TheVariants as Requests
+use Rattle.strm_call.specs.declared.refusal.Refusal.{Refusal}
+use Rattle.strm_call.specs.declared.refusal.Refusal.TheVariants.{Closed, Error, Invalid, NoMessage}
+use Rattle.strm_call.specs.declared.refusal.Refusal.TheVariants as Refusals
+use Rattle.strm_call.specs.Refusal.{refused_if}
 use Rattle.strm_call.specs.declared.answer.Reply.{Reply}
 use Rattle.strm_call.specs.declared.answer.Answer.{Answer}
 use Rattle.strm_call.specs.declared.answer.Answer.TheVariants.{Done, Refused, Broke}
-use Rattle.strm_call.specs.Begun.{Begun, begun}
-use Rattle.strm_head.specs.Begin.{begun_of, refusal_of, changes_no_queue}
+use Rattle.std.specs.Option.{option_or}
+use Rattle.strm_msg.specs.declared.errno.Errno.{Errno}
+use Rattle.strm_msg.specs.Message.{Msg}
+use Rattle.strm_call.specs.Begun.{Begun, begun, begun_ioctl, reply_after}
+use Rattle.strm_head.specs.Begin.{begun_of, refusal_of, changes_no_queue, awaits_answer, takes_no_memory, can_lack_memory, pushed_of, closed_refusal, common_refusal, error_refusal, handed_out, back_of, out_of, serials_of, wants_memory}
 use Rattle.strm_head.specs.Inside.{IsKept}
-use Rattle.strm_head.specs.Step.{Answers, Finishes}
-use Rattle.strm_head.proofs.KeptLemmas.{whole_of, quiet_begun}
+use Rattle.strm_head.specs.Step.{Answers, Finishes, SettlesIf, Settles, answered_if}
+use Rattle.strm_head.proofs.KeptLemmas.{whole_of, quiet_begun, begun_opens}
 
 -- for kinds of any meaning
 module _ {K : Type 0} (means : Meaning K) where
-  -- no call takes a module out
-  none_out : (image : Image K) (e : End) (request : Request (Shape K)) → (begun_of means image e request).out ≡ []
-  none_out image e (Putmsg ctl dat flag) = refl
-  none_out image e (Putpmsg ctl dat band flag) = refl
-  none_out image e (Getmsg maxctl maxdat flag) = refl
-  none_out image e (Getpmsg maxctl maxdat band flag) = refl
-  none_out image e (Read zero) = refl
-  none_out image e (Read (suc n)) = refl
-  none_out image e (Write dat) = refl
-  none_out image e (Push shape) = refl
-  none_out image e Nread = refl
-  none_out image e (Peek maxctl maxdat flag) = refl
-  none_out image e (SetRead mode prot) = refl
-  none_out image e GetRead = refl
-  none_out image e (Canput band) = refl
-  none_out image e (Ckband band) = refl
-  none_out image e Getband = refl
+  -- a call that want of memory can refuse has taken no module out, and was handed none
+  pub none_out : (image : Image K) (e : End) (request : Request (Shape K)) → can_lack_memory request ≡ true → (begun_of means image e request).out ≡ []
+  none_out image e (Putmsg ctl dat flag) can = refl
+  none_out image e (Putpmsg ctl dat band flag) can = refl
+  none_out image e (Getmsg maxctl maxdat flag) can = refl
+  none_out image e (Getpmsg maxctl maxdat band flag) can = refl
+  none_out image e (Read zero) can = refl
+  none_out image e (Read (suc n)) can = refl
+  none_out image e (Write dat) can = refl
+  none_out image e (Push shape) can = cc
+  none_out image e Nread can = cc
+  none_out image e (Peek maxctl maxdat flag) can = refl
+  none_out image e (SetRead mode prot) can = cc
+  none_out image e GetRead can = cc
+  none_out image e (Canput band) can = cc
+  none_out image e (Ckband band) can = cc
+  none_out image e Getband can = cc
+  none_out image e Pop can = cc
+  none_out image e Look can = cc
+  none_out image e Requests.List can = cc
+  none_out image e (Find name) can = cc
+  none_out image e (Str cmd dat) can = refl
+  none_out image e (Flush r w) can = refl
+  none_out image e (FlushBand band r w) can = refl
+  none_out image e Close can = cc
 
-  -- what begin has made is what the definition has
-  same_begun : (image : Image K) (e : End) (request : Request (Shape K)) (new : Image K) (reply : Reply) → new ≡ (begun_of means image e request).image → reply ≡ (begun_of means image e request).reply → begun new reply ≡ begun_of means image e request
-  same_begun image e request new reply i r = rw (i, r, sym (none_out image e request)) refl
+  pub none_pushed : (image : Image K) (e : End) (request : Request (Shape K)) → can_lack_memory request ≡ true → pushed_of request ≡ []
+  none_pushed image e (Putmsg ctl dat flag) can = refl
+  none_pushed image e (Putpmsg ctl dat band flag) can = refl
+  none_pushed image e (Getmsg maxctl maxdat flag) can = refl
+  none_pushed image e (Getpmsg maxctl maxdat band flag) can = refl
+  none_pushed image e (Read zero) can = refl
+  none_pushed image e (Read (suc n)) can = refl
+  none_pushed image e (Write dat) can = refl
+  none_pushed image e (Push shape) can = cc
+  none_pushed image e Nread can = refl
+  none_pushed image e (Peek maxctl maxdat flag) can = refl
+  none_pushed image e (SetRead mode prot) can = refl
+  none_pushed image e GetRead can = refl
+  none_pushed image e (Canput band) can = refl
+  none_pushed image e (Ckband band) can = refl
+  none_pushed image e Getband can = refl
+  none_pushed image e Pop can = refl
+  none_pushed image e Look can = refl
+  none_pushed image e Requests.List can = refl
+  none_pushed image e (Find name) can = refl
+  none_pushed image e (Str cmd dat) can = refl
+  none_pushed image e (Flush r w) can = refl
+  none_pushed image e (FlushBand band r w) can = refl
+  none_pushed image e Close can = refl
 
-  from_begun : (image : Image K) (e : End) (request : Request (Shape K)) (answer : Answer) (moves : List Place) (after : Image K) → refusal_of image e request ≡ None → changes_no_queue request ≡ false → Finishes means (begun_of means image e request) answer moves [] after → Answers means image e request answer moves [] after
-  from_begun image e request (Refused refusal) moves after unrefused changes finishes = absurd finishes
-  from_begun image e request (Done reply) moves after unrefused changes finishes =
+  -- the calls that await an answer are those that say so
+  awaits_of : (image : Image K) (e : End) (request : Request (Shape K)) → (begun_of means image e request).awaits ≡ awaits_answer request
+  awaits_of image e (Putmsg ctl dat flag) = refl
+  awaits_of image e (Putpmsg ctl dat band flag) = refl
+  awaits_of image e (Getmsg maxctl maxdat flag) = refl
+  awaits_of image e (Getpmsg maxctl maxdat band flag) = refl
+  awaits_of image e (Read zero) = refl
+  awaits_of image e (Read (suc n)) = refl
+  awaits_of image e (Write dat) = refl
+  awaits_of image e (Push shape) = refl
+  awaits_of image e Nread = refl
+  awaits_of image e (Peek maxctl maxdat flag) = refl
+  awaits_of image e (SetRead mode prot) = refl
+  awaits_of image e GetRead = refl
+  awaits_of image e (Canput band) = refl
+  awaits_of image e (Ckband band) = refl
+  awaits_of image e Getband = refl
+  awaits_of image e Pop = refl
+  awaits_of image e Look = refl
+  awaits_of image e Requests.List = refl
+  awaits_of image e (Find name) = refl
+  awaits_of image e (Str cmd dat) = refl
+  awaits_of image e (Flush r w) = refl
+  awaits_of image e (FlushBand band r w) = refl
+  awaits_of image e Close = refl
+
+  ioctl_of : (image : Image K) (e : End) (request : Request (Shape K)) → awaits_answer request ≡ true → begun_of means image e request ≡ begun_ioctl (begun_of means image e request).image
+  ioctl_of image e (Putmsg ctl dat flag) awaits = cc
+  ioctl_of image e (Putpmsg ctl dat band flag) awaits = cc
+  ioctl_of image e (Getmsg maxctl maxdat flag) awaits = cc
+  ioctl_of image e (Getpmsg maxctl maxdat band flag) awaits = cc
+  ioctl_of image e (Read zero) awaits = cc
+  ioctl_of image e (Read (suc n)) awaits = cc
+  ioctl_of image e (Write dat) awaits = cc
+  ioctl_of image e (Push shape) awaits = cc
+  ioctl_of image e Nread awaits = cc
+  ioctl_of image e (Peek maxctl maxdat flag) awaits = cc
+  ioctl_of image e (SetRead mode prot) awaits = cc
+  ioctl_of image e GetRead awaits = cc
+  ioctl_of image e (Canput band) awaits = cc
+  ioctl_of image e (Ckband band) awaits = cc
+  ioctl_of image e Getband awaits = cc
+  ioctl_of image e Pop awaits = cc
+  ioctl_of image e Look awaits = cc
+  ioctl_of image e Requests.List awaits = cc
+  ioctl_of image e (Find name) awaits = cc
+  ioctl_of image e (Str cmd dat) awaits = refl
+  ioctl_of image e (Flush r w) awaits = cc
+  ioctl_of image e (FlushBand band r w) awaits = cc
+  ioctl_of image e Close awaits = cc
+
+  ioctl_takes : (image : Image K) (e : End) (request : Request (Shape K)) → awaits_answer request ≡ true → takes_no_memory request ≡ false
+  ioctl_takes image e (Putmsg ctl dat flag) awaits = cc
+  ioctl_takes image e (Putpmsg ctl dat band flag) awaits = cc
+  ioctl_takes image e (Getmsg maxctl maxdat flag) awaits = cc
+  ioctl_takes image e (Getpmsg maxctl maxdat band flag) awaits = cc
+  ioctl_takes image e (Read zero) awaits = cc
+  ioctl_takes image e (Read (suc n)) awaits = cc
+  ioctl_takes image e (Write dat) awaits = cc
+  ioctl_takes image e (Push shape) awaits = cc
+  ioctl_takes image e Nread awaits = cc
+  ioctl_takes image e (Peek maxctl maxdat flag) awaits = cc
+  ioctl_takes image e (SetRead mode prot) awaits = cc
+  ioctl_takes image e GetRead awaits = cc
+  ioctl_takes image e (Canput band) awaits = cc
+  ioctl_takes image e (Ckband band) awaits = cc
+  ioctl_takes image e Getband awaits = cc
+  ioctl_takes image e Pop awaits = cc
+  ioctl_takes image e Look awaits = cc
+  ioctl_takes image e Requests.List awaits = cc
+  ioctl_takes image e (Find name) awaits = cc
+  ioctl_takes image e (Str cmd dat) awaits = refl
+  ioctl_takes image e (Flush r w) awaits = cc
+  ioctl_takes image e (FlushBand band r w) awaits = cc
+  ioctl_takes image e Close awaits = cc
+
+  -- a call that changes no queue, and one that awaits an answer, finds a stream that is not broken
+  quiet_whole : (image : Image K) (e : End) (request : Request (Shape K)) → refusal_of image e request ≡ None → changes_no_queue request ≡ true → image.broken ≡ false
+  quiet_whole image e request unrefused quiet =
+      whole_of image e request unrefused (λ is. let no : false ≡ true = sym (ap (λ r. changes_no_queue r) is) ∙ quiet in cc)
+
+  pub ioctl_whole : (image : Image K) (e : End) (request : Request (Shape K)) (new : Image K) → refusal_of image e request ≡ None → awaits_answer request ≡ true → new ≡ (begun_of means image e request).image → new.broken ≡ false
+  ioctl_whole image e request new unrefused awaits is =
+      ap (λ (i : Image K). i.broken) is ∙ (begun_opens means image e request).broken ∙ whole_of image e request unrefused (λ same. let no : false ≡ true = sym (ap (λ r. awaits_answer r) same) ∙ awaits in cc)
+
+  plain_reply : (b : Begun K) (kept : Option Msg) → b.awaits ≡ false → reply_after b kept ≡ b.reply
+  plain_reply b kept h = rw h refl
+
+  -- what was begun and finished, where the modules that were taken out are known
+  with_out : (e : End) (b : Begun K) (new : Image K) (reply : Reply) (answer : Answer) (moves : List Place) (after : Image K) → new ≡ b.image → reply ≡ b.reply → b.awaits ≡ false → Finishes means e (begun new reply) answer moves [] after → Finishes means e b answer moves (serials_of b.out) after
+  with_out e b new reply (Refused refusal) moves after i r plain finishes = absurd finishes
+  with_out e b new reply (Done said) moves after i r plain done =
+      record {
+        settled = done.settled;
+        settles = subst (λ (image : Image K). SettlesIf means image.broken image moves done.settled) i done.settles;
+        replies = done.replies ∙ r ∙ sym (plain_reply b _ plain);
+        leaves = done.leaves ∙ ap (λ a. answered_if a e done.settled) (sym plain);
+        takes = refl;
+      }
+  with_out e b new reply Broke moves after i r plain broke =
+      record { breaks = subst (λ (image : Image K). Breaks image after) i broke.breaks; stays = broke.stays; takes = refl }
+
+  -- the same of an ioctl
+  ioctl_out : (e : End) (b : Begun K) (new : Image K) (answer : Answer) (moves : List Place) (after : Image K) → new ≡ b.image → b ≡ begun_ioctl b.image → Finishes means e (begun_ioctl new) answer moves [] after → Finishes means e b answer moves (serials_of b.out) after
+  ioctl_out e b new answer moves after i is finishes =
+      let same : begun_ioctl new ≡ b = ap (λ image. begun_ioctl image) i ∙ sym is in
+      let none : b.out ≡ [] = ap (λ (x : Begun K). x.out) is in
+      subst (λ o. Finishes means e b answer moves (serials_of o) after) (sym none)
+      (subst (λ x. Finishes means e x answer moves [] after) same finishes)
+
+  from_begun : (image : Image K) (e : End) (request : Request (Shape K)) (answer : Answer) (moves : List Place) (after : Image K) → refusal_of image e request ≡ None → changes_no_queue request ≡ false → (answer ≡ Broke → image.broken ≡ false) → Finishes means e (begun_of means image e request) answer moves (serials_of (begun_of means image e request).out) after → Answers means image e request answer moves (out_of means image e request answer) after
+  from_begun image e request (Refused refusal) moves after unrefused changes whole finishes = absurd finishes
+  from_begun image e request (Done reply) moves after unrefused changes whole finishes =
       (unrefused, (λ quiet. absurd (let no : true ≡ false = sym quiet ∙ changes in cc)), finishes)
-  from_begun image e request Broke moves after unrefused changes finishes = (unrefused, changes, finishes)
+  from_begun image e request Broke moves after unrefused changes whole finishes = (unrefused, changes, whole refl, finishes)
 
   -- a call that was begun and finished
-  pub finished_answers : (image : Image K) (e : End) (request : Request (Shape K)) (new : Image K) (reply : Reply) (answer : Answer) (moves : List Place) (after : Image K) → refusal_of image e request ≡ None → changes_no_queue request ≡ false → new ≡ (begun_of means image e request).image → reply ≡ (begun_of means image e request).reply → Finishes means (begun new reply) answer moves [] after → Answers means image e request answer moves [] after
-  finished_answers image e request new reply answer moves after unrefused changes i r finishes =
+  pub finished_answers : (image : Image K) (e : End) (request : Request (Shape K)) (new : Image K) (reply : Reply) (answer : Answer) (moves : List Place) (after : Image K) → refusal_of image e request ≡ None → changes_no_queue request ≡ false → awaits_answer request ≡ false → new ≡ (begun_of means image e request).image → reply ≡ (begun_of means image e request).reply → (answer ≡ Broke → new.broken ≡ false) → Finishes means e (begun new reply) answer moves [] after → Answers means image e request answer moves (out_of means image e request answer) after
+  finished_answers image e request new reply answer moves after unrefused changes plain i r whole finishes =
       from_begun image e request answer moves after unrefused changes
-      (subst (λ b. Finishes means b answer moves [] after) (same_begun image e request new reply i r) finishes)
+      (λ broke. sym (begun_opens means image e request).broken ∙ ap (λ (x : Image K). x.broken) (sym i) ∙ whole broke)
+      (with_out e (begun_of means image e request) new reply answer moves after i r (awaits_of image e request ∙ plain) finishes)
+
+  -- an ioctl that was sent and has its answer
+  pub ioctl_answers : (image : Image K) (e : End) (request : Request (Shape K)) (new : Image K) (answer : Answer) (moves : List Place) (after : Image K) → refusal_of image e request ≡ None → changes_no_queue request ≡ false → awaits_answer request ≡ true → new ≡ (begun_of means image e request).image → Finishes means e (begun_ioctl new) answer moves [] after → Answers means image e request answer moves (out_of means image e request answer) after
+  ioctl_answers image e request new answer moves after unrefused changes awaits i finishes =
+      from_begun image e request answer moves after unrefused changes
+      (λ broke. whole_of image e request unrefused (λ same. let no : false ≡ true = sym (ap (λ r. awaits_answer r) same) ∙ awaits in cc))
+      (ioctl_out e (begun_of means image e request) new answer moves after i (ioctl_of image e request awaits) finishes)
 
   -- a call that changes no queue is finished when it was begun
-  pub quiet_answers : (image : Image K) (e : End) (request : Request (Shape K)) (reply : Reply) (answer : Answer) (moves : List Place) (after : Image K) → IsKept image → refusal_of image e request ≡ None → changes_no_queue request ≡ true → after ≡ (begun_of means image e request).image → reply ≡ (begun_of means image e request).reply → answer ≡ Done reply → moves ≡ [] → Answers means image e request answer moves [] after
+  pub quiet_answers : (image : Image K) (e : End) (request : Request (Shape K)) (reply : Reply) (answer : Answer) (moves : List Place) (after : Image K) → IsKept image → refusal_of image e request ≡ None → changes_no_queue request ≡ true → after ≡ (begun_of means image e request).image → reply ≡ (begun_of means image e request).reply → answer ≡ Done reply → moves ≡ [] → Answers means image e request answer moves (out_of means image e request answer) after
   quiet_answers image e request reply answer moves after kept unrefused is i r a m =
+      let whole = quiet_whole image e request unrefused is in
+      let b = begun_of means image e request in
+      let quiet = quiet_begun means image e request is (kept.quiet whole) in
+      let settles : SettlesIf means b.image.broken b.image [] b.image = subst (λ (x : Bool). SettlesIf means x b.image [] b.image) (sym (quiet.broken ∙ whole)) (record { leads = refl; quiet = quiet.quiet }) in
       rw (a, m, i)
-      (unrefused, (λ quiet. refl), record { replies = r; settles = record { leads = refl; quiet = quiet_begun means image e request is (kept.quiet (whole_of image e request unrefused)) }; takes = rw (none_out image e request) refl })
+      (unrefused, (λ quiet. refl), record { settled = b.image; settles = settles; replies = r ∙ sym (plain_reply b _ quiet.awaits); leaves = ap (λ x. answered_if x e b.image) (sym quiet.awaits); takes = refl })
 
   -- a call after whose change memory was wanting
-  pub broken_answers : (image : Image K) (e : End) (request : Request (Shape K)) (answer : Answer) (moves : List Place) (after : Image K) → refusal_of image e request ≡ None → changes_no_queue request ≡ false → Breaks (begun_of means image e request).image after → answer ≡ Broke → moves ≡ [] → Answers means image e request answer moves [] after
-  broken_answers image e request answer moves after unrefused changes breaks a m =
-      rw (a, m)
-      (unrefused, changes, record { breaks = breaks; stays = refl; takes = rw (none_out image e request) refl })
+  pub broken_answers : (image : Image K) (e : End) (request : Request (Shape K)) (answer : Answer) (moves : List Place) (after : Image K) → refusal_of image e request ≡ None → changes_no_queue request ≡ false → image.broken ≡ false → Breaks (begun_of means image e request).image after → answer ≡ Broke → moves ≡ [] → Answers means image e request answer moves (out_of means image e request answer) after
+  broken_answers image e request answer moves after unrefused changes whole breaks a m =
+      rw (a, m) (unrefused, changes, whole, record { breaks = breaks; stays = refl; takes = refl })
+
+  -- what comes back of a call that was finished
+  pub finished_back : (image : Image K) (e : End) (request : Request (Shape K)) (b : Begun K) (answer : Answer) (moves : List Place) (out : List ℕ) (after : Image K) → Finishes means e b answer moves out after → back_of means image e request answer ≡ handed_out (begun_of means image e request).out
+  finished_back image e request b (Refused refusal) moves out after finishes = absurd finishes
+  finished_back image e request b (Done reply) moves out after finishes = refl
+  finished_back image e request b Broke moves out after finishes = refl
+
+  -- an ioctl takes memory
+  pub ioctl_memory : (image : Image K) (e : End) (request : Request (Shape K)) (answer : Answer) → awaits_answer request ≡ true → takes_no_memory request ≡ true → wants_memory answer ≡ false
+  ioctl_memory image e request answer awaits none =
+      absurd (let no : true ≡ false = sym none ∙ ioctl_takes image e request awaits in cc)
 
   -- service that broke off
-  pub broken_finishes : (begun1 : Begun K) (answer : Answer) (moves : List Place) (after : Image K) → begun1.out ≡ [] → Breaks begun1.image after → answer ≡ Broke → moves ≡ [] → Finishes means begun1 answer moves [] after
-  broken_finishes begun1 answer moves after o breaks a m =
+  pub broken_finishes : (e : End) (begun1 : Begun K) (answer : Answer) (moves : List Place) (after : Image K) → begun1.out ≡ [] → Breaks begun1.image after → answer ≡ Broke → moves ≡ [] → Finishes means e begun1 answer moves [] after
+  broken_finishes e begun1 answer moves after o breaks a m =
       rw (a, m) (record { breaks = breaks; stays = refl; takes = rw o refl })
+
+  -- a call that was done on a broken stream, where nothing moves
+  pub still_finishes : (e : End) (image : Image K) (reply : Reply) (answer : Answer) (moves : List Place) → image.broken ≡ true → answer ≡ Done reply → moves ≡ [] → Finishes means e (begun image reply) answer moves [] image
+  still_finishes e image reply answer moves broken a m =
+      rw (a, m)
+      (record { settled = image; settles = subst (λ (x : Bool). SettlesIf means x image [] image) (sym broken) (record { stays = refl; unchanged = refl }); replies = refl; leaves = refl; takes = refl })
+
+  -- a call after which what must move has moved
+  pub settled_finishes : (e : End) (image after : Image K) (reply : Reply) (answer : Answer) (moves : List Place) → image.broken ≡ false → Settles means image moves after → answer ≡ Done reply → Finishes means e (begun image reply) answer moves [] after
+  settled_finishes e image after reply answer moves whole settles a =
+      rw a
+      (record { settled = after; settles = subst (λ (x : Bool). SettlesIf means x image moves after) (sym whole) settles; replies = refl; leaves = refl; takes = refl })
+
+-- a refusal that is not for want of memory, if it is one
+abbrev IsNotMemory : Option Refusal → Type 0
+IsNotMemory found = (refusal : Refusal) → found ≡ Some refusal → wants_memory (Refused refusal) ≡ false
+
+if_not_memory : (holds : Bool) (first : Refusal) → wants_memory (Refused first) ≡ false → IsNotMemory (refused_if holds first)
+if_not_memory true first other refusal is =
+    let same : first ≡ refusal = cc in subst (λ r. wants_memory (Refused r) ≡ false) same other
+if_not_memory false first other refusal is = cc
+
+or_not_memory : (first later : Option Refusal) → IsNotMemory first → IsNotMemory later → IsNotMemory (option_or first later)
+or_not_memory None later p q refusal is = q refusal is
+or_not_memory (Some r) later p q refusal is = p refusal is
+
+error_not_memory : (errno : Option Errno) → IsNotMemory (error_refusal errno)
+error_not_memory None refusal is = cc
+error_not_memory (Some errno) refusal is =
+    let same : Error errno ≡ refusal = cc in subst (λ r. wants_memory (Refused r) ≡ false) same refl
+
+common_not_memory : {K : Type 0} (image : Image K) (e : End) (own : Option Refusal) → IsNotMemory own → IsNotMemory (option_or (common_refusal image e) own)
+common_not_memory image e own other =
+    or_not_memory (common_refusal image e) own
+    (or_not_memory (closed_refusal image e) _ (if_not_memory (not (end_of image e).is_open) Closed refl) (or_not_memory (refused_if image.broken Refusals.Broken) (error_refusal (end_of image e).state.errno) (if_not_memory image.broken Refusals.Broken refl) (error_not_memory (end_of image e).state.errno)))
+    other
+
+none_not_memory : IsNotMemory None
+none_not_memory refusal is = cc
+
+-- the first refusal that holds of a call that takes no memory is not want of memory
+pub refused_memory : {K : Type 0} (image : Image K) (e : End) (request : Request (Shape K)) (refusal : Refusal) → takes_no_memory request ≡ true → refusal_of image e request ≡ Some refusal → wants_memory (Refused refusal) ≡ false
+refused_memory image e (Putmsg ctl dat flag) refusal none is = cc
+refused_memory image e (Putpmsg ctl dat band flag) refusal none is = cc
+refused_memory image e (Getmsg maxctl maxdat flag) refusal none is = cc
+refused_memory image e (Getpmsg maxctl maxdat band flag) refusal none is = cc
+refused_memory image e (Read max) refusal none is = cc
+refused_memory image e (Write dat) refusal none is = cc
+refused_memory image e (Push shape) refusal none is = cc
+refused_memory image e Nread refusal none is = common_not_memory image e _ none_not_memory refusal is
+refused_memory image e (Peek maxctl maxdat flag) refusal none is = cc
+refused_memory image e (SetRead mode prot) refusal none is = common_not_memory image e _ none_not_memory refusal is
+refused_memory image e GetRead refusal none is = common_not_memory image e _ none_not_memory refusal is
+refused_memory image e (Canput band) refusal none is = common_not_memory image e _ none_not_memory refusal is
+refused_memory image e (Ckband band) refusal none is = common_not_memory image e _ none_not_memory refusal is
+refused_memory image e Getband refusal none is = common_not_memory image e _ (if_not_memory _ NoMessage refl) refusal is
+refused_memory image e Pop refusal none is = cc
+refused_memory image e Look refusal none is = common_not_memory image e _ (if_not_memory _ Invalid refl) refusal is
+refused_memory image e Requests.List refusal none is = common_not_memory image e _ none_not_memory refusal is
+refused_memory image e (Find name) refusal none is = common_not_memory image e _ (if_not_memory _ Invalid refl) refusal is
+refused_memory image e (Str cmd dat) refusal none is = cc
+refused_memory image e (Flush r w) refusal none is = cc
+refused_memory image e (FlushBand band r w) refusal none is = cc
+refused_memory image e Close refusal none is = cc
 
 abbrev off : {K : Type 0} → Image K → Bool → Image K
 off image b = record image { broken = b }

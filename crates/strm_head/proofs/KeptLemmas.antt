@@ -1,36 +1,45 @@
 -- What a stream keeps from call to call: which ends are open, and that no place must move.
-use Rattle.std.proofs.Common.{◌≡◌, ℕ, ◌+◌, ◌||◌, not, true, false, Bool, Option, Some, None, List, suc, zero, refl, sym, ◌∙◌, ap}
+use Rattle.std.proofs.Common.{◌≡◌, ℕ, ◌+◌, ◌||◌, not, true, false, Bool, Option, Some, None, List, suc, zero, refl, sym, ◌∙◌, ap, subst, if◌then◌else◌}
 use Rattle.std.specs.Option.{option_or}
-use Rattle.strm_msg.specs.Message.{Msg}
+use Rattle.strm_msg.specs.Message.{Msg, Part}
 use Rattle.strm_msg.specs.Kind.{is_high}
 use Rattle.strm_msg.specs.declared.words.End.{End}
 use Rattle.strm_msg.specs.declared.words.End.TheVariants.{A, B}
 use Rattle.strm_module.specs.Kinds.{Meaning}
 use Rattle.strm_module.specs.declared.shape.Shape.{Shape}
-use Rattle.strm_qpair.specs.End.{EndState}
+use Rattle.strm_queue.specs.Queue.{put_in}
+use Rattle.strm_qpair.specs.End.{EndState, in_drv}
+use Rattle.strm_qpair.specs.Modules.{SameEnd}
 use Rattle.strm_qpair.specs.Canput.{above, slack_in}
-use Rattle.strm_qpair.specs.Change.{with_mode, inserted}
+use Rattle.strm_qpair.specs.Change.{with_mode, inserted, removed, closed, begun_with, ended}
 use Rattle.strm_qpair.specs.declared.record.Record.{Record}
 use Rattle.strm_chain.specs.declared.place.Place.{Place}
 use Rattle.strm_chain.specs.declared.place.Place.TheVariants as Places
-use Rattle.strm_chain.specs.declared.place.Spot.TheVariants.{Down}
+use Rattle.strm_chain.specs.declared.place.Spot.TheVariants.{Down, Up}
 use Rattle.strm_chain.specs.Image.{Image, end_of, with_end, with_head, with_state, partner, count_of, has_end}
 use Rattle.strm_chain.specs.Path.{ahead, front_of}
 use Rattle.strm_chain.specs.Service.{is_due, due_front, IsQuiet}
 use Rattle.strm_chain.specs.Fault.{SameModules, Breaks}
-use Rattle.strm_chain.proofs.SameLemmas.{deliver_keeps, leads_keeps}
+use Rattle.strm_chain.specs.Deliver.{deliver}
+use Rattle.strm_chain.proofs.QuietLemmas.{same_end}
+use Rattle.strm_chain.proofs.SameLemmas.{deliver_keeps, leads_keeps, with_end_keeps}
 use Rattle.strm_call.specs.declared.request.Request.{Request}
-use Rattle.strm_call.specs.declared.request.Request.TheVariants.{Putmsg, Putpmsg, Getmsg, Getpmsg, Read, Write, Push, Nread, Peek, SetRead, GetRead, Canput, Ckband, Getband}
+use Rattle.strm_call.specs.declared.request.Request.TheVariants.{Putmsg, Putpmsg, Getmsg, Getpmsg, Read, Write, Push, Nread, Peek, SetRead, GetRead, Canput, Ckband, Getband, Pop, Look, Find, Str, Flush, FlushBand, Close}
+use Rattle.strm_call.specs.declared.request.Request.TheVariants as Requests
 use Rattle.strm_call.specs.declared.refusal.Refusal.{Refusal}
 use Rattle.strm_call.specs.declared.refusal.Refusal.TheVariants.{Closed, Broken}
+use Rattle.strm_call.specs.declared.answer.Reply.{Reply}
 use Rattle.strm_call.specs.declared.answer.Answer.{Answer}
 use Rattle.strm_call.specs.declared.answer.Answer.TheVariants.{Done, Refused, Broke}
 use Rattle.strm_call.specs.Refusal.{refused_if}
 use Rattle.strm_call.specs.Begun.{Begun}
 use Rattle.strm_msgio.specs.Send.{sent_of, putmsg_message, putpmsg_message, ordinary_message}
+use Rattle.strm_ioctl.specs.Ioctl.{asked_of}
+use Rattle.strm_ioctl.specs.Close.{closed_image, after_close}
+use Rattle.strm_ioctl.proofs.CloseLemmas.{hung_up_keeps}
 use Rattle.strm_head.specs.Begin.{begun_of, refusal_of, changes_no_queue}
-use Rattle.strm_head.specs.Inside.{HasItsEnds, IsKept, OpensNone}
-use Rattle.strm_head.specs.Step.{Answers, Finishes}
+use Rattle.strm_head.specs.Inside.{HasItsEnds, IsIdle, AreIdle, IsKept, OpensNone}
+use Rattle.strm_head.specs.Step.{Answers, IsDone, IsBroken, SettlesIf, Lands, arrival, arrived_of, answered_if}
 
 -- what a message leaves opens no end
 opened_in : {K : Type 0} (old new : Image K) → SameModules old new → (e : End) → (end_of new e).is_open ≡ true → (end_of old e).is_open ≡ true
@@ -61,14 +70,35 @@ none_opens image = record { driver = refl; broken = refl; ends = λ e h. h }
 pub ends_stay : {K : Type 0} (old new : Image K) → OpensNone old new → HasItsEnds old → HasItsEnds new
 ends_stay old new opens ends e h = ap (λ d. has_end d e) opens.driver ∙ ends e (opens.ends e h)
 
--- a call that is not refused finds a stream that is not broken
+-- a call that is not refused, and is no close, finds a stream that is not broken
 whole_if : (opened broken : Bool) (error own : Option Refusal) → option_or (option_or (refused_if (not opened) Closed) (option_or (refused_if broken Broken) error)) own ≡ None → broken ≡ false
 whole_if true false error own h = refl
 whole_if true true error own h = cc
 whole_if false broken error own h = cc
 
-pub whole_of : {K : Type 0} (image : Image K) (e : End) (request : Request (Shape K)) → refusal_of image e request ≡ None → image.broken ≡ false
-whole_of image e request h = whole_if (end_of image e).is_open image.broken _ _ h
+pub whole_of : {K : Type 0} (image : Image K) (e : End) (request : Request (Shape K)) → refusal_of image e request ≡ None → (request ≡ Close → ⊥) → image.broken ≡ false
+whole_of image e (Putmsg ctl dat flag) h other = whole_if (end_of image e).is_open image.broken _ _ h
+whole_of image e (Putpmsg ctl dat band flag) h other = whole_if (end_of image e).is_open image.broken _ _ h
+whole_of image e (Getmsg maxctl maxdat flag) h other = whole_if (end_of image e).is_open image.broken _ _ h
+whole_of image e (Getpmsg maxctl maxdat band flag) h other = whole_if (end_of image e).is_open image.broken _ _ h
+whole_of image e (Read max) h other = whole_if (end_of image e).is_open image.broken _ _ h
+whole_of image e (Write dat) h other = whole_if (end_of image e).is_open image.broken _ _ h
+whole_of image e (Push shape) h other = whole_if (end_of image e).is_open image.broken _ _ h
+whole_of image e Nread h other = whole_if (end_of image e).is_open image.broken _ _ h
+whole_of image e (Peek maxctl maxdat flag) h other = whole_if (end_of image e).is_open image.broken _ _ h
+whole_of image e (SetRead mode prot) h other = whole_if (end_of image e).is_open image.broken _ _ h
+whole_of image e GetRead h other = whole_if (end_of image e).is_open image.broken _ _ h
+whole_of image e (Canput band) h other = whole_if (end_of image e).is_open image.broken _ _ h
+whole_of image e (Ckband band) h other = whole_if (end_of image e).is_open image.broken _ _ h
+whole_of image e Getband h other = whole_if (end_of image e).is_open image.broken _ _ h
+whole_of image e Pop h other = whole_if (end_of image e).is_open image.broken _ _ h
+whole_of image e Look h other = whole_if (end_of image e).is_open image.broken _ _ h
+whole_of image e Requests.List h other = whole_if (end_of image e).is_open image.broken _ _ h
+whole_of image e (Find name) h other = whole_if (end_of image e).is_open image.broken _ _ h
+whole_of image e (Str cmd dat) h other = whole_if (end_of image e).is_open image.broken _ _ h
+whole_of image e (Flush r w) h other = whole_if (end_of image e).is_open image.broken _ _ h
+whole_of image e (FlushBand band r w) h other = whole_if (end_of image e).is_open image.broken _ _ h
+whole_of image e Close h other = absurd (other refl)
 
 -- the record of a head is no part of what moves
 same_above : {K : Type 0} (image : Image K) (e : End) (r : Record) (p : End) → above (end_of (with_state image e r) p) (count_of (with_state image e r) p + 1) ≡ above (end_of image p) (count_of image p + 1)
@@ -114,11 +144,97 @@ same_due image e r place =
 state_quiet : {K : Type 0} (image : Image K) (e : End) (r : Record) → IsQuiet image → IsQuiet (with_state image e r)
 state_quiet image e r quiet place = same_due image e r place ∙ quiet place
 
+opens_trans : {K : Type 0} (old mid new : Image K) → OpensNone old mid → OpensNone mid new → OpensNone old new
+opens_trans old mid new p q =
+    record { driver = q.driver ∙ p.driver; broken = q.broken ∙ p.broken; ends = λ e h. p.ends e (q.ends e h) }
+
+-- to close an end opens none
+shut : {K : Type 0} (image : Image K) (e x : End) → (end_of (closed_image image e) x).is_open ≡ true → (end_of image x).is_open ≡ true
+shut image A A h = cc
+shut image A B h = h
+shut image B A h = h
+shut image B B h = cc
+
+closed_opens : {K : Type 0} (image : Image K) (e : End) → OpensNone image (closed_image image e)
+closed_opens image A = record { driver = refl; broken = refl; ends = shut image A }
+closed_opens image B = record { driver = refl; broken = refl; ends = shut image B }
+
+state_opens : {K : Type 0} (image : Image K) (e : End) (r : Record) → OpensNone image (with_state image e r)
+state_opens image e r = end_opens image e (record (end_of image e) { state = r }) refl
+
+-- what a message leaves awaits no answer where none was awaited
+idle_end : {K : Type 0} (old new : EndState K) → SameEnd old new → IsIdle old.state → IsIdle new.state
+idle_end old new same idle =
+    record { pending = same.ids.pending ∙ idle.pending; kept = same.ids.kept idle.pending ∙ idle.kept }
+
+idle_same : {K : Type 0} (old new : Image K) → SameModules old new → AreIdle old → AreIdle new
+idle_same old new same idle A = idle_end old.a new.a same.on_a (idle A)
+idle_same old new same idle B = idle_end old.b new.b same.on_b (idle B)
+
+idle_with : {K : Type 0} (image : Image K) (e : End) (new : EndState K) → IsIdle new.state → AreIdle image → AreIdle (with_end image e new)
+idle_with image A new is idle A = is
+idle_with image A new is idle B = idle B
+idle_with image B new is idle A = idle A
+idle_with image B new is idle B = is
+
+-- a head that awaits an answer no longer is idle, and the other is as before
+idle_ended : {K : Type 0} (image : Image K) (e : End) (r : Record) (new : Image K) → SameModules (with_state image e r) new → AreIdle image → AreIdle (answered_if true e new)
+idle_ended image A r new same idle A = record { pending = refl; kept = refl }
+idle_ended image A r new same idle B = idle_end image.b new.b same.on_b (idle B)
+idle_ended image B r new same idle A = idle_end image.a new.a same.on_a (idle A)
+idle_ended image B r new same idle B = record { pending = refl; kept = refl }
+
+same_image : {K : Type 0} (image : Image K) → SameModules image image
+same_image image =
+    record { driver = refl; broken = refl; on_a = same_end image.a; on_b = same_end image.b }
+
+-- what moves keeps idle what is idle once the answer is taken
+answered_idle : {K : Type 0} (awaits : Bool) (e : End) (old new : Image K) → SameModules old new → AreIdle (answered_if awaits e old) → AreIdle (answered_if awaits e new)
+answered_idle false e old new same idle x = idle_same old new same idle x
+answered_idle true A old new same idle A = record { pending = refl; kept = refl }
+answered_idle true A old new same idle B = idle_end old.b new.b same.on_b (idle B)
+answered_idle true B old new same idle A = idle_end old.a new.a same.on_a (idle A)
+answered_idle true B old new same idle B = record { pending = refl; kept = refl }
+
+answered_quiet : {K : Type 0} (awaits : Bool) (e : End) (image : Image K) → IsQuiet image → IsQuiet (answered_if awaits e image)
+answered_quiet false e image quiet = quiet
+answered_quiet true e image quiet = state_quiet image e (ended (end_of image e).state) quiet
+
+answered_opens : {K : Type 0} (awaits : Bool) (e : End) (image : Image K) → OpensNone image (answered_if awaits e image)
+answered_opens false e image = none_opens image
+answered_opens true e image = state_opens image e (ended (end_of image e).state)
+
+same_but_drv : {K : Type 0} (e : EndState K) (q : List Msg) → SameEnd e (in_drv e q)
+same_but_drv e q =
+    record {
+      is_open = refl;
+      head_marks = refl;
+      drv_marks = refl;
+      modules = refl;
+      ids = record { next = refl; pending = refl; kept = λ none. refl };
+    }
+
+-- what a call that changes no queue has done
+pub record IsQuietly {K : Type 0} (image : Image K) (begun : Begun K) : Type 0 where
+  pub quiet : IsQuiet begun.image
+  pub broken : begun.image.broken ≡ image.broken
+  pub awaits : begun.awaits ≡ false
+
 -- for kinds of any meaning
 module _ {K : Type 0} (means : Meaning K) where
   sent_opens : (image : Image K) (e : End) (m : Option Msg) → OpensNone image (sent_of means image e m)
   sent_opens image e None = none_opens image
   sent_opens image e (Some m) = same_opens image (sent_of means image e (Some m)) (deliver_keeps means image (Down e 1) m)
+
+  asked_opens : (image : Image K) (e : End) (cmd : ℕ) (dat : Part) (id : Option ℕ) → OpensNone image (asked_of means image e cmd dat id)
+  asked_opens image e cmd dat None = none_opens image
+  asked_opens image e cmd dat (Some id) =
+      let asked = with_state image e (begun_with (end_of image e).state (Some id)) in
+      opens_trans image asked _ (state_opens image e _) (same_opens asked _ (deliver_keeps means asked (Down e 1) _))
+
+  pub after_keeps : (broken : Bool) (image : Image K) (e : End) → SameModules image (after_close means broken image e)
+  after_keeps true image e = same_image image
+  after_keeps false image e = hung_up_keeps means image (partner image.driver e)
 
   -- no call opens an end
   pub begun_opens : (image : Image K) (e : End) (request : Request (Shape K)) → OpensNone image (begun_of means image e request).image
@@ -138,9 +254,18 @@ module _ {K : Type 0} (means : Meaning K) where
   begun_opens image e (Canput band) = none_opens image
   begun_opens image e (Ckband band) = none_opens image
   begun_opens image e Getband = none_opens image
+  begun_opens image e Pop = end_opens image e (removed (end_of image e)) refl
+  begun_opens image e Look = none_opens image
+  begun_opens image e Requests.List = none_opens image
+  begun_opens image e (Find name) = none_opens image
+  begun_opens image e (Str cmd dat) = asked_opens image e cmd dat (end_of image e).state.next
+  begun_opens image e (Flush r w) = same_opens image _ (deliver_keeps means image (Down e 1) _)
+  begun_opens image e (FlushBand band r w) = same_opens image _ (deliver_keeps means image (Down e 1) _)
+  begun_opens image e Close =
+      opens_trans image (closed_image image e) _ (closed_opens image e) (same_opens (closed_image image e) _ (after_keeps image.broken (closed_image image e) e))
 
-  -- calls that change no queue leave a quiet stream quiet
-  pub quiet_begun : (image : Image K) (e : End) (request : Request (Shape K)) → changes_no_queue request ≡ true → IsQuiet image → IsQuiet (begun_of means image e request).image
+  -- a call that changes no queue leaves a quiet stream quiet, awaits nothing and takes no module out
+  pub quiet_begun : (image : Image K) (e : End) (request : Request (Shape K)) → changes_no_queue request ≡ true → IsQuiet image → IsQuietly image (begun_of means image e request)
   quiet_begun image e (Putmsg ctl dat flag) is quiet = cc
   quiet_begun image e (Putpmsg ctl dat band flag) is quiet = cc
   quiet_begun image e (Getmsg maxctl maxdat flag) is quiet = cc
@@ -148,37 +273,127 @@ module _ {K : Type 0} (means : Meaning K) where
   quiet_begun image e (Read max) is quiet = cc
   quiet_begun image e (Write dat) is quiet = cc
   quiet_begun image e (Push shape) is quiet = cc
-  quiet_begun image e Nread is quiet = quiet
-  quiet_begun image e (Peek maxctl maxdat flag) is quiet = quiet
+  quiet_begun image e Nread is quiet = record { quiet = quiet; broken = refl; awaits = refl }
+  quiet_begun image e (Peek maxctl maxdat flag) is quiet = record { quiet = quiet; broken = refl; awaits = refl }
   quiet_begun image e (SetRead mode prot) is quiet =
-      state_quiet image e (with_mode (end_of image e).state mode prot) quiet
-  quiet_begun image e GetRead is quiet = quiet
-  quiet_begun image e (Canput band) is quiet = quiet
-  quiet_begun image e (Ckband band) is quiet = quiet
-  quiet_begun image e Getband is quiet = quiet
+      let r = with_mode (end_of image e).state mode prot in
+      record { quiet = state_quiet image e r quiet; broken = (state_opens image e r).broken; awaits = refl }
+  quiet_begun image e GetRead is quiet = record { quiet = quiet; broken = refl; awaits = refl }
+  quiet_begun image e (Canput band) is quiet = record { quiet = quiet; broken = refl; awaits = refl }
+  quiet_begun image e (Ckband band) is quiet = record { quiet = quiet; broken = refl; awaits = refl }
+  quiet_begun image e Getband is quiet = record { quiet = quiet; broken = refl; awaits = refl }
+  quiet_begun image e Pop is quiet = cc
+  quiet_begun image e Look is quiet = record { quiet = quiet; broken = refl; awaits = refl }
+  quiet_begun image e Requests.List is quiet = record { quiet = quiet; broken = refl; awaits = refl }
+  quiet_begun image e (Find name) is quiet = record { quiet = quiet; broken = refl; awaits = refl }
+  quiet_begun image e (Str cmd dat) is quiet = cc
+  quiet_begun image e (Flush r w) is quiet = cc
+  quiet_begun image e (FlushBand band r w) is quiet = cc
+  quiet_begun image e Close is quiet = cc
+
+  sent_idle : (image : Image K) (e : End) (m : Option Msg) → AreIdle image → AreIdle (sent_of means image e m)
+  sent_idle image e None idle = idle
+  sent_idle image e (Some m) idle = idle_same image _ (deliver_keeps means image (Down e 1) m) idle
+
+  asked_idle : (image : Image K) (e : End) (cmd : ℕ) (dat : Part) (id : Option ℕ) → AreIdle image → AreIdle (answered_if true e (asked_of means image e cmd dat id))
+  asked_idle image e cmd dat None idle =
+      idle_with image e (record (end_of image e) { state = ended (end_of image e).state }) (record { pending = refl; kept = refl }) idle
+  asked_idle image e cmd dat (Some id) idle =
+      let r = begun_with (end_of image e).state (Some id) in
+      idle_ended image e r _ (deliver_keeps means (with_state image e r) (Down e 1) _) idle
+
+  -- a call awaits no answer once it has it
+  begun_idle : (image : Image K) (e : End) (request : Request (Shape K)) → AreIdle image → AreIdle (answered_if (begun_of means image e request).awaits e (begun_of means image e request).image)
+  begun_idle image e (Putmsg ctl dat flag) idle = sent_idle image e (putmsg_message ctl dat flag) idle
+  begun_idle image e (Putpmsg ctl dat band flag) idle = sent_idle image e (putpmsg_message ctl dat band flag) idle
+  begun_idle image e (Getmsg maxctl maxdat flag) idle = idle_with image e _ (idle e) idle
+  begun_idle image e (Getpmsg maxctl maxdat band flag) idle = idle_with image e _ (idle e) idle
+  begun_idle image e (Read zero) idle = idle
+  begun_idle image e (Read (suc n)) idle = idle_with image e _ (idle e) idle
+  begun_idle image e (Write dat) idle = sent_idle image e (ordinary_message 0 None (Some dat)) idle
+  begun_idle image e (Push shape) idle = idle_with image e (inserted (end_of image e) shape) (idle e) idle
+  begun_idle image e Nread idle = idle
+  begun_idle image e (Peek maxctl maxdat flag) idle = idle
+  begun_idle image e (SetRead mode prot) idle =
+      idle_with image e (record (end_of image e) { state = with_mode (end_of image e).state mode prot }) (record { pending = (idle e).pending; kept = (idle e).kept }) idle
+  begun_idle image e GetRead idle = idle
+  begun_idle image e (Canput band) idle = idle
+  begun_idle image e (Ckband band) idle = idle
+  begun_idle image e Getband idle = idle
+  begun_idle image e Pop idle = idle_with image e (removed (end_of image e)) (idle e) idle
+  begun_idle image e Look idle = idle
+  begun_idle image e Requests.List idle = idle
+  begun_idle image e (Find name) idle = idle
+  begun_idle image e (Str cmd dat) idle = asked_idle image e cmd dat (end_of image e).state.next idle
+  begun_idle image e (Flush r w) idle = idle_same image _ (deliver_keeps means image (Down e 1) _) idle
+  begun_idle image e (FlushBand band r w) idle = idle_same image _ (deliver_keeps means image (Down e 1) _) idle
+  begun_idle image e Close idle =
+      idle_same (closed_image image e) _ (after_keeps image.broken (closed_image image e) e) (idle_with image e (closed (end_of image e)) (idle e) idle)
 
   broken_opens : (old new : Image K) → Breaks old new → (e : End) → (end_of new e).is_open ≡ true → (end_of old e).is_open ≡ true
   broken_opens old new breaks A h = sym breaks.on_a.is_open ∙ h
   broken_opens old new breaks B h = sym breaks.on_b.is_open ∙ h
 
-  -- what a call has begun and finished keeps the ends
-  finished_kept : (begun : Begun K) (answer : Answer) (moves : List Place) (out : List ℕ) (after : Image K) → HasItsEnds begun.image → Finishes means begun answer moves out after → IsKept after
-  finished_kept begun (Refused refusal) moves out after ends finishes = absurd finishes
-  finished_kept begun (Done reply) moves out after ends finishes =
+  -- a stream that broke keeps the ends
+  broken_kept : (begun : Begun K) (moves : List Place) (out : List ℕ) (after : Image K) → HasItsEnds begun.image → IsBroken begun moves out after → IsKept after
+  broken_kept begun moves out after ends broke =
       record {
-        quiet = λ whole. finishes.settles.quiet;
-        ends = ends_stay begun.image after (same_opens begun.image after (leads_keeps means begun.image moves after finishes.settles.leads)) ends;
+        quiet = λ whole. absurd (let no : true ≡ false = sym broke.breaks.is_broken ∙ whole in cc);
+        idle = λ whole. absurd (let no : true ≡ false = sym broke.breaks.is_broken ∙ whole in cc);
+        ends = λ e h. ap (λ d. has_end d e) broke.breaks.driver ∙ ends e (broken_opens begun.image after broke.breaks e h);
       }
-  finished_kept begun Broke moves out after ends finishes =
+
+  settled_kept : (broken : Bool) (e : End) (begun : Begun K) (moves : List Place) (settled : Image K) → begun.image.broken ≡ broken → SettlesIf means broken begun.image moves settled → HasItsEnds begun.image → (begun.image.broken ≡ false → AreIdle (answered_if begun.awaits e begun.image)) → IsKept (answered_if begun.awaits e settled)
+  settled_kept false e begun moves settled whole settles ends idle =
+      let same = leads_keeps means begun.image moves settled settles.leads in
       record {
-        quiet = λ whole. absurd (let no : true ≡ false = sym finishes.breaks.is_broken ∙ whole in cc);
-        ends = λ e h. ap (λ d. has_end d e) finishes.breaks.driver ∙ ends e (broken_opens begun.image after finishes.breaks e h);
+        quiet = λ whole. answered_quiet begun.awaits e settled settles.quiet;
+        idle = λ still. answered_idle begun.awaits e begun.image settled same (idle whole);
+        ends = ends_stay begun.image _ (opens_trans begun.image settled _ (same_opens begun.image settled same) (answered_opens begun.awaits e settled)) ends;
       }
+  settled_kept true e begun moves settled broken still ends idle =
+      let opens = answered_opens begun.awaits e settled in
+      let is : settled.broken ≡ true = subst (λ (i : Image K). i.broken ≡ true) (sym still.unchanged) broken in
+      record {
+        quiet = λ whole. absurd (let no : true ≡ false = sym is ∙ sym opens.broken ∙ whole in cc);
+        idle = λ whole. absurd (let no : true ≡ false = sym is ∙ sym opens.broken ∙ whole in cc);
+        ends = ends_stay settled _ opens (subst (λ (i : Image K). HasItsEnds i) (sym still.unchanged) ends);
+      }
+
+  done_kept : (e : End) (begun : Begun K) (reply : Reply) (moves : List Place) (out : List ℕ) (after : Image K) → HasItsEnds begun.image → (begun.image.broken ≡ false → AreIdle (answered_if begun.awaits e begun.image)) → IsDone means e begun reply moves out after → IsKept after
+  done_kept e begun reply moves out after ends idle done =
+      rw done.leaves (settled_kept begun.image.broken e begun moves done.settled refl done.settles ends idle)
+
+  begun_ends : (image : Image K) (e : End) (request : Request (Shape K)) → IsKept image → HasItsEnds (begun_of means image e request).image
+  begun_ends image e request kept =
+      ends_stay image (begun_of means image e request).image (begun_opens image e request) kept.ends
+
+  idle_once : (image : Image K) (e : End) (request : Request (Shape K)) → IsKept image → (begun_of means image e request).image.broken ≡ false → AreIdle (answered_if (begun_of means image e request).awaits e (begun_of means image e request).image)
+  idle_once image e request kept whole =
+      begun_idle image e request (kept.idle (sym (begun_opens image e request).broken ∙ whole))
 
   -- a call keeps what a stream keeps
   pub answered_kept : (image : Image K) (e : End) (request : Request (Shape K)) (answer : Answer) (moves : List Place) (out : List ℕ) (after : Image K) → IsKept image → Answers means image e request answer moves out after → IsKept after
   answered_kept image e request (Refused refusal) moves out after kept answers = rw answers.unchanged kept
   answered_kept image e request (Done reply) moves out after kept answers =
-      finished_kept (begun_of means image e request) (Done reply) moves out after (ends_stay image (begun_of means image e request).image (begun_opens image e request) kept.ends) answers.2
+      done_kept e (begun_of means image e request) reply moves out after (begun_ends image e request kept) (idle_once image e request kept) answers.2
   answered_kept image e request Broke moves out after kept answers =
-      finished_kept (begun_of means image e request) Broke moves out after (ends_stay image (begun_of means image e request).image (begun_opens image e request) kept.ends) answers.2
+      broken_kept (begun_of means image e request) moves out after (begun_ends image e request kept) answers.3
+
+  arrived_if : (high : Bool) (image : Image K) (e : End) (m : Msg) → SameModules image (if high then deliver means image (Up e (count_of image e)) m else with_end image e (in_drv (end_of image e) (put_in (end_of image e).drv m)))
+  arrived_if true image e m = deliver_keeps means image (Up e (count_of image e)) m
+  arrived_if false image e m =
+      with_end_keeps image e (in_drv (end_of image e) (put_in (end_of image e).drv m)) (same_but_drv (end_of image e) (put_in (end_of image e).drv m))
+
+  -- a message that comes in keeps what no message changes
+  pub arrived_keeps : (image : Image K) (e : End) (m : Msg) → SameModules image (arrived_of means image e m)
+  arrived_keeps image e m = arrived_if (is_high m.kind) image e m
+
+  -- and so what a stream keeps
+  pub landed_kept : (image : Image K) (e : End) (m : Msg) (answer : Answer) (moves : List Place) (out : List ℕ) (after : Image K) → IsKept image → Lands means image e m answer moves out after → IsKept after
+  landed_kept image e m (Refused refusal) moves out after kept lands = absurd lands
+  landed_kept image e m (Done reply) moves out after kept lands =
+      let same = arrived_keeps image e m in
+      done_kept e (arrival (arrived_of means image e m)) reply moves out after (ends_stay image _ (same_opens image _ same) kept.ends) (λ whole. idle_same image _ same (kept.idle (sym same.broken ∙ whole))) lands.1
+  landed_kept image e m Broke moves out after kept lands =
+      broken_kept (arrival (arrived_of means image e m)) moves out after (ends_stay image _ (same_opens image _ (arrived_keeps image e m)) kept.ends) lands.1

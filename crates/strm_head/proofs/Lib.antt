@@ -1,4 +1,6 @@
-pub mod CallLemmas
 pub mod KeptLemmas
+pub mod CallLemmas
+pub mod ArriveLemmas
+pub mod SerialLemmas
 pub mod HistoryLemmas
 mod WorkedExamples

@@ -1,5 +1,5 @@
 -- What a call does before any queue moves, by the call: the first refusal that holds, or what the call has done.
-use Rattle.std.specs.Prelude.{not, Bool, true, false, Option, Some, None, List, [], ◌∷◌}
+use Rattle.std.specs.Prelude.{ℕ, ◌&&◌, not, Bool, true, false, Option, Some, None, List, [], ◌∷◌, map}
 use Rattle.std.specs.Option.{option_or}
 use Rattle.strm_msg.specs.declared.errno.Errno.{Errno}
 use Rattle.strm_msg.specs.declared.words.End.{End}
@@ -7,7 +7,7 @@ use Rattle.strm_module.specs.Kinds.{Meaning}
 use Rattle.strm_module.specs.declared.shape.Shape.{Shape}
 use Rattle.strm_chain.specs.Image.{Image, end_of}
 use Rattle.strm_call.specs.declared.request.Request.{Request}
-use Rattle.strm_call.specs.declared.request.Request.TheVariants.{Putmsg, Putpmsg, Getmsg, Getpmsg, Read, Write, Push, Nread, Peek, SetRead, GetRead, Canput, Ckband, Getband}
+use Rattle.strm_call.specs.declared.request.Request.TheVariants.{Putmsg, Putpmsg, Getmsg, Getpmsg, Read, Write, Push, Nread, Peek, SetRead, GetRead, Canput, Ckband, Getband, Pop, Look, Find, Str, Flush, FlushBand, Close}
 use Rattle.strm_call.specs.declared.refusal.Refusal.{Refusal}
 use Rattle.strm_call.specs.declared.refusal.Refusal.TheVariants.{Closed, Broken, Error, NoMemory}
 use Rattle.strm_call.specs.declared.answer.Answer.{Answer}
@@ -19,7 +19,11 @@ use Rattle.strm_msgio.specs.Read.{read_refusal, read_begun}
 use Rattle.strm_msgio.specs.Take.{getmsg_refusal, getpmsg_refusal, getmsg_begun, getpmsg_begun, peek_begun}
 use Rattle.strm_ioctl.specs.Ask.{getband_refusal, nread_begun, canput_begun, ckband_begun, getband_begun}
 use Rattle.strm_ioctl.specs.Options.{set_read_begun, get_read_begun}
-use Rattle.strm_ioctl.specs.Modules.{push_refusal, push_begun}
+use Rattle.strm_ioctl.specs.Modules.{push_refusal, pop_refusal, look_refusal, push_begun, pop_begun, look_begun}
+use Rattle.strm_ioctl.specs.Names.{find_refusal, list_begun, find_begun}
+use Rattle.strm_ioctl.specs.Ioctl.{str_refusal, str_begun}
+use Rattle.strm_ioctl.specs.Flush.{flush_refusal, flush_begun, flush_band_begun}
+use Rattle.strm_ioctl.specs.Close.{close_begun}
 
 -- the first refusal of a call's own
 abbrev pub own_refusal : {K : Type 0} → Image K → End → Request (Shape K) → Option Refusal
@@ -31,6 +35,12 @@ own_refusal image e (Read max) = read_refusal image e max
 own_refusal image e (Write dat) = write_refusal image e dat
 own_refusal image e (Push shape) = push_refusal image e
 own_refusal image e Getband = getband_refusal image e
+own_refusal image e Pop = pop_refusal image e
+own_refusal image e Look = look_refusal image e
+own_refusal image e (Find name) = find_refusal name
+own_refusal image e (Str cmd dat) = str_refusal image e dat
+own_refusal image e (Flush r w) = flush_refusal image e r w
+own_refusal image e (FlushBand band r w) = flush_refusal image e r w
 own_refusal image e request = None
 
 -- an error that came up refuses with its errno
@@ -38,13 +48,17 @@ abbrev pub error_refusal : Option Errno → Option Refusal
 error_refusal None = None
 error_refusal (Some errno) = Some (Error errno)
 
--- what refuses every call, in this order: a closed end, a broken stream, an error that came up
+abbrev pub closed_refusal : {K : Type 0} → Image K → End → Option Refusal
+closed_refusal image e = refused_if (not (end_of image e).is_open) Closed
+
+-- what refuses every call but a close, in this order: a closed end, a broken stream, an error that came up
 abbrev pub common_refusal : {K : Type 0} → Image K → End → Option Refusal
 common_refusal image e =
-    option_or (refused_if (not (end_of image e).is_open) Closed) (option_or (refused_if image.broken Broken) (error_refusal (end_of image e).state.errno))
+    option_or (closed_refusal image e) (option_or (refused_if image.broken Broken) (error_refusal (end_of image e).state.errno))
 
--- the first refusal that holds
+-- the first refusal that holds. An end is closed also after an error, and on a broken stream
 abbrev pub refusal_of : {K : Type 0} → Image K → End → Request (Shape K) → Option Refusal
+refusal_of image e Close = closed_refusal image e
 refusal_of image e request = option_or (common_refusal image e) (own_refusal image e request)
 
 -- what a call has done
@@ -63,6 +77,14 @@ begun_of means image e GetRead = get_read_begun image e
 begun_of means image e (Canput band) = canput_begun image e band
 begun_of means image e (Ckband band) = ckband_begun image e band
 begun_of means image e Getband = getband_begun image e
+begun_of means image e Pop = pop_begun image e
+begun_of means image e Look = look_begun image e
+begun_of means image e Request.List = list_begun image e
+begun_of means image e (Find name) = find_begun image e name
+begun_of means image e (Str cmd dat) = str_begun means image e cmd dat
+begun_of means image e (Flush r w) = flush_begun means image e r w
+begun_of means image e (FlushBand band r w) = flush_band_begun means image e band r w
+begun_of means image e Close = close_begun means image e
 
 -- the calls that change no queue: no service follows them
 abbrev pub changes_no_queue : {P : Type 0} → Request P → Bool
@@ -73,6 +95,9 @@ changes_no_queue GetRead = true
 changes_no_queue (Canput band) = true
 changes_no_queue (Ckband band) = true
 changes_no_queue Getband = true
+changes_no_queue Look = true
+changes_no_queue Request.List = true
+changes_no_queue (Find name) = true
 changes_no_queue request = false
 
 -- the calls that never want for memory
@@ -83,18 +108,50 @@ takes_no_memory GetRead = true
 takes_no_memory (Canput band) = true
 takes_no_memory (Ckband band) = true
 takes_no_memory Getband = true
+takes_no_memory Look = true
+takes_no_memory Request.List = true
+takes_no_memory (Find name) = true
 takes_no_memory request = false
+
+-- the calls that have put a module in, or taken some out, before they can want for memory
+abbrev pub changes_modules : {P : Type 0} → Request P → Bool
+changes_modules (Push instance) = true
+changes_modules Pop = true
+changes_modules Close = true
+changes_modules request = false
+
+-- the calls that want of memory can refuse
+abbrev pub can_lack_memory : {P : Type 0} → Request P → Bool
+can_lack_memory request = not (takes_no_memory request) && not (changes_modules request)
+
+-- the calls whose reply is the answer to an ioctl
+abbrev pub awaits_answer : {P : Type 0} → Request P → Bool
+awaits_answer (Str cmd dat) = true
+awaits_answer request = false
 
 -- the module that a refused call hands back
 abbrev pub pushed_of : {P : Type 0} → Request P → List (Option P)
 pushed_of (Push instance) = Some instance ∷ []
 pushed_of request = []
 
--- what comes back of a call: the module of a refused push
-abbrev pub back_of : {P : Type 0} → Request P → Answer → List (Option P)
-back_of request (Refused refusal) = pushed_of request
-back_of request (Done reply) = []
-back_of request Broke = []
+abbrev pub handed_out : {P : Type 0} → List P → List (Option P)
+handed_out modules = map (λ s. Some s) modules
+
+-- what comes back of a call: the module of a refused push, or the modules that the call has taken out, topmost first
+abbrev pub back_of : {K : Type 0} → Meaning K → Image K → End → Request (Shape K) → Answer → List (Option (Shape K))
+back_of means image e request (Refused refusal) = pushed_of request
+back_of means image e request (Done reply) = handed_out (begun_of means image e request).out
+back_of means image e request Broke = handed_out (begun_of means image e request).out
+
+-- the modules of a list, by their serials
+abbrev pub serials_of : {K : Type 0} → List (Shape K) → List ℕ
+serials_of shapes = map (λ s. s.serial) shapes
+
+-- the serials of the modules that a call has taken out, topmost first; a refused one takes none
+abbrev pub out_of : {K : Type 0} → Meaning K → Image K → End → Request (Shape K) → Answer → List ℕ
+out_of means image e request (Refused refusal) = []
+out_of means image e request (Done reply) = serials_of (begun_of means image e request).out
+out_of means image e request Broke = serials_of (begun_of means image e request).out
 
 -- memory was wanting, before any change or after one
 abbrev pub is_no_memory : Refusal → Bool

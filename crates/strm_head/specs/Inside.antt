@@ -1,6 +1,7 @@
 -- What a stream keeps between calls.
-use Rattle.std.specs.Prelude.{ℕ, ◌≡◌, ◌&&◌, nat_lt, Bool, true, false}
+use Rattle.std.specs.Prelude.{ℕ, ◌≡◌, ◌&&◌, nat_lt, Bool, true, false, None}
 use Rattle.strm_msg.specs.declared.words.End.{End}
+use Rattle.strm_qpair.specs.declared.record.Record.{Record}
 use Rattle.strm_chain.specs.Image.{Image, end_of, has_end}
 use Rattle.strm_chain.specs.Service.{IsQuiet}
 
@@ -8,9 +9,18 @@ use Rattle.strm_chain.specs.Service.{IsQuiet}
 abbrev pub HasItsEnds : {K : Type 0} → Image K → Type 0
 HasItsEnds image = (e : End) → (end_of image e).is_open ≡ true → has_end image.driver e ≡ true
 
--- no place must move, unless the stream is broken, and no end is open that the driver lacks
+-- no answer to an ioctl is awaited, and none is kept
+pub record IsIdle (state : Record) : Type 0 where
+  pub pending : state.pending ≡ None
+  pub kept : state.kept ≡ None
+
+abbrev pub AreIdle : {K : Type 0} → Image K → Type 0
+AreIdle image = (e : End) → IsIdle (end_of image e).state
+
+-- no place must move, and no head awaits an answer, unless the stream is broken; and no end is open that the driver lacks
 pub record IsKept {K : Type 0} (image : Image K) : Type 0 where
   pub quiet : image.broken ≡ false → IsQuiet image
+  pub idle : image.broken ≡ false → AreIdle image
   pub ends : HasItsEnds image
 
 -- what no call changes before any queue moves: the driver and whether the stream is broken; and no closed end is opened

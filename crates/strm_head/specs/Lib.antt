@@ -1,4 +1,8 @@
+pub mod Answered
 pub mod Begin
 pub mod Fault
 pub mod Inside
 pub mod Step
+pub mod Arrive
+pub mod Serials
+pub mod Played

@@ -1,16 +1,17 @@
 -- One step of a stream, and the histories that steps make.
-use Rattle.std.specs.Prelude.{ℕ, ◌≡◌, ◌&&◌, ◌||◌, not, Bool, true, false, Option, Some, None, List, [], ◌∷◌, map, if◌then◌else◌}
+use Rattle.std.specs.Prelude.{ℕ, ◌≡◌, ◌&&◌, ◌||◌, not, Bool, true, false, Option, Some, None, List, [], ◌∷◌, if◌then◌else◌}
 use Rattle.strm_msg.specs.Kind.{is_high, is_from_line}
 use Rattle.strm_msg.specs.Message.{Msg}
 use Rattle.strm_msg.specs.declared.words.End.{End}
 use Rattle.strm_queue.specs.Queue.{is_full, put_in}
 use Rattle.strm_module.specs.Kinds.{Meaning}
 use Rattle.strm_module.specs.declared.shape.Shape.{Shape}
+use Rattle.strm_qpair.specs.Change.{ended}
 use Rattle.strm_qpair.specs.declared.driver.Driver.{Driver}
 use Rattle.strm_qpair.specs.declared.driver.Driver.TheVariants.{Echo, Loop, Line}
 use Rattle.strm_chain.specs.declared.place.Place.{Place}
 use Rattle.strm_chain.specs.declared.place.Spot.TheVariants.{Up}
-use Rattle.strm_chain.specs.Image.{Image, end_of, with_drv, count_of}
+use Rattle.strm_chain.specs.Image.{Image, end_of, with_drv, with_state, count_of}
 use Rattle.strm_chain.specs.Deliver.{deliver}
 use Rattle.strm_chain.specs.Service.{Leads, IsQuiet}
 use Rattle.strm_chain.specs.Fault.{Breaks}
@@ -20,15 +21,15 @@ use Rattle.strm_call.specs.declared.refusal.Refusal.TheVariants.{NoMemory}
 use Rattle.strm_call.specs.declared.answer.Reply.{Reply}
 use Rattle.strm_call.specs.declared.answer.Answer.{Answer}
 use Rattle.strm_call.specs.declared.answer.Answer.TheVariants.{Done, Refused, Broke}
-use Rattle.strm_call.specs.Begun.{Begun, begun}
+use Rattle.strm_call.specs.Begun.{Begun, begun, reply_after}
 use Rattle.strm_head.specs.declared.history.Event.{Event}
 use Rattle.strm_head.specs.declared.history.Event.TheVariants.{Asked, Arrived}
 use Rattle.strm_head.specs.declared.history.Entry.{Entry}
-use Rattle.strm_head.specs.Begin.{refusal_of, begun_of, changes_no_queue, takes_no_memory}
+use Rattle.strm_head.specs.Begin.{refusal_of, begun_of, changes_no_queue, can_lack_memory, serials_of}
 
--- the refusal that a call has: the first that holds, and where none does want of memory, of a call that takes memory
+-- the refusal that a call has: the first that holds, and where none does want of memory, of a call that it can refuse
 abbrev pub IsRefusedBy : {P : Type 0} → Option Refusal → Request P → Refusal → Type 0
-IsRefusedBy None request refusal = (refusal ≡ NoMemory) × (takes_no_memory request ≡ false)
+IsRefusedBy None request refusal = (refusal ≡ NoMemory) × (can_lack_memory request ≡ true)
 IsRefusedBy (Some first) request refusal = refusal ≡ first
 
 -- a refused call: nothing moves, is taken out or changed
@@ -37,10 +38,6 @@ pub record IsRefused {K : Type 0} (first : Option Refusal) (request : Request (S
   pub stays : moves ≡ []
   pub takes_none : out ≡ []
   pub unchanged : after ≡ image
-
--- the modules that a call has taken out, by their serials
-abbrev pub serials_of : {K : Type 0} → List (Shape K) → List ℕ
-serials_of shapes = map (λ s. s.serial) shapes
 
 -- memory ran out after a first change: the stream is broken, and keeps the ends and modules that the call has left
 pub record IsBroken {K : Type 0} (begun : Begun K) (moves : List Place) (out : List ℕ) (after : Image K) : Type 0 where
@@ -64,6 +61,16 @@ can_arrive image e m =
 abbrev pub arrival : {K : Type 0} → Image K → Begun K
 arrival image = begun image Reply.Line
 
+-- nothing moves
+pub record IsStill {K : Type 0} (image : Image K) (moves : List Place) (after : Image K) : Type 0 where
+  pub stays : moves ≡ []
+  pub unchanged : after ≡ image
+
+-- a head that awaits an answer awaits it no longer, and keeps none
+abbrev pub answered_if : {K : Type 0} → Bool → End → Image K → Image K
+answered_if true e image = with_state image e (ended (end_of image e).state)
+answered_if false e image = image
+
 -- for kinds of any meaning
 module _ {K : Type 0} (means : Meaning K) where
   -- these moves are made from an image, each of a place that may move, until no place must
@@ -71,26 +78,35 @@ module _ {K : Type 0} (means : Meaning K) where
     pub leads : Leads means image moves after
     pub quiet : IsQuiet after
 
-  -- a call that is done: it was begun, and then what must move has moved
-  pub record IsDone (begun : Begun K) (reply : Reply) (moves : List Place) (out : List ℕ) (after : Image K) : Type 0 where
-    pub replies : reply ≡ begun.reply
-    pub settles : Settles begun.image moves after
+  -- what must move has moved; on a broken stream nothing does
+  abbrev pub SettlesIf : Bool → Image K → List Place → Image K → Type 0
+  SettlesIf true image moves after = IsStill image moves after
+  SettlesIf false image moves after = Settles image moves after
+
+  -- a call on an end that is done: it was begun, and then what must move has moved. The answer that it awaits, if it does,
+  -- is what its head has then
+  pub record IsDone (e : End) (begun : Begun K) (reply : Reply) (moves : List Place) (out : List ℕ) (after : Image K) : Type 0 where
+    pub settled : Image K
+    pub settles : SettlesIf begun.image.broken begun.image moves settled
+    pub replies : reply ≡ reply_after begun (end_of settled e).state.kept
+    pub leaves : after ≡ answered_if begun.awaits e settled
     pub takes : out ≡ serials_of begun.out
 
   -- from what a call has begun to its answer
-  abbrev pub Finishes : Begun K → Answer → List Place → List ℕ → Image K → Type 0
-  Finishes begun (Refused refusal) moves out after = ⊥
-  Finishes begun (Done reply) moves out after = IsDone begun reply moves out after
-  Finishes begun Broke moves out after = IsBroken begun moves out after
+  abbrev pub Finishes : End → Begun K → Answer → List Place → List ℕ → Image K → Type 0
+  Finishes e begun (Refused refusal) moves out after = ⊥
+  Finishes e begun (Done reply) moves out after = IsDone e begun reply moves out after
+  Finishes e begun Broke moves out after = IsBroken begun moves out after
 
-  -- a call on an end: refused, or begun and finished. A call that changes no queue makes no move, and breaks nothing
+  -- a call on an end: refused, or begun and finished. A call that changes no queue makes no move, and breaks nothing; nor
+  -- does one on a broken stream, where only an end is closed
   abbrev pub Answers : Image K → End → Request (Shape K) → Answer → List Place → List ℕ → Image K → Type 0
   Answers image e request (Refused refusal) moves out after =
       IsRefused (refusal_of image e request) request refusal image moves out after
   Answers image e request (Done reply) moves out after =
-      (refusal_of image e request ≡ None) × (changes_no_queue request ≡ true → moves ≡ []) × Finishes (begun_of means image e request) (Done reply) moves out after
+      (refusal_of image e request ≡ None) × (changes_no_queue request ≡ true → moves ≡ []) × Finishes e (begun_of means image e request) (Done reply) moves out after
   Answers image e request Broke moves out after =
-      (refusal_of image e request ≡ None) × (changes_no_queue request ≡ false) × Finishes (begun_of means image e request) Broke moves out after
+      (refusal_of image e request ≡ None) × (changes_no_queue request ≡ false) × (image.broken ≡ false) × Finishes e (begun_of means image e request) Broke moves out after
 
   -- an ordinary message that came in from a line waits in the line's list, a high one goes up at once
   abbrev pub arrived_of : Image K → End → Msg → Image K
@@ -101,17 +117,20 @@ module _ {K : Type 0} (means : Meaning K) where
   abbrev pub Lands : Image K → End → Msg → Answer → List Place → List ℕ → Image K → Type 0
   Lands image e m (Refused refusal) moves out after = ⊥
   Lands image e m (Done reply) moves out after =
-      (can_arrive image e m ≡ true) × IsDone (arrival (arrived_of image e m)) reply moves out after
+      (can_arrive image e m ≡ true) × IsDone e (arrival (arrived_of image e m)) reply moves out after
   Lands image e m Broke moves out after =
       (can_arrive image e m ≡ true) × IsBroken (arrival (arrived_of image e m)) moves out after
 
   -- one step of a stream: an event at an end, its answer, the moves, and the serials of the modules that were taken out
-  abbrev pub Step : Image K → End → Event K → Answer → List Place → List ℕ → Image K → Type 0
+  abbrev pub Step : Image K → End → Event (Shape K) → Answer → List Place → List ℕ → Image K → Type 0
   Step image e (Asked request) answer moves out after = Answers image e request answer moves out after
   Step image e (Arrived m) answer moves out after = Lands image e m answer moves out after
+
+  -- an entry of a history is a step
+  abbrev pub IsStep : Image K → Entry K → Image K → Type 0
+  IsStep image entry after = Step image entry.end entry.event entry.answer entry.moves entry.out.items after
 
   -- there are images, from the first to the last, with a step from each to the next
   abbrev pub Legal : Image K → List (Entry K) → Image K → Type 0
   Legal image [] after = after ≡ image
-  Legal image (entry ∷ entries) after =
-      (next : Image K) × Step image entry.end entry.event entry.answer entry.moves entry.out.items next × Legal next entries after
+  Legal image (entry ∷ entries) after = (next : Image K) × IsStep image entry next × Legal next entries after

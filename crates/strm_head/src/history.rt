@@ -1,20 +1,24 @@
 //! What happened to a stream.
 ghost use Rattle.std.specs.Prelude.{◌≡◌, IfOk};
+ghost use Rattle.strm_head.specs.Played.{out_in, line_step, line_played};
 
+use crate::call::Back;
+use crate::outcome::Arrived;
 use arrayvec::ArrayVec;
 use std::alloc::Global;
 use std::marker::Model;
-use strm_call::{Answer, Request};
+use strm_call::{Answer, Reply, Request, copy_part};
 use strm_chain::{MOST_MODULES, Moves};
 use strm_module::{Instance, ModuleOf, Shape};
-use strm_msg::{Bytes, End, Message, NoMem};
+use strm_msg::{End, Message, NoMem};
 
-/// One thing that happens to a stream.
+/// One thing that happens to a stream. A push carries `P`: the module when the call is made, and the
+/// module's shape in a history.
 #[derive(Drop)]
-pub enum Event<K> {
-    /// A call was made. A module that was pushed is its shape as it was handed in.
-    Asked(Request<Shape<K>>),
-    /// A message came in from a line. No call makes this yet.
+pub enum Event<P> {
+    /// A call was made.
+    Asked(Request<P>),
+    /// A message came in from a line.
     Arrived(Message),
 }
 
@@ -23,64 +27,132 @@ pub enum Event<K> {
 pub struct Entry<K> {
     /// The end to which it happened.
     pub end: End,
-    /// What happened.
-    pub event: Event<K>,
+    /// What happened. A module that was pushed is its shape as it was handed in.
+    pub event: Event<Shape<K>>,
     /// The answer.
     pub answer: Answer,
     /// The places that moved.
     pub moves: Moves,
-    /// The serials of the modules that the call took out, topmost first. None takes one out yet.
+    /// The serials of the modules that the call took out, topmost first.
     pub out: ArrayVec<u64, MOST_MODULES>,
 }
 
-/// A call that is to be made, with the request as its history is to have it.
+/// What became of one of several events, where `P` is a module and `K` its kind.
+#[derive(Drop)]
+pub enum Played<K, P> {
+    /// It was a step of the stream.
+    Step {
+        /// The step.
+        entry: Entry<K>,
+        /// The modules that came back, each as `Some`: that of a push that was refused, or those that
+        /// were taken out, topmost first.
+        back: ArrayVec<Option<P>, MOST_MODULES>,
+    },
+    /// A message was not taken, and nothing was changed: it could not come in, or memory was wanting.
+    Left {
+        /// The end at which it came in.
+        end: End,
+        /// The message.
+        message: Message,
+    },
+}
+
+/// An event that is to happen, with the same as its history is to have it.
 #[derive(Drop)]
 pub(crate) struct Noted<M: ModuleOf> {
-    /// The end on which the call is made.
+    /// The end to which it happens.
     pub(crate) end: End,
-    /// What is asked.
-    pub(crate) request: Request<Instance<M>>,
+    /// What happens.
+    pub(crate) event: Event<Instance<M>>,
     /// The same with the module's shape in the module's place.
-    pub(crate) copy: Request<Shape<M::Kind>>,
+    pub(crate) copy: Event<Shape<M::Kind>>,
 }
 
 impl<M: ModuleOf> Model for Noted<M> {
     ghost use Rattle.std.specs.Prelude.{◌≡◌};
     ghost use Rattle.strm_msg.specs.declared.words.End.{End};
     ghost use Rattle.strm_module.specs.declared.shape.Shape.{Shape};
-    ghost use Rattle.strm_call.specs.declared.request.Request.{Request};
+    ghost use Rattle.strm_head.specs.declared.history.Event.{Event};
 
-    ghost Value = { End × Request (Shape M.Kind) };
+    ghost Value = { End × Event (Shape M.Kind) };
 
-    ghost view = { λ n. (n.end, n.request) };
+    ghost view = { λ n. (n.end, n.event) };
 
-    ghost invariant = { λ n. n.copy ≡ n.request };
+    ghost invariant = { λ n. n.copy ≡ n.event };
 }
 
-/// Calls with their requests as a history is to have them, all copied before the first is made.
-/// Refused for want of memory alone.
+/// Events with the same as a history is to have them, all copied before the first happens. Refused for
+/// want of memory alone.
 pub(crate) fn noted_all<M: ModuleOf>(
     alloc: Global,
-    calls: Vec<(End, Request<Instance<M>>)>,
+    events: Vec<(End, Event<Instance<M>>)>,
 ) -> Result<Vec<Noted<M>>, NoMem>
-    ensures { IfOk result (λ all. all.items ≡ calls.items) }
+    ensures { IfOk result (λ all. all.items ≡ events.items) }
 {
-    let mut all = Vec::with_capacity(alloc, calls.len())?;
-    for (end, request) in calls {
-        let copy = copy_of(alloc, &request)?;
-        all.push(Noted { end, request, copy })?;
+    let mut all = Vec::with_capacity(alloc, events.len())?;
+    for (end, event) in events {
+        let copy = copy_event(alloc, &event)?;
+        all.push(Noted { end, event, copy })?;
     }
     Ok(all)
 }
 
-/// A copy of a part that may be missing.
-fn copy_part(alloc: Global, part: &Option<Bytes>) -> Result<Option<Bytes>, NoMem>
-    ensures { IfOk result (λ copy. copy ≡ part.now) }
+/// An event as a history has it. Refused for want of memory alone.
+fn copy_event<M: ModuleOf>(
+    alloc: Global,
+    event: &Event<Instance<M>>,
+) -> Result<Event<Shape<M::Kind>>, NoMem>
+    ensures { IfOk result (λ copy. copy ≡ event.now) }
 {
-    match part {
-        Some(bytes) => Ok(Some(bytes.copy(alloc)?)),
-        None => Ok(None),
+    match event {
+        Event::Asked(request) => Ok(Event::Asked(copy_of(alloc, request)?)),
+        Event::Arrived(m) => Ok(Event::Arrived(m.copy(alloc)?)),
     }
+}
+
+/// A message that was taken.
+fn line_step<K, P>(m: Message, answer: Answer, moves: Moves) -> Played<K, P>
+    ensures { result ≡ line_step m answer moves }
+{
+    Played::Step {
+        entry: Entry {
+            end: End::A,
+            event: Event::Arrived(m),
+            answer,
+            moves,
+            out: ArrayVec::new(),
+        },
+        back: ArrayVec::new(),
+    }
+}
+
+/// What became of a message that came in from a line, of which this is a copy.
+pub(crate) fn line_played<K, P>(alloc: Global, copy: Message, arrived: Arrived) -> Played<K, P>
+    ensures { result ≡ line_played copy arrived }
+{
+    let end = End::A;
+    match arrived {
+        Arrived::Full(message) => return Played::Left { end, message },
+        Arrived::NoMem(message) => return Played::Left { end, message },
+        Arrived::Broke => return line_step(copy, Answer::Broke, Moves::new(alloc)),
+        Arrived::Taken { moves, .. } => line_step(copy, Answer::Done(Reply::Line), moves),
+    }
+}
+
+/// The serials of the modules that a call has taken out, topmost first; a refused one takes none.
+pub(crate) fn taken_out<M: ModuleOf>(answer: &Answer, back: &Back<M>) -> ArrayVec<u64, MOST_MODULES>
+    ensures { result.items ≡ out_in answer.now back.now.items }
+{
+    let mut out = ArrayVec::new();
+    if matches!(answer, Answer::Refused(_)) {
+        return out;
+    }
+    for module in back.as_slice() {
+        if let Some(module) = module {
+            out.push(module.shape().serial);
+        }
+    }
+    out
 }
 
 /// A request as a history has it: a copy, with the module's shape in the module's place. Refused for
@@ -153,5 +225,22 @@ fn copy_of<M: ModuleOf>(
         Request::Canput { band } => Ok(Request::Canput { band: *band }),
         Request::Ckband { band } => Ok(Request::Ckband { band: *band }),
         Request::Getband => Ok(Request::Getband),
+        Request::Pop => Ok(Request::Pop),
+        Request::Look => Ok(Request::Look),
+        Request::List => Ok(Request::List),
+        Request::Find { name } => Ok(Request::Find {
+            name: name.copy(alloc)?,
+        }),
+        Request::Str { cmd, dat } => Ok(Request::Str {
+            cmd: *cmd,
+            dat: copy_part(alloc, dat)?,
+        }),
+        Request::Flush { r, w } => Ok(Request::Flush { r: *r, w: *w }),
+        Request::FlushBand { band, r, w } => Ok(Request::FlushBand {
+            band: *band,
+            r: *r,
+            w: *w,
+        }),
+        Request::Close => Ok(Request::Close),
     }
 }

@@ -4,6 +4,8 @@
 //! none must move any longer (Programmer's Guide: STREAMS, "Flow Control").
 #![tactic(auto)]
 
+mod answered;
+mod arriving;
 mod call;
 mod fault;
 mod history;
@@ -11,11 +13,11 @@ mod outcome;
 mod stream;
 
 pub use fault::NewFault;
-pub use history::{Entry, Event};
-pub use outcome::Outcome;
+pub use history::{Entry, Event, Played};
+pub use outcome::{Arrived, Outcome};
 pub use stream::Stream;
 pub use strm_call::{
-    Answer, GetFlag, MAX_CONTROL, MAX_DATA, More, Peeked, Priority, PutFlag, Received, Refusal,
-    Reply, Request, Wanted,
+    Acknowledged, Answer, GetFlag, MAX_CONTROL, MAX_DATA, MOST_NAMES, More, Name, Peeked, Priority,
+    PutFlag, Received, Refusal, Reply, Request, Wanted,
 };
 pub use strm_chain::{Driver, MOST_MODULES, Moves, Place};

@@ -1,28 +1,53 @@
-//! What becomes of a call.
+//! What becomes of a call, and of a message that comes in.
 ghost use Rattle.std.specs.Prelude.{◌≡◌, []};
-ghost use Rattle.strm_call.specs.declared.answer.Answer.TheVariants as Answers;
 ghost use Rattle.strm_head.specs.Begin.{pushed_of};
 
-use crate::call::Answered;
+use crate::answered::Answered;
+use crate::call::Back;
 use arrayvec::ArrayVec;
-use std::alloc::Global;
-use strm_call::{Answer, Refusal, Request};
+use strm_call::{Answer, Request};
 use strm_chain::{MOST_MODULES, Moves};
 use strm_module::{Instance, ModuleOf};
+use strm_msg::Message;
 
 /// What became of a call.
 #[derive(Drop)]
 pub struct Outcome<M: ModuleOf> {
     /// The answer.
     pub answer: Answer,
+    /// An equal answer, for a record of the call. Its memory was found before the call changed
+    /// anything; for an ioctl, when its answer had come.
+    pub twin: Answer,
+    /// The modules that come back, each as `Some`: that of a push that was refused, or those that a
+    /// pop or a close has taken out, topmost first, also where the stream then broke.
+    pub back: ArrayVec<Option<Instance<M>>, MOST_MODULES>,
     /// The places that moved before the stream was quiet again. Only a call that is done has any.
     pub moves: Moves,
-    /// The module of a push that was refused, as `Some`; else nothing.
-    pub back: ArrayVec<Option<Instance<M>>, MOST_MODULES>,
+    /// How many places were looked at, where that is counted; else 0.
+    pub looks: u64,
+}
+
+/// What became of a message that came in from a line.
+#[derive(Drop)]
+pub enum Arrived {
+    /// It was taken.
+    Taken {
+        /// The places that moved before the stream was quiet again.
+        moves: Moves,
+        /// How many places were looked at, where that is counted; else 0.
+        looks: u64,
+    },
+    /// It was not taken, and nothing was changed: the stream is no line, the end is closed, the stream
+    /// is broken, or the line's list is full in the band of an ordinary message. Here it is again.
+    Full(Message),
+    /// It was not taken for want of memory, and nothing was changed. Here it is again.
+    NoMem(Message),
+    /// It was taken, and then memory ran out: the stream is broken from then on.
+    Broke,
 }
 
 /// The module of a push, if this is one.
-fn pushed<M: ModuleOf>(request: Request<Instance<M>>) -> ArrayVec<Option<Instance<M>>, MOST_MODULES>
+pub(crate) fn pushed<M: ModuleOf>(request: Request<Instance<M>>) -> Back<M>
     ensures { result.items ≡ pushed_of request }
 {
     let mut back = ArrayVec::new();
@@ -33,33 +58,21 @@ fn pushed<M: ModuleOf>(request: Request<Instance<M>>) -> ArrayVec<Option<Instanc
 }
 
 impl<M: ModuleOf> Outcome<M> {
-    /// A call that was refused: nothing moved, and the module of a push comes back.
-    pub(crate) fn refused(
-        alloc: Global,
-        refusal: Refusal,
-        request: Request<Instance<M>>,
-    ) -> Outcome<M>
-        ensures answer { result.answer ≡ Answers.Refused refusal }
-        ensures moves { result.moves ≡ [] }
-        ensures back { result.back.items ≡ pushed_of request }
-    {
-        Outcome {
-            answer: Answer::Refused(refusal),
-            moves: Moves::new(alloc),
-            back: pushed(request),
-        }
-    }
-
-    /// A call that was begun, of which nothing comes back.
-    pub(crate) fn of(answered: Answered) -> Outcome<M>
+    /// What a call answered, with the modules that come back.
+    pub(crate) fn of(answered: Answered, back: Back<M>) -> Outcome<M>
         ensures answer { result.answer ≡ answered.answer }
+        ensures twin { result.twin ≡ result.answer }
         ensures moves { result.moves ≡ answered.moves }
-        ensures back { result.back.items ≡ [] }
+        ensures back { result.back ≡ back }
+        ensures looks { result.looks ≡ 0 }
     {
+        let (answer, twin, moves) = answered.into_parts();
         Outcome {
-            answer: answered.answer,
-            moves: answered.moves,
-            back: ArrayVec::new(),
+            answer,
+            twin,
+            back,
+            moves,
+            looks: 0,
         }
     }
 }

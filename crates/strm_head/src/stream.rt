@@ -1,22 +1,29 @@
 //! A stream, and the calls on it.
-ghost use Rattle.std.specs.Prelude.{◌≡◌, ◌↔◌, ◌<◌, ◌≤◌, true, false, [], map, nat_lt, IsOk, IsErrOf, IfOk, OnOk, OnErr};
-ghost use Rattle.strm_chain.specs.Image.{fresh};
+ghost use Rattle.std.specs.Prelude.{◌≡◌, ◌↔◌, ◌<◌, true, false, map, option_map, option_copied, IsOk, IsErrOf, IfOk, OnErr};
+ghost use Rattle.strm_msg.specs.Kind.{is_from_line};
+ghost use Rattle.strm_qpair.specs.End.{pair_at};
+ghost use Rattle.strm_chain.specs.Image.{end_of, fresh};
+ghost use Rattle.strm_msg.specs.declared.words.End.TheVariants as Ends;
 ghost use Rattle.strm_head.specs.declared.history.Event.TheVariants as Events;
-ghost use Rattle.strm_head.specs.Begin.{takes_no_memory, back_of, wants_memory};
+ghost use Rattle.strm_head.specs.Begin.{takes_no_memory, back_of, out_of, wants_memory};
 ghost use Rattle.strm_head.specs.Inside.{are_marks};
 ghost use Rattle.strm_head.specs.Step.{Step, Legal};
+ghost use Rattle.strm_head.specs.Arrive.{Arrives};
+ghost use Rattle.strm_head.specs.Played.{happened, history_of, Plays};
+ghost use Rattle.strm_head.specs.Serials.{AreAccounted};
 
-use crate::call::{Answered, answer, first_refusal, perform};
+use crate::arriving::arrive;
+use crate::call::answer;
 use crate::fault::NewFault;
-use crate::history::{Entry, Event, Noted, noted_all};
-use crate::outcome::Outcome;
+use crate::history::{Entry, Event, Noted, Played, line_played, noted_all, taken_out};
+use crate::outcome::{Arrived, Outcome};
 use arrayvec::ArrayVec;
 use std::alloc::Global;
 use std::marker::Model;
 use strm_call::Request;
 use strm_chain::{Chain, Driver};
-use strm_module::{Instance, ModuleOf};
-use strm_msg::{End, NoMem};
+use strm_module::{Instance, ModuleOf, Shape};
+use strm_msg::{End, Message, NoMem};
 use strm_queue::Marks;
 
 /// A stream: a driver with its ends, the modules on each of them, and the stream heads.
@@ -75,58 +82,132 @@ impl<M: ModuleOf> Stream<M> {
         }
     }
 
+    /// Whether an end is open. One that the driver lacks never is.
+    pub fn is_open(&self, end: End) -> bool
+        ensures { result ≡ (end_of self.now end).is_open }
+    {
+        self.chain.is_open(end)
+    }
+
+    /// The shape of a module, counted from 1 for the topmost; `None` where there is none. A stream that
+    /// is broken shows its modules too.
+    pub fn shape(&self, end: End, i: u8) -> Option<&Shape<M::Kind>>
+        ensures { option_copied result ≡ option_map (λ s. s.shape) (pair_at (end_of self.now end).modules i) }
+    {
+        self.chain.shape(end, i)
+    }
+
     /// One call on an end: a step of the stream, with its answer, the moves that it made, and the
     /// modules that come back.
     ///
     /// A refusal is the first that holds, in the order of `Refusal`, and leaves the stream as it was.
     /// An end that the driver lacks is never open. Calls that change no queue make no move, and those
-    /// of them that only tell or set something never want for memory.
+    /// of them that only tell or set something never want for memory. A push, a pop and a close have
+    /// put in or taken out their modules before memory can be wanting.
     pub fn apply(&mut self, end: End, request: Request<Instance<M>>) -> Outcome<M>
-        ensures step { Step M.Kind.means self.old end (Events.Asked request) result.answer result.moves [] self.new }
-        ensures back { result.back.items ≡ back_of request result.answer }
+        ensures step { Step M.Kind.means self.old end (Events.Asked request) result.answer result.moves (out_of M.Kind.means self.old end request result.answer) self.new }
+        ensures twin { result.twin ≡ result.answer }
+        ensures back { result.back.items ≡ back_of M.Kind.means self.old end request result.answer }
+        ensures looks { result.looks ≡ 0 }
         ensures memory { takes_no_memory request ≡ true → wants_memory result.answer ≡ false }
     {
-        match first_refusal(&self.chain, end, &request) {
-            Some(refusal) => Outcome::refused(self.chain.alloc(), refusal, request),
-            None => Outcome::of(perform(&mut self.chain, end, request)),
+        let mut back = ArrayVec::new();
+        let answered = answer(&mut self.chain, end, request, &mut back);
+        Outcome::of(answered, back)
+    }
+
+    /// A message comes in from a line, at end A: a step of the stream, unless it comes back. An ordinary
+    /// message waits in the line's list, a high one goes up at once. To be called with a message of a
+    /// kind that comes from a line (`Message::from_line`).
+    pub fn arrive(&mut self, m: Message) -> Arrived
+        requires { is_from_line m.kind ≡ true }
+        ensures { Arrives M.Kind.means self.old m result self.new }
+    {
+        arrive(&mut self.chain, m)
+    }
+
+    /// One call, as an entry of a history.
+    fn play_call(
+        &mut self,
+        end: End,
+        request: Request<Instance<M>>,
+        copy: Request<Shape<M::Kind>>,
+    ) -> Played<M::Kind, Instance<M>>
+        requires { copy ≡ request }
+        ensures plays { Plays M.Kind.means self.old result self.new }
+        ensures event { happened result ≡ (end, Events.Asked request) }
+    {
+        let mut back = ArrayVec::new();
+        let answered = answer(&mut self.chain, end, request, &mut back);
+        let (answer, _, moves) = answered.into_parts();
+        let out = taken_out(&answer, &back);
+        Played::Step {
+            entry: Entry {
+                end,
+                event: Event::Asked(copy),
+                answer,
+                moves,
+                out,
+            },
+            back,
         }
     }
 
-    /// One call of which nothing comes back: the module of a refused push is dropped.
-    fn answer(&mut self, end: End, request: Request<Instance<M>>) -> Answered
-        ensures { Step M.Kind.means self.old end (Events.Asked request) result.answer result.moves [] self.new }
+    /// One message that comes in from a line, as an entry of a history if it is taken.
+    fn play_line(&mut self, m: Message, copy: Message) -> Played<M::Kind, Instance<M>>
+        requires line { is_from_line m.kind ≡ true }
+        requires same { copy ≡ m }
+        ensures plays { Plays M.Kind.means self.old result self.new }
+        ensures event { happened result ≡ (Ends.A, Events.Arrived m) }
     {
-        answer(&mut self.chain, end, request)
+        let arrived = arrive(&mut self.chain, m);
+        line_played(self.chain.alloc(), copy, arrived)
     }
 
-    /// Calls one after another, and the history that they make. The modules that come back are
-    /// dropped.
+    /// One message that comes in. Only end A of a stream has a line, and only some kinds come from it.
+    fn play_arrival(&mut self, end: End, m: Message, copy: Message) -> Played<M::Kind, Instance<M>>
+        requires { copy ≡ m }
+        ensures plays { Plays M.Kind.means self.old result self.new }
+        ensures event { happened result ≡ (end, Events.Arrived m) }
+    {
+        match end {
+            End::A if m.from_line() => self.play_line(m, copy),
+            _ => Played::Left { end, message: m },
+        }
+    }
+
+    /// One event, as an entry of a history if it is a step.
+    fn play(&mut self, noted: Noted<M>) -> Played<M::Kind, Instance<M>>
+        ensures plays { Plays M.Kind.means self.old result self.new }
+        ensures event { happened result ≡ noted }
+    {
+        let Noted { end, event, copy } = noted;
+        match (event, copy) {
+            (Event::Asked(request), Event::Asked(copy)) => self.play_call(end, request, copy),
+            (Event::Arrived(m), Event::Arrived(copy)) => self.play_arrival(end, m, copy),
+            _ => unreachable!(),
+        }
+    }
+
+    /// Events one after another, and what became of them: the steps make a legal history, in which each
+    /// module that stood on the stream or was put in was taken out or stands there at the end.
     ///
-    /// Refused for want of memory for the history itself, which is found before the first call: then
-    /// nothing is changed, and the calls are dropped.
-    pub fn apply_all(
+    /// Refused for want of memory for the history itself, which is found before the first event: then
+    /// nothing is changed, and the events are dropped.
+    pub fn play_all(
         &mut self,
         alloc: Global,
-        calls: Vec<(End, Request<Instance<M>>)>,
-    ) -> Result<Vec<Entry<M::Kind>>, NoMem>
-        ensures legal { IfOk result (λ entries. Legal M.Kind.means self.old entries.items self.new) }
-        ensures ends { IfOk result (λ entries. map (λ entry. entry.end) entries.items ≡ map (λ call. call.0) calls.items) }
-        ensures events { IfOk result (λ entries. map (λ entry. entry.event) entries.items ≡ map (λ call. Events.Asked call.1) calls.items) }
+        events: Vec<(End, Event<Instance<M>>)>,
+    ) -> Result<Vec<Played<M::Kind, Instance<M>>>, NoMem>
+        ensures legal { IfOk result (λ all. Legal M.Kind.means self.old (history_of all.items) self.new) }
+        ensures accounts { IfOk result (λ all. AreAccounted self.old (history_of all.items) self.new) }
+        ensures events { IfOk result (λ all. map happened all.items ≡ events.items) }
         ensures err { OnErr result (self.new ≡ self.old) }
     {
-        let mut entries = Vec::with_capacity(alloc, calls.len())?;
-        for Noted { end, request, copy } in noted_all(alloc, calls)? {
-            let answered = self.answer(end, request);
-            entries
-                .push(Entry {
-                    end,
-                    event: Event::Asked(copy),
-                    answer: answered.answer,
-                    moves: answered.moves,
-                    out: ArrayVec::new(),
-                })
-                .unwrap();
+        let mut all = Vec::with_capacity(alloc, events.len())?;
+        for noted in noted_all(alloc, events)? {
+            all.push(self.play(noted)).unwrap();
         }
-        Ok(entries)
+        Ok(all)
     }
 }

@@ -29,9 +29,9 @@ canput_begun image e band = begun image (Canput (not (full_in (below image.drive
 abbrev pub ckband_begun : {K : Type 0} → Image K → End → ℕ → Begun K
 ckband_begun image e band = begun image (Ckband (has_band (end_of image e).head band))
 
-abbrev pub is_empty : List Msg → Bool
+abbrev pub is_empty : {X : Type 0} → List X → Bool
 is_empty [] = true
-is_empty (m ∷ q) = false
+is_empty (x ∷ xs) = false
 
 abbrev pub getband_refusal : {K : Type 0} → Image K → End → Option Refusal
 getband_refusal image e = refused_if (is_empty (end_of image e).head) NoMessage

@@ -1,15 +1,19 @@
--- Modules are put in (streamio(7), I_PUSH).
-use Rattle.std.specs.Prelude.{not, Option}
+-- Modules are put in, taken out and looked at (streamio(7): I_PUSH, I_POP, I_LOOK).
+use Rattle.std.specs.Prelude.{ℕ, not, Option, List, [], ◌∷◌, take}
 use Rattle.std.specs.Option.{option_or}
+use Rattle.arrayvec.specs.ArrayVec.{ArrayVec}
 use Rattle.strm_msg.specs.declared.words.End.{End}
 use Rattle.strm_module.specs.declared.shape.Shape.{Shape}
-use Rattle.strm_qpair.specs.Change.{has_room, inserted}
+use Rattle.strm_qpair.specs.Pair.{QueuePair}
+use Rattle.strm_qpair.specs.End.{shapes_of}
+use Rattle.strm_qpair.specs.Change.{has_room, inserted, removed}
 use Rattle.strm_chain.specs.Image.{Image, end_of, with_end}
 use Rattle.strm_call.specs.declared.refusal.Refusal.{Refusal}
 use Rattle.strm_call.specs.declared.refusal.Refusal.TheVariants.{Invalid, HungUp}
-use Rattle.strm_call.specs.declared.answer.Reply.TheVariants.{Push}
+use Rattle.strm_call.specs.declared.answer.Reply.TheVariants.{Push, Pop, Look}
 use Rattle.strm_call.specs.Refusal.{refused_if}
-use Rattle.strm_call.specs.Begun.{Begun, begun}
+use Rattle.strm_call.specs.Begun.{Begun, begun, begun_without}
+use Rattle.strm_ioctl.specs.Ask.{is_empty}
 
 abbrev pub push_refusal : {K : Type 0} → Image K → End → Option Refusal
 push_refusal image e =
@@ -18,3 +22,24 @@ push_refusal image e =
 -- just below the head, with empty queues
 abbrev pub push_begun : {K : Type 0} → Image K → End → Shape K → Begun K
 push_begun image e shape = begun (with_end image e (inserted (end_of image e) shape)) Push
+
+abbrev pub pop_refusal : {K : Type 0} → Image K → End → Option Refusal
+pop_refusal image e =
+    option_or (refused_if (is_empty (end_of image e).modules) Invalid) (refused_if (end_of image e).state.hung HungUp)
+
+-- the name of the topmost module
+abbrev pub first_name : {K : Type 0} → List (QueuePair K) → ArrayVec ℕ
+first_name [] = record { items = [] }
+first_name (s ∷ modules) = s.shape.name
+
+-- what the queues of the module hold goes with it
+abbrev pub pop_begun : {K : Type 0} → Image K → End → Begun K
+pop_begun image e =
+    let end = end_of image e in
+    begun_without (with_end image e (removed end)) (Pop (first_name end.modules)) (take 1 (shapes_of end))
+
+abbrev pub look_refusal : {K : Type 0} → Image K → End → Option Refusal
+look_refusal image e = refused_if (is_empty (end_of image e).modules) Invalid
+
+abbrev pub look_begun : {K : Type 0} → Image K → End → Begun K
+look_begun image e = begun image (Look (first_name (end_of image e).modules))

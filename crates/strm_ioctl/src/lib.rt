@@ -1,5 +1,5 @@
-//! Calls of a stream head that ask about messages and room, set how reads treat messages, and put
-//! modules in (streamio(7)).
+//! Calls of a stream head that ask about messages and room, set how reads treat messages, put modules
+//! in and take them out, send flushes and ioctls, and close (streamio(7), close(2)).
 //!
 //! Each call is two functions over a chain: its refusals of its own, in their order, if it has any, and
 //! what it does before any queue moves. The refusals that all calls share, and the services that follow a call,
@@ -7,9 +7,17 @@
 #![tactic(auto)]
 
 mod ask;
+mod closing;
+mod flushing;
+mod ioctl;
 mod modules;
+mod names;
 mod options;
 
 pub use ask::{canput, ckband, getband, getband_refusal, nread};
-pub use modules::{push, push_refusal};
+pub use closing::close;
+pub use flushing::{flush, flush_refusal};
+pub use ioctl::{acknowledged, send_ioctl, str_refusal};
+pub use modules::{pop, pop_refusal, push, push_refusal};
+pub use names::{find, find_refusal, list, look, look_refusal};
 pub use options::{get_read, set_read};

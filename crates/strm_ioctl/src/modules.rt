@@ -1,10 +1,11 @@
-//! Push: a module is put in below the head.
-ghost use Rattle.std.specs.Prelude.{◌≡◌, true};
+//! Push and pop: modules are put in below the head and taken out.
+ghost use Rattle.std.specs.Prelude.{◌≡◌, [], ◌∷◌, Some, true, false};
 ghost use Rattle.strm_qpair.specs.Change.{has_room};
 ghost use Rattle.strm_chain.specs.Image.{end_of};
-ghost use Rattle.strm_ioctl.specs.Modules.{push_refusal, push_begun};
+ghost use Rattle.strm_ioctl.specs.Ask.{is_empty};
+ghost use Rattle.strm_ioctl.specs.Modules.{push_refusal, pop_refusal, push_begun, pop_begun};
 
-use strm_call::{Refusal, Reply};
+use strm_call::{Refusal, Reply, copy_name};
 use strm_chain::Chain;
 use strm_module::{Instance, ModuleOf};
 use strm_msg::End;
@@ -33,4 +34,31 @@ pub fn push<M: ModuleOf>(chain: &mut Chain<M>, end: End, instance: Instance<M>) 
 {
     let _ = chain.insert(end, instance);
     Reply::Push
+}
+
+/// The first of a pop's own refusals that holds: EINVAL where no module stands there, and ENXIO for an
+/// end that is hung up (streamio(7), I_POP).
+pub fn pop_refusal<M: ModuleOf>(chain: &Chain<M>, end: End) -> Option<Refusal>
+    ensures { result ≡ pop_refusal chain.now.image end }
+{
+    if chain.count(end) == 0 {
+        return Some(Refusal::Invalid);
+    }
+    if chain.state(end).hung {
+        return Some(Refusal::HungUp);
+    }
+    None
+}
+
+/// Takes the topmost module out, and drops what its queues hold (streamio(7), I_POP). To be called
+/// where a module stands there. The module comes beside the reply. Takes no memory.
+pub fn pop<M: ModuleOf>(chain: &mut Chain<M>, end: End) -> (Reply, Instance<M>)
+    requires { is_empty (end_of chain.old.image end).modules ≡ false }
+    ensures reply { result.0 ≡ (pop_begun chain.old.image end).reply }
+    ensures image { chain.new.image ≡ (pop_begun chain.old.image end).image }
+    ensures out { result.1 ∷ [] ≡ (pop_begun chain.old.image end).out }
+{
+    let instance = chain.remove(end).unwrap();
+    let name = copy_name(&instance.shape().name);
+    (Reply::Pop { name }, instance)
 }

@@ -20,8 +20,6 @@ mod module;
 mod outs;
 mod procedures;
 mod shape;
-#[cfg(test)]
-mod tests;
 mod vocabulary;
 
 pub use eight::{Band, Count, CrNl, Line, Mute, Pass, Plain, Table, Tee};

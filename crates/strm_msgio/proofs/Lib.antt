@@ -1,3 +1,2 @@
 pub mod ReadLemmas
-pub mod SendLemmas
 mod WorkedExamples

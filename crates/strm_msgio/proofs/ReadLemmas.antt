@@ -13,8 +13,9 @@ use Rattle.strm_msg.specs.declared.words.Prot.{Prot}
 use Rattle.strm_msg.specs.declared.words.ReadMode.{ReadMode}
 use Rattle.strm_msg.specs.declared.words.ReadMode.TheVariants.{Rnorm, Rmsgn, Rmsgd}
 use Rattle.strm_chain.specs.Image.{Image, end_of, with_head}
+use Rattle.strm_call.specs.declared.answer.Reply.TheVariants as Replies
 use Rattle.strm_msgio.specs.Take.{put_back_if}
-use Rattle.strm_msgio.specs.Read.{bytes_in, bytes_read, bytes_of_all, goes_on_to, reached, whole_in, rest_of, cut_first, read_of}
+use Rattle.strm_msgio.specs.Read.{read_begun, bytes_in, bytes_read, bytes_of_all, goes_on_to, reached, whole_in, rest_of, cut_first, read_of}
 
 -- the front of two lists one after the other
 take_of_two : {X : Type 0} (n : ℕ) (xs ys : List X) → take n (xs ++ ys) ≡ take n xs ++ take (n - length xs) ys
@@ -189,3 +190,8 @@ module _ (mode : ReadMode) (prot : Prot) (n : ℕ) (q : List Msg) (count : ℕ) 
 pub head_drops : {K : Type 0} (image now new : Image K) (e : End) (i : ℕ) → now ≡ with_head image e (drop i (end_of image e).head) → new ≡ with_head now e (drop 1 (end_of now e).head) → new ≡ with_head image e (drop (i + 1) (end_of image e).head)
 head_drops image now new A i was e = e ∙ rw was (ap (with_head image A) (drop-drop 1 i image.a.head))
 head_drops image now new B i was e = e ∙ rw was (ap (with_head image B) (drop-drop 1 i image.b.head))
+
+-- the reply of a read of some bytes
+pub read_reply : {K : Type 0} (image : Image K) (e : End) (n : ℕ) (bytes : List ℕ) (messages : List Msg) → (n ≡ 0 → ⊥) → messages ≡ (end_of image e).head → bytes ≡ (read_of (end_of image e).state.mode (end_of image e).state.prot n messages).bytes → Replies.Read bytes ≡ (read_begun image e n).reply
+read_reply image e zero bytes messages some is same = absurd (some refl)
+read_reply image e (suc n) bytes messages some is same = rw (same, is) refl

@@ -2,12 +2,13 @@
 ghost use Rattle.std.specs.Prelude.{◌≡◌, [], IsOk, ◌≤◌, ◌++◌, OnOk, OnErr, IfOk, length, take, drop, slice_get, option_copied};
 ghost use Rattle.strm_msg.specs.Message.{part_len};
 ghost use Rattle.strm_chain.specs.Image.{end_of, with_head, KeepsHeadRoom};
+ghost use Rattle.strm_call.specs.declared.answer.Reply.TheVariants as Replies;
 ghost use Rattle.strm_msgio.specs.Take.{put_back_if};
 ghost use Rattle.strm_msgio.specs.Read.{bytes_in, bytes_read, bytes_of_all, is_unread, goes_on_to, reached, whole_in, rest_of, read_of, read_refusal, read_begun};
 
 use crate::cut::Cut;
 use std::alloc::Global;
-use strm_call::{Refusal, Reply};
+use strm_call::{Refusal, Reply, Twins};
 use strm_chain::Chain;
 use strm_module::ModuleOf;
 use strm_msg::{Bytes, End, Message, NoMem, Prot, ReadMode};
@@ -245,12 +246,21 @@ pub fn read_refusal<M: ModuleOf>(chain: &Chain<M>, end: End, max: u16) -> Option
     }
 }
 
+/// The reply of a read that gives these bytes.
+fn reply_of(bytes: Vec<u8>) -> Reply
+    ensures { result ≡ Replies.Read bytes.items }
+{
+    Reply::Read {
+        dat: Bytes::from(bytes),
+    }
+}
+
 /// Takes at most `max` bytes of the messages at a head, by the modes that I_SRDOPT sets (read(2)). A
 /// read of no bytes looks at nothing; else a first message without bytes is taken and gives none.
 ///
 /// Refused for want of memory alone, which is not met where there is nothing to read. Then nothing is
 /// changed.
-pub fn read<M: ModuleOf>(chain: &mut Chain<M>, end: End, max: u16) -> Result<Reply, NoMem>
+pub fn read<M: ModuleOf>(chain: &mut Chain<M>, end: End, max: u16) -> Result<Twins, NoMem>
     ensures reply { IfOk result (λ reply. reply ≡ (read_begun chain.old.image end max).reply) }
     ensures image { OnOk result (chain.new.image ≡ (read_begun chain.old.image end max).image) }
     ensures err { OnErr result (chain.new.image ≡ chain.old.image) }
@@ -259,15 +269,12 @@ pub fn read<M: ModuleOf>(chain: &mut Chain<M>, end: End, max: u16) -> Result<Rep
 {
     let alloc = chain.alloc();
     if max == 0 || chain.head(end).is_empty() {
-        return Ok(Reply::Read {
-            dat: Bytes::from(Vec::new(alloc)),
-        });
+        return Ok(Twins::new(reply_of(Vec::new(alloc)), reply_of(Vec::new(alloc))));
     }
     let mode = chain.state(end).mode;
     let prot = chain.state(end).prot;
     let Found { bytes, gone, rest } = found_in(alloc, chain.head(end), mode, prot, max)?;
+    let twins = Twins::of(alloc, reply_of(bytes))?;
     replace_front(chain, end, gone, rest)?;
-    Ok(Reply::Read {
-        dat: Bytes::from(bytes),
-    })
+    Ok(twins)
 }

@@ -6,7 +6,7 @@ ghost use Rattle.strm_chain.specs.declared.place.Spot.TheVariants as Spots;
 ghost use Rattle.strm_call.specs.Begun.{Fails};
 ghost use Rattle.strm_msgio.specs.Send.{putmsg_refusal, putpmsg_refusal, write_refusal, putmsg_begun, putpmsg_begun, write_begun, putmsg_message, putpmsg_message, ordinary_message, high_message, ordinary_band, waiting_refusal, sending_refusal, sent_of};
 
-use strm_call::{MAX_CONTROL, MAX_DATA, Priority, PutFlag, Refusal, Reply};
+use strm_call::{MAX_CONTROL, MAX_DATA, Priority, PutFlag, Refusal, Reply, deliver};
 use strm_chain::{Chain, ChainFault, Spot};
 use strm_module::ModuleOf;
 use strm_msg::{Bytes, End, Message, MsgKind};
@@ -102,7 +102,7 @@ fn send<M: ModuleOf>(chain: &mut Chain<M>, end: End, m: Option<Message>) -> Resu
     ensures nothing { IsNone m → IsOk result }
 {
     match m {
-        Some(m) => chain.deliver(Spot::top(end), m),
+        Some(m) => deliver(chain, Spot::top(end), m),
         None => Ok(()),
     }
 }

@@ -1,13 +1,17 @@
 //! Getmsg, getpmsg and peek: the first message at the head is taken in part or whole, or looked at.
-ghost use Rattle.std.specs.Prelude.{◌≡◌, ◌<◌, true, [], OnOk, OnErr, IfOk, IsOk, IsNone, drop, slice_get, is_some};
+ghost use Rattle.std.specs.Prelude.{◌≡◌, ◌<◌, true, [], OnOk, OnErr, IfOk, IsOk, IsNone, Some, drop, slice_get, is_some};
 ghost use Rattle.strm_msg.specs.Message.{rank_of};
 ghost use Rattle.strm_queue.specs.Room.{room_for};
 ghost use Rattle.strm_chain.specs.Image.{end_of, with_head, room_of};
+ghost use Rattle.strm_call.specs.declared.answer.Reply.TheVariants as Replies;
+ghost use Rattle.strm_call.specs.declared.answer.Received.TheVariants as Receivers;
+ghost use Rattle.strm_call.specs.declared.answer.More.TheVariants as Mores;
+ghost use Rattle.strm_call.specs.declared.request.Priority.TheVariants as Priorities;
 ghost use Rattle.strm_msgio.specs.Take.{first_of, peeked_of, is_wanted, is_wanted_in, getmsg_refusal, getpmsg_refusal, put_back_if, priority_of, received_of, getmsg_begun, getpmsg_begun, peek_begun};
 
 use crate::cut::Cut;
 use std::alloc::Global;
-use strm_call::{GetFlag, More, Peeked, Priority, Received, Refusal, Reply, Wanted};
+use strm_call::{GetFlag, More, Peeked, Priority, Received, Refusal, Reply, Twins, Wanted};
 use strm_chain::Chain;
 use strm_module::ModuleOf;
 use strm_msg::{Bytes, End, Message, NoMem};
@@ -61,6 +65,30 @@ fn no_bytes(alloc: Global) -> Bytes
     ensures { result ≡ [] }
 {
     Bytes::from(Vec::new(alloc))
+}
+
+/// What a getmsg takes of a hung up end without messages. Takes no memory.
+fn got_nothing(alloc: Global) -> Reply
+    ensures { result ≡ Replies.Getmsg (Some []) (Some []) Priorities.Norm Mores.Nothing }
+{
+    Reply::Getmsg {
+        ctl: Some(no_bytes(alloc)),
+        dat: Some(no_bytes(alloc)),
+        flag: Priority::Norm,
+        more: More::Nothing,
+    }
+}
+
+/// The same of a getpmsg.
+fn got_nothing_of(alloc: Global) -> Reply
+    ensures { result ≡ Replies.Getpmsg (Some []) (Some []) (Receivers.Band 0) Mores.Nothing }
+{
+    Reply::Getpmsg {
+        ctl: Some(no_bytes(alloc)),
+        dat: Some(no_bytes(alloc)),
+        flag: Received::Band { band: 0 },
+        more: More::Nothing,
+    }
 }
 
 /// Takes the first message away from a head, and puts back what stays of it.
@@ -133,7 +161,7 @@ pub fn getmsg<M: ModuleOf>(
     end: End,
     maxctl: Option<u16>,
     maxdat: Option<u16>,
-) -> Result<Reply, NoMem>
+) -> Result<Twins, NoMem>
     ensures reply { IfOk result (λ reply. reply ≡ (getmsg_begun chain.old.image end maxctl maxdat).reply) }
     ensures image { OnOk result (chain.new.image ≡ (getmsg_begun chain.old.image end maxctl maxdat).image) }
     ensures err { OnErr result (chain.new.image ≡ chain.old.image) }
@@ -141,22 +169,26 @@ pub fn getmsg<M: ModuleOf>(
 {
     let alloc = chain.alloc();
     let Some(first) = chain.head(end).first() else {
-        return Ok(Reply::Getmsg {
-            ctl: Some(no_bytes(alloc)),
-            dat: Some(no_bytes(alloc)),
-            flag: Priority::Norm,
-            more: More::Nothing,
-        });
+        return Ok(Twins::new(got_nothing(alloc), got_nothing(alloc)));
     };
     let flag = priority_of(first);
-    let taken = Cut::of(alloc, first, maxctl, maxdat)?;
-    replace_first(chain, end, taken.rest)?;
-    Ok(Reply::Getmsg {
-        ctl: taken.ctl,
-        dat: taken.dat,
-        flag,
-        more: taken.more,
-    })
+    let Cut {
+        ctl,
+        dat,
+        more,
+        rest,
+    } = Cut::of(alloc, first, maxctl, maxdat)?;
+    let twins = Twins::of(
+        alloc,
+        Reply::Getmsg {
+            ctl,
+            dat,
+            flag,
+            more,
+        },
+    )?;
+    replace_first(chain, end, rest)?;
+    Ok(twins)
 }
 
 /// Takes of the first message what a getpmsg asks for, as `getmsg` does, and tells its band
@@ -169,7 +201,7 @@ pub fn getpmsg<M: ModuleOf>(
     end: End,
     maxctl: Option<u16>,
     maxdat: Option<u16>,
-) -> Result<Reply, NoMem>
+) -> Result<Twins, NoMem>
     ensures reply { IfOk result (λ reply. reply ≡ (getpmsg_begun chain.old.image end maxctl maxdat).reply) }
     ensures image { OnOk result (chain.new.image ≡ (getpmsg_begun chain.old.image end maxctl maxdat).image) }
     ensures err { OnErr result (chain.new.image ≡ chain.old.image) }
@@ -177,22 +209,26 @@ pub fn getpmsg<M: ModuleOf>(
 {
     let alloc = chain.alloc();
     let Some(first) = chain.head(end).first() else {
-        return Ok(Reply::Getpmsg {
-            ctl: Some(no_bytes(alloc)),
-            dat: Some(no_bytes(alloc)),
-            flag: Received::Band { band: 0 },
-            more: More::Nothing,
-        });
+        return Ok(Twins::new(got_nothing_of(alloc), got_nothing_of(alloc)));
     };
     let flag = received_of(first);
-    let taken = Cut::of(alloc, first, maxctl, maxdat)?;
-    replace_first(chain, end, taken.rest)?;
-    Ok(Reply::Getpmsg {
-        ctl: taken.ctl,
-        dat: taken.dat,
-        flag,
-        more: taken.more,
-    })
+    let Cut {
+        ctl,
+        dat,
+        more,
+        rest,
+    } = Cut::of(alloc, first, maxctl, maxdat)?;
+    let twins = Twins::of(
+        alloc,
+        Reply::Getpmsg {
+            ctl,
+            dat,
+            flag,
+            more,
+        },
+    )?;
+    replace_first(chain, end, rest)?;
+    Ok(twins)
 }
 
 /// Shows of the first message what a getmsg would take of it, if it is the one that is wanted, and

@@ -7,7 +7,7 @@ mod tests;
 
 use spell::CallLine;
 use std::alloc::Global;
-use strm_head::{Driver, Entry, Priority, Request, Stream, Wanted};
+use strm_head::{Driver, Event, Played, Priority, Request, Stream, Wanted};
 use strm_module::{Instance, Kind, Module};
 use strm_msg::{Bytes, End, NoMem};
 
@@ -15,7 +15,7 @@ use strm_msg::{Bytes, End, NoMem};
 type Object = Box<dyn Module>;
 
 /// A call: the end on which it is made, and what is asked.
-type Call = (End, Request<Instance<Object>>);
+type Call = (End, Event<Instance<Object>>);
 
 /// What the process asks, in order.
 fn calls(alloc: Global) -> Result<Vec<Call>, NoMem> {
@@ -29,15 +29,18 @@ fn calls(alloc: Global) -> Result<Vec<Call>, NoMem> {
         flag: Wanted::Any,
     };
     let mut calls = Vec::with_capacity(alloc, 2)?;
-    calls.push((End::A, send))?;
-    calls.push((End::A, take))?;
+    calls.push((End::A, Event::Asked(send)))?;
+    calls.push((End::A, Event::Asked(take)))?;
     Ok(calls)
 }
 
 /// Prints what happened to the stream, a line for each call.
-fn print(rt: &impl Print, entries: &[Entry<Kind>]) -> anyhow::Result<()> {
+fn print(rt: &impl Print, all: &[Played<Kind, Instance<Object>>]) -> anyhow::Result<()> {
     println!(rt; "stream s")?;
-    for entry in entries {
+    for played in all {
+        let Played::Step { entry, .. } = played else {
+            continue;
+        };
         let line = CallLine {
             process: "p",
             stream: "s",
@@ -52,6 +55,6 @@ fn print(rt: &impl Print, entries: &[Entry<Kind>]) -> anyhow::Result<()> {
 fn main(rt: HostRuntime) -> anyhow::Result<()> {
     let alloc: Global = rt.alloc();
     let mut stream: Stream<Object> = Stream::new(alloc, Driver::Echo, (16, 4), (16, 4))?;
-    let entries = stream.apply_all(alloc, calls(alloc)?)?;
-    print(&rt, entries.as_slice())
+    let all = stream.play_all(alloc, calls(alloc)?)?;
+    print(&rt, all.as_slice())
 }

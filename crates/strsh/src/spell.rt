@@ -4,6 +4,7 @@ use strm_head::{Entry, Event};
 use strm_module::Kind;
 use strm_msg::End;
 
+mod name;
 mod part;
 mod push;
 mod reply;

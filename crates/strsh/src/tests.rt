@@ -227,6 +227,131 @@ const PUSHED: [Row; 9] = [
     ),
 ];
 
+/// Modules that are taken out or asked for. A name stands as it is where it is told, and as a part
+/// where it is looked for.
+const NAMED: [Row; 11] = [
+    (A, Ask::Pop, Say::Pop(b"mod_1"), "p pop s:a : popped mod_1"),
+    (
+        B,
+        Ask::Pop,
+        Say::Refused(Refusal::Invalid),
+        "p pop s:b : EINVAL",
+    ),
+    (A, Ask::Look, Say::Look(b"A_z09"), "p look s:a : A_z09"),
+    (
+        A,
+        Ask::List,
+        Say::List(&[b"eightbyt", b"m", b"echo"]),
+        "p list s:a : eightbyt m echo",
+    ),
+    (B, Ask::List, Say::List(&[b"loop"]), "p list s:b : loop"),
+    (
+        A,
+        Ask::Find(b"mod_1"),
+        Say::Find(true),
+        "p find s:a =mod_1 : 1",
+    ),
+    (
+        B,
+        Ask::Find(b"a b"),
+        Say::Find(false),
+        "p find s:b =a%20b : 0",
+    ),
+    (
+        A,
+        Ask::Find(b""),
+        Say::Refused(Refusal::Invalid),
+        "p find s:a = : EINVAL",
+    ),
+    (A, Ask::Close, Say::Close(&[]), "p close s:a : closed"),
+    (
+        B,
+        Ask::Close,
+        Say::Close(&[b"top", b"low"]),
+        "p close s:b : closed top low",
+    ),
+    (
+        A,
+        Ask::Close,
+        Say::Refused(Refusal::Closed),
+        "p close s:a : EBADF",
+    ),
+];
+
+/// Ioctls with each thing that can become of them, and flushes with each word for their sides.
+const SENT_DOWN: [Row; 15] = [
+    (
+        A,
+        Ask::Str(1, Some(b"x y")),
+        Say::Ack(7, Some(b"\x00")),
+        "p str s:a 1 =x%20y : 7 =%00",
+    ),
+    (
+        A,
+        Ask::Str(4_294_967_295, None),
+        Say::Ack(18_446_744_073_709_551_615, None),
+        "p str s:a 4294967295 - : 18446744073709551615 -",
+    ),
+    (
+        B,
+        Ask::Str(0, Some(b"")),
+        Say::Ack(0, Some(b"")),
+        "p str s:b 0 = : 0 =",
+    ),
+    (
+        A,
+        Ask::Str(5, None),
+        Say::Nak(Errno::EINVAL),
+        "p str s:a 5 - : nak EINVAL",
+    ),
+    (
+        B,
+        Ask::Str(5, Some(b"-")),
+        Say::Nak(Errno::ETIME),
+        "p str s:b 5 =- : nak ETIME",
+    ),
+    (A, Ask::Str(6, None), Say::Timeout, "p str s:a 6 - : ETIME"),
+    (
+        A,
+        Ask::Str(7, None),
+        Say::Refused(Refusal::WouldWait),
+        "p str s:a 7 - : EAGAIN",
+    ),
+    (A, Ask::Flush(true, false), Say::Flush, "p flush s:a r : 0"),
+    (B, Ask::Flush(false, true), Say::Flush, "p flush s:b w : 0"),
+    (A, Ask::Flush(true, true), Say::Flush, "p flush s:a rw : 0"),
+    (
+        A,
+        Ask::Flush(false, false),
+        Say::Refused(Refusal::Invalid),
+        "p flush s:a none : EINVAL",
+    ),
+    (
+        A,
+        Ask::FlushBand(3, false, true),
+        Say::FlushBand,
+        "p flushband s:a 3 w : 0",
+    ),
+    (
+        B,
+        Ask::FlushBand(255, true, true),
+        Say::FlushBand,
+        "p flushband s:b 255 rw : 0",
+    ),
+    (
+        A,
+        Ask::FlushBand(0, true, false),
+        Say::Refused(Refusal::HungUp),
+        "p flushband s:a 0 r : ENXIO",
+    ),
+    (
+        A,
+        Ask::FlushBand(9, false, false),
+        Say::Refused(Refusal::Invalid),
+        "p flushband s:a 9 none : EINVAL",
+    ),
+];
+
 /// Each refusal, and a stream that broke.
 const REFUSED: [Row; 11] = [
     (
@@ -296,7 +421,15 @@ const REFUSED: [Row; 11] = [
 
 #[test]
 fn calls_are_spelt_with_their_answers(rt: HostRuntime) {
-    for rows in [SENT.as_slice(), &TAKEN, &TOLD, &PUSHED, &REFUSED] {
+    for rows in [
+        SENT.as_slice(),
+        &TAKEN,
+        &TOLD,
+        &PUSHED,
+        &NAMED,
+        &SENT_DOWN,
+        &REFUSED,
+    ] {
         play(&rt, rt.alloc(), rows);
     }
 }

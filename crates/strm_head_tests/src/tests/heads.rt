@@ -2,7 +2,7 @@
 //! expected is worked out by hand from the rules.
 use std::alloc::Global;
 use std::process::Abort;
-use strm_call::{GetFlag, More, Priority, Received, Refusal, Reply, Wanted};
+use strm_call::{GetFlag, More, Priority, Received, Refusal, Reply, Twins, Wanted};
 use strm_chain::{Chain, Driver, Spot};
 use strm_module::Plain;
 use strm_msg::{Bytes, End, Message, Prot, ReadMode};
@@ -55,13 +55,19 @@ fn line(rt: &impl Abort, alloc: Global) -> Chain<Plain> {
     Chain::new(alloc, Driver::Line, marks, marks).expect(rt, "no memory for a chain")
 }
 
+/// A reply and its twin are both this one.
+fn are(twins: Twins, want: Reply) -> bool {
+    let (reply, twin) = twins.into_both();
+    reply == want && twin == want
+}
+
 /// Reads, and compares the bytes.
 fn reads(rt: &impl Abort, alloc: Global, chain: &mut Chain<Plain>, max: u16, want: &[u8]) {
     assert_eq!(rt; read_refusal(chain, End::A, max), None);
     let reply = read(chain, End::A, max).expect(rt, "no memory for what is read");
     let dat = Bytes::from_slice(alloc, want).expect(rt, "no memory");
     assert!(rt;
-        reply == Reply::Read { dat },
+        are(reply, Reply::Read { dat }),
         "the bytes of a read of {max}"
     );
 }
@@ -164,7 +170,7 @@ fn a_hung_up_end_gives_parts_of_no_bytes(rt: HostRuntime) {
         flag: Priority::Norm,
         more: More::Nothing,
     };
-    assert!(rt; reply == want);
+    assert!(rt; are(reply, want));
     assert!(rt; getpmsg_refusal(&chain, End::A, 9, GetFlag::Band).is_none());
     let reply = getpmsg(&mut chain, End::A, Some(1), Some(1)).expect(&rt, "no memory");
     let want = Reply::Getpmsg {
@@ -173,7 +179,7 @@ fn a_hung_up_end_gives_parts_of_no_bytes(rt: HostRuntime) {
         flag: Received::Band { band: 0 },
         more: More::Nothing,
     };
-    assert!(rt; reply == want);
+    assert!(rt; are(reply, want));
 }
 
 #[test]

@@ -1,71 +1,180 @@
-//! Modules are pushed, and come back where a push is refused.
-use super::{Call, Want, echo, play};
+//! Modules are pushed, asked about and popped.
+use super::{
+    AGAIN, CLOSED, Call, EndRow, GET, INVALID, Pushes, Row, Want, echo, play, play_all, play_at,
+    play_loop,
+};
 use std::alloc::Global;
 use std::process::Abort;
-use strm_head::{Answer, Refusal, Reply, Request, Stream};
-use strm_module::{Instance, Kind, Plain, Shape};
-use strm_msg::End;
+use strm_head::{GetFlag, More, Priority, Received, Stream};
+use strm_module::Plain;
+use strm_msg::End::{A, B};
 
-/// Pushes a module with this serial, and says what was answered and the serial of what came back.
-fn push(
-    rt: &impl Abort,
-    stream: &mut Stream<Plain>,
-    end: End,
-    serial: u64,
-    kind: Kind,
-) -> (Answer, Option<u64>) {
-    let shape = Shape::new(serial, b"m", None, None, kind).expect(rt, "a good name");
-    let instance = Instance::new(shape, Plain);
-    let outcome = stream.apply(end, Request::Push { instance });
-    let back = match outcome.back.first() {
-        Some(Some(instance)) => Some(instance.shape().serial),
-        _ => None,
-    };
-    (outcome.answer, back)
+const FIVE: Option<(u32, u32)> = Some((5, 4));
+
+// The head is full, so bbbbb waits in the driver. A module with a read queue is put in, and bbbbb
+// moves into that.
+const BETWEEN: [Row; 7] = [
+    (Call::Write(b"aaaaa"), Want::Wrote(5), 1),
+    (Call::Write(b"bbbbb"), Want::Wrote(5), 0),
+    (Call::Canput(0), Want::No, 0),
+    (Call::Push(Pushes::Pass, b"m", FIVE, None), Want::Done, 1),
+    (Call::Canput(0), Want::Yes, 0),
+    (Call::Nread, Want::Waiting(1, 5), 0),
+    (Call::List, Want::All(&[b"m", b"echo"]), 0),
+];
+
+#[test]
+fn what_waits_moves_into_a_new_module(rt: HostRuntime) {
+    play_all(&rt, rt.alloc(), (5, 4), &BETWEEN);
 }
+
+const EIGHT: [&[u8]; 8] = [b"m1", b"m2", b"m3", b"m4", b"m5", b"m6", b"m7", b"m8"];
+
+/// A new echo whose head and driver have these marks, with eight modules, each with a queue on either
+/// side that is full at 5 bytes.
+fn eight(rt: &impl Abort, alloc: Global, marks: (u32, u32)) -> Stream<Plain> {
+    let mut stream = echo(rt, alloc, marks);
+    for (at, name) in EIGHT.iter().enumerate() {
+        let push = Call::Push(Pushes::Pass, name, FIVE, FIVE);
+        play(rt, alloc, &mut stream, (push, Want::Done, 0), at);
+    }
+    stream
+}
+
+// When the head's message is taken each of the others moves by one.
+const DEEP: [Row; 3] = [
+    (Call::Write(b"aaaaa"), AGAIN, 0),
+    (
+        GET,
+        Want::Got(None, Some(b"aaaaa"), Priority::Norm, More::Nothing),
+        17,
+    ),
+    (Call::Write(b"aaaaa"), Want::Wrote(5), 0),
+];
+
+// Each of 18 queues holds one message: eight on the way down, the driver's, eight on the way up and
+// the head's. The first message moves 17 times to the head, the next stays one before it, and so on.
+#[test]
+fn eighteen_queues_hold_a_message_each(rt: HostRuntime) {
+    let alloc: Global = rt.alloc();
+    let mut stream = eight(&rt, alloc, (5, 4));
+    for at in 0..18usize {
+        let moves = 17_usize.saturating_sub(at);
+        let row = (Call::Write(b"aaaaa"), Want::Wrote(5), moves);
+        play(&rt, alloc, &mut stream, row, at);
+    }
+    for (at, row) in DEEP.iter().enumerate() {
+        play(&rt, alloc, &mut stream, *row, at);
+    }
+}
+
+const NONE: [Row; 3] = [
+    (Call::Pop, INVALID, 0),
+    (Call::Look, INVALID, 0),
+    (Call::List, Want::All(&[b"echo"]), 0),
+];
+
+#[test]
+fn no_module_stands_on_a_new_stream(rt: HostRuntime) {
+    play_all(&rt, rt.alloc(), (16, 4), &NONE);
+}
+
+// The ninth comes back, which each play looks at.
+const NINTH: [Row; 3] = [
+    (Call::Push(Pushes::Pass, b"m9", FIVE, FIVE), INVALID, 0),
+    (Call::Look, Want::Named(b"m8"), 0),
+    (
+        Call::List,
+        Want::All(&[
+            b"m8", b"m7", b"m6", b"m5", b"m4", b"m3", b"m2", b"m1", b"echo",
+        ]),
+        0,
+    ),
+];
 
 #[test]
 fn a_ninth_module_comes_back(rt: HostRuntime) {
     let alloc: Global = rt.alloc();
-    let mut stream = echo(&rt, alloc, (16, 4));
-    for serial in 1..9u64 {
-        let (answer, back) = push(&rt, &mut stream, End::A, serial, Kind::Pass);
-        assert!(rt; answer == Answer::Done(Reply::Push));
-        assert!(rt; back.is_none());
+    let mut stream = eight(&rt, alloc, (16, 4));
+    for (at, row) in NINTH.iter().enumerate() {
+        play(&rt, alloc, &mut stream, *row, at);
     }
-    let (answer, back) = push(&rt, &mut stream, End::A, 9, Kind::Pass);
-    assert!(rt; answer == Answer::Refused(Refusal::Invalid));
-    assert!(rt; back == Some(9));
 }
 
 #[test]
 fn an_echo_has_no_far_end(rt: HostRuntime) {
     let alloc: Global = rt.alloc();
     let mut stream = echo(&rt, alloc, (16, 4));
-    let (answer, back) = push(&rt, &mut stream, End::B, 7, Kind::Pass);
-    assert!(rt; answer == Answer::Refused(Refusal::Closed));
-    assert!(rt; back == Some(7));
+    let push = Call::Push(Pushes::Pass, b"m", None, None);
+    play_at(&rt, alloc, &mut stream, (B, push, CLOSED, 0), 7);
 }
 
-// A tee sends a copy up, and the message on to the driver, which sends it up again.
+const BOTH_WAYS: [EndRow; 5] = [
+    (A, Call::Push(Pushes::CrNl, b"c", None, None), Want::Done, 0),
+    (A, Call::Write(b"a\nb"), Want::Wrote(3), 1),
+    (B, Call::Read(16), Want::Bytes(b"a\r\nb"), 0),
+    (B, Call::Write(b"a\r\nb\r"), Want::Wrote(5), 1),
+    (A, Call::Read(16), Want::Bytes(b"a\nb\r"), 0),
+];
+
 #[test]
-fn a_module_has_what_is_sent(rt: HostRuntime) {
-    let alloc: Global = rt.alloc();
-    let mut stream = echo(&rt, alloc, (16, 4));
-    let (answer, _) = push(&rt, &mut stream, End::A, 1, Kind::Tee);
-    assert!(rt; answer == Answer::Done(Reply::Push));
-    play(
-        &rt,
-        alloc,
-        &mut stream,
-        (Call::Write(b"x"), Want::Wrote(1), 1),
+fn a_module_has_what_is_sent_both_ways(rt: HostRuntime) {
+    play_loop(&rt, rt.alloc(), (16, 4), &BOTH_WAYS);
+}
+
+// A tee sends a copy up, and the message on to the driver, which sends it up again. A name of no byte
+// or of nine is not one.
+const KINDS: [Row; 18] = [
+    (Call::Push(Pushes::Tee, b"t", None, None), Want::Done, 0),
+    (Call::Write(b"x"), Want::Wrote(1), 1),
+    (Call::Read(8), Want::Bytes(b"xx"), 0),
+    (Call::Pop, Want::Named(b"t"), 0),
+    (Call::Push(Pushes::Mute, b"u", None, None), Want::Done, 0),
+    (Call::Write(b"x"), Want::Wrote(1), 0),
+    (Call::Read(8), AGAIN, 0),
+    (Call::Pop, Want::Named(b"u"), 0),
+    (Call::Push(Pushes::Band(7), b"v", None, None), Want::Done, 0),
+    (Call::Write(b"x"), Want::Wrote(1), 1),
+    (
+        Call::Getpmsg(Some(8), Some(8), 0, GetFlag::Any),
+        Want::GotOf(None, Some(b"x"), Received::Band { band: 7 }, More::Nothing),
         0,
-    );
-    play(
-        &rt,
-        alloc,
-        &mut stream,
-        (Call::Read(8), Want::Bytes(b"xx"), 0),
-        1,
-    );
+    ),
+    (
+        Call::Push(
+            Pushes::Table(&[(b'a', b'A'), (b'b', b'B')]),
+            b"w",
+            None,
+            None,
+        ),
+        Want::Done,
+        0,
+    ),
+    (Call::Str(3, Some(b"cab")), Want::Acked(3, Some(b"cAB")), 0),
+    (Call::Find(b"v"), Want::Yes, 0),
+    (Call::Find(b"t"), Want::No, 0),
+    (Call::Find(b"echo"), Want::No, 0),
+    (Call::Find(b""), INVALID, 0),
+    (Call::Find(b"vvvvvvvvv"), INVALID, 0),
+];
+
+#[test]
+fn each_kind_does_its_work(rt: HostRuntime) {
+    play_all(&rt, rt.alloc(), (16, 4), &KINDS);
+}
+
+// What waits in a module goes with it. What waits in the driver stays until the head has drained.
+const POPPED: [Row; 7] = [
+    (Call::Push(Pushes::Pass, b"m", FIVE, None), Want::Done, 0),
+    (Call::Write(b"aaaaa"), Want::Wrote(5), 2),
+    (Call::Write(b"bbbbb"), Want::Wrote(5), 1),
+    (Call::Write(b"ccccc"), Want::Wrote(5), 0),
+    (Call::Pop, Want::Named(b"m"), 0),
+    (Call::Read(1), Want::Bytes(b"a"), 1),
+    (Call::Nread, Want::Waiting(2, 4), 0),
+];
+
+#[test]
+fn what_waits_in_a_popped_module_is_dropped(rt: HostRuntime) {
+    play_all(&rt, rt.alloc(), (5, 4), &POPPED);
 }

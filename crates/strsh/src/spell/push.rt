@@ -1,4 +1,5 @@
 //! Modules that are pushed.
+use crate::spell::name::NameText;
 use crate::spell::part::ByteText;
 use std::fmt;
 use strm_module::{Kind, Shape};
@@ -11,7 +12,7 @@ pub struct Pushed<'a>(pub &'a Shape);
 impl fmt::Display for Pushed<'_> {
     fn fmt<W: fmt::Write>(&self, f: &mut fmt::Formatter<W>) -> fmt::Result {
         let shape = self.0;
-        let (kind, name) = (kind_word(&shape.kind), Name(shape.name.as_slice()));
+        let (kind, name) = (kind_word(&shape.kind), NameText(shape.name.as_slice()));
         let (rd, wr) = (QueueMarks(shape.rd), QueueMarks(shape.wr));
         write!(f, "{kind} {name} {rd} {wr}")?;
         match &shape.kind {
@@ -37,19 +38,6 @@ fn kind_word(kind: &Kind) -> &'static str {
         Kind::Band { .. } => "band",
         Kind::Tee => "tee",
         Kind::Mute => "mute",
-    }
-}
-
-/// The name of a module: its bytes.
-#[derive(Drop)]
-struct Name<'a>(&'a [u8]);
-
-impl fmt::Display for Name<'_> {
-    fn fmt<W: fmt::Write>(&self, f: &mut fmt::Formatter<W>) -> fmt::Result {
-        for byte in self.0 {
-            write!(f, "{}", *byte as char)?;
-        }
-        Ok(())
     }
 }
 

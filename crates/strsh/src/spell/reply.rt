@@ -1,8 +1,9 @@
 //! What is answered.
+use crate::spell::name::{EachBehindSpace, NameText, Names};
 use crate::spell::part::{Filled, Part};
 use crate::spell::words::{bit_word, mode_word, more_word, priority_word, prot_word};
 use std::fmt;
-use strm_call::{Answer, Peeked, Received, Reply};
+use strm_call::{Acknowledged, Answer, Peeked, Received, Reply};
 
 /// What an answer says: the reply, or the name of the refusal.
 #[derive(Drop)]
@@ -28,6 +29,7 @@ impl fmt::Display for Said<'_> {
             Reply::Putmsg | Reply::Putpmsg | Reply::Push | Reply::SetRead | Reply::Line => {
                 f.write_str("0")
             }
+            Reply::Flush | Reply::FlushBand => f.write_str("0"),
             Reply::Getmsg {
                 ctl,
                 dat,
@@ -56,6 +58,12 @@ impl fmt::Display for Said<'_> {
             Reply::Canput { can } => f.write_str(bit_word(*can)),
             Reply::Ckband { waits } => f.write_str(bit_word(*waits)),
             Reply::Getband { band } => write!(f, "{band}"),
+            Reply::Pop { name } => write!(f, "popped {}", NameText(name.as_slice())),
+            Reply::Look { name } => write!(f, "{}", NameText(name.as_slice())),
+            Reply::List { names } => write!(f, "{}", Names(names.as_slice())),
+            Reply::Find { found } => f.write_str(bit_word(*found)),
+            Reply::Str { answer } => write!(f, "{}", Became(answer)),
+            Reply::Close { names } => write!(f, "closed{}", EachBehindSpace(names.as_slice())),
         }
     }
 }
@@ -84,5 +92,19 @@ impl fmt::Display for Seen<'_> {
         };
         let (ctl, dat) = (Part(&peeked.ctl), Part(&peeked.dat));
         write!(f, "{ctl} {dat} {}", priority_word(peeked.flag))
+    }
+}
+
+/// What became of an ioctl: the value and the data that it gave, `nak` and the errno, or `ETIME`.
+#[derive(Drop)]
+struct Became<'a>(&'a Acknowledged);
+
+impl fmt::Display for Became<'_> {
+    fn fmt<W: fmt::Write>(&self, f: &mut fmt::Formatter<W>) -> fmt::Result {
+        match self.0 {
+            Acknowledged::Ack { rval, dat } => write!(f, "{rval} {}", Part(dat)),
+            Acknowledged::Nak { errno } => write!(f, "nak {errno}"),
+            Acknowledged::Timeout => f.write_str("ETIME"),
+        }
     }
 }

@@ -1,7 +1,9 @@
 //! What is asked of a stream.
 use crate::spell::part::{Filled, Most, Part};
 use crate::spell::push::Pushed;
-use crate::spell::words::{get_word, mode_word, priority_word, prot_word, put_word, wanted_word};
+use crate::spell::words::{
+    flush_word, get_word, mode_word, priority_word, prot_word, put_word, wanted_word,
+};
 use std::fmt;
 use strm_call::Request;
 use strm_module::Shape;
@@ -23,6 +25,14 @@ pub fn verb(request: &Request<Shape>) -> &'static str {
         Request::Canput { .. } => "canput",
         Request::Ckband { .. } => "ckband",
         Request::Getband => "getband",
+        Request::Pop => "pop",
+        Request::Look => "look",
+        Request::List => "list",
+        Request::Find { .. } => "find",
+        Request::Str { .. } => "str",
+        Request::Flush { .. } => "flush",
+        Request::FlushBand { .. } => "flushband",
+        Request::Close => "close",
     }
 }
 
@@ -56,7 +66,12 @@ impl fmt::Display for Fields<'_> {
                 write!(f, " {} {}", mode_word(*mode), prot_word(*prot))
             }
             Request::Canput { band } | Request::Ckband { band } => write!(f, " {band}"),
+            Request::Find { name } => write!(f, " {}", Filled(name)),
+            Request::Str { cmd, dat } => write!(f, " {cmd} {}", Part(dat)),
+            Request::Flush { r, w } => write!(f, " {}", flush_word(*r, *w)),
+            Request::FlushBand { band, r, w } => write!(f, " {band} {}", flush_word(*r, *w)),
             Request::Nread | Request::GetRead | Request::Getband => Ok(()),
+            Request::Pop | Request::Look | Request::List | Request::Close => Ok(()),
         }
     }
 }

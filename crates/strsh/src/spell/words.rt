@@ -1,4 +1,4 @@
-//! The words for ends, flags, modes and what stays.
+//! The words for ends, flags, modes, sides and what stays.
 use strm_call::{GetFlag, More, Priority, PutFlag, Wanted};
 use strm_msg::{End, Prot, ReadMode};
 
@@ -70,6 +70,16 @@ pub fn prot_word(prot: Prot) -> &'static str {
         Prot::Norm => "norm",
         Prot::Dat => "dat",
         Prot::Dis => "dis",
+    }
+}
+
+/// The word for the sides that a flush is for.
+pub fn flush_word(r: bool, w: bool) -> &'static str {
+    match (r, w) {
+        (true, true) => "rw",
+        (true, false) => "r",
+        (false, true) => "w",
+        (false, false) => "none",
     }
 }
 

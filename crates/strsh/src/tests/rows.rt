@@ -4,11 +4,12 @@ use arrayvec::ArrayVec;
 use std::alloc::Global;
 use std::process::Abort;
 use strm_call::{
-    Answer, GetFlag, More, Peeked, Priority, PutFlag, Received, Refusal, Reply, Request, Wanted,
+    Acknowledged, Answer, GetFlag, More, Name, Peeked, Priority, PutFlag, Received, Refusal, Reply,
+    Request, Wanted,
 };
 use strm_head::{Entry, Event, Moves};
 use strm_module::{Kind, Shape};
-use strm_msg::{Bytes, End, Prot, ReadMode};
+use strm_msg::{Bytes, End, Errno, Prot, ReadMode};
 
 /// A part, if there is one.
 pub type Part = Option<&'static [u8]>;
@@ -30,6 +31,15 @@ pub enum Ask {
     Canput(u8),
     Ckband(u8),
     Getband,
+    Pop,
+    Look,
+    List,
+    Find(&'static [u8]),
+    Str(u32, Part),
+    /// Whether read queues are flushed, and whether write queues are.
+    Flush(bool, bool),
+    FlushBand(u8, bool, bool),
+    Close,
 }
 
 /// A kind of module, written out.
@@ -65,6 +75,16 @@ pub enum Say {
     Canput(bool),
     Ckband(bool),
     Getband(u64),
+    Pop(&'static [u8]),
+    Look(&'static [u8]),
+    List(&'static [&'static [u8]]),
+    Find(bool),
+    Ack(u64, Part),
+    Nak(Errno),
+    Timeout,
+    Flush,
+    FlushBand,
+    Close(&'static [&'static [u8]]),
     Line,
     Refused(Refusal),
     Broke,
@@ -82,6 +102,18 @@ fn part(rt: &impl Abort, alloc: Global, part: Part) -> Option<Bytes> {
         Some(part) => Some(bytes(rt, alloc, part)),
         None => None,
     }
+}
+
+fn name(rt: &impl Abort, bytes: &[u8]) -> Name {
+    ArrayVec::try_from(bytes).expect(rt, "a short name")
+}
+
+fn names<const N: usize>(rt: &impl Abort, names: &[&[u8]]) -> ArrayVec<Name, N> {
+    let mut all = ArrayVec::new();
+    for bytes in names {
+        all.try_push(name(rt, bytes)).expect(rt, "few names");
+    }
+    all
 }
 
 /// The map that changes these bytes.
@@ -169,6 +201,19 @@ fn request(rt: &impl Abort, alloc: Global, ask: Ask) -> Request<Shape> {
         Ask::Canput(band) => Request::Canput { band },
         Ask::Ckband(band) => Request::Ckband { band },
         Ask::Getband => Request::Getband,
+        Ask::Pop => Request::Pop,
+        Ask::Look => Request::Look,
+        Ask::List => Request::List,
+        Ask::Find(name) => Request::Find {
+            name: bytes(rt, alloc, name),
+        },
+        Ask::Str(cmd, dat) => Request::Str {
+            cmd,
+            dat: part(rt, alloc, dat),
+        },
+        Ask::Flush(r, w) => Request::Flush { r, w },
+        Ask::FlushBand(band, r, w) => Request::FlushBand { band, r, w },
+        Ask::Close => Request::Close,
     }
 }
 
@@ -191,6 +236,10 @@ fn took(
         flag,
         more,
     }
+}
+
+fn acknowledged(answer: Acknowledged) -> Reply {
+    Reply::Str { answer }
 }
 
 fn answer(rt: &impl Abort, alloc: Global, say: Say) -> Answer {
@@ -222,6 +271,27 @@ fn answer(rt: &impl Abort, alloc: Global, say: Say) -> Answer {
         Say::Canput(can) => Reply::Canput { can },
         Say::Ckband(waits) => Reply::Ckband { waits },
         Say::Getband(band) => Reply::Getband { band },
+        Say::Pop(bytes) => Reply::Pop {
+            name: name(rt, bytes),
+        },
+        Say::Look(bytes) => Reply::Look {
+            name: name(rt, bytes),
+        },
+        Say::List(all) => Reply::List {
+            names: names(rt, all),
+        },
+        Say::Find(found) => Reply::Find { found },
+        Say::Ack(rval, dat) => acknowledged(Acknowledged::Ack {
+            rval,
+            dat: part(rt, alloc, dat),
+        }),
+        Say::Nak(errno) => acknowledged(Acknowledged::Nak { errno }),
+        Say::Timeout => acknowledged(Acknowledged::Timeout),
+        Say::Flush => Reply::Flush,
+        Say::FlushBand => Reply::FlushBand,
+        Say::Close(all) => Reply::Close {
+            names: names(rt, all),
+        },
         Say::Line => Reply::Line,
         Say::Refused(refusal) => return Answer::Refused(refusal),
         Say::Broke => return Answer::Broke,

@@ -6,6 +6,6 @@ use Rattle.strm_head.proofs.history.noted_all.Given as goal
 abbrev pub invariant-loop-end : goal.invariant-loop-end
 invariant-loop-end g l = record {
   all : l.all.items ≡ l.yielded;
-  rest : l.yielded ++ into_iter_items l.end-iterator ≡ l.fn.calls.items;
+  rest : l.yielded ++ into_iter_items l.end-iterator ≡ l.fn.events.items;
   left : into_iter_len l.end-iterator ≡ length (into_iter_items l.end-iterator);
 }

@@ -1,0 +1,18 @@
+use Rattle.strm_head.specs.Begin.{out_of}
+use Rattle.strm_head.proofs.KeptLemmas.{answered_kept}
+use Rattle.strm_head.proofs.HistoryLemmas.{call_plays}
+use Rattle.strm_head.proofs.stream.Stream.play_call.Goals as goal
+
+pub invariant_of-self : goal.invariant_of-self
+invariant_of-self g c =
+    let image = c.self.inside.chain.image in
+    let means = g.M.Kind.Kinds.means in
+    answered_kept means image c.args.end c.args.request c.answer-answered.result.answer c.answer-answered.result.moves (out_of means image c.args.end c.args.request c.answer-answered.result.answer) c.answer-answered.new.chain.image c.self.invariant c.answer-answered.ensures.answers
+
+pub returns-clause-plays : goal.returns-clause-plays
+returns-clause-plays g c =
+    let image = c.self.inside.chain.image in
+    let means = g.M.Kind.Kinds.means in
+    let out = rw c.into_parts-answer.ensures.answer at c.taken_out-out.ensures in
+    rw (← c.self.view_is, c.into_parts-answer.ensures.answer, c.into_parts-answer.ensures.moves)
+    (call_plays means image c.args.end c.args.request c.args.copy c.answer-answered.result.answer c.answer-answered.result.moves c.taken_out-out.result.items c.answer-answered.new.back.items c.answer-answered.new.chain.image c.requires out c.answer-answered.ensures.back c.answer-answered.ensures.answers)

@@ -1,0 +1,85 @@
+//! A message that comes in from a line.
+ghost use Rattle.std.specs.Prelude.{◌≡◌, true, false, OnOk, IfErr};
+ghost use Rattle.strm_msg.specs.Kind.{is_high, is_from_line};
+ghost use Rattle.strm_msg.specs.declared.words.End.TheVariants as Ends;
+ghost use Rattle.strm_head.specs.Step.{can_arrive, arrived_of};
+ghost use Rattle.strm_head.specs.Arrive.{Arrives, NotIn};
+ghost use Rattle.strm_head.specs.Inside.{IsKept};
+
+use crate::outcome::Arrived;
+use strm_call::deliver;
+use strm_chain::{Chain, ChainFault, Driver, Spot};
+use strm_module::ModuleOf;
+use strm_msg::{End, Message};
+
+/// Whether a message can come in.
+fn can_arrive<M: ModuleOf>(chain: &Chain<M>, m: &Message) -> bool
+    ensures { result ≡ can_arrive chain.now.image Ends.A m.now }
+{
+    if chain.driver() != Driver::Line || !m.from_line() {
+        return false;
+    }
+    if !chain.is_open(End::A) || chain.is_broken() {
+        return false;
+    }
+    m.is_high() || !chain.line_full(m.band)
+}
+
+/// A high message goes up at once. Where memory is wanting before a change it comes back.
+fn send_up<M: ModuleOf>(chain: &mut Chain<M>, m: Message) -> Result<(), Arrived>
+    requires can { can_arrive chain.old.image Ends.A m ≡ true }
+    requires high { is_high m.kind ≡ true }
+    ensures image { OnOk result (chain.new.image ≡ arrived_of M.Kind.means chain.old.image Ends.A m) }
+    ensures err { IfErr result (λ arrived. NotIn M.Kind.means chain.old.image m arrived chain.new.image) }
+{
+    let i = chain.count(End::A) as u8;
+    let copy = match m.copy(chain.alloc()) {
+        Ok(copy) => copy,
+        Err(_) => return Err(Arrived::NoMem(m)),
+    };
+    match deliver(chain, Spot::Up { end: End::A, i }, copy) {
+        Ok(()) => Ok(()),
+        Err(ChainFault::NoMem) => Err(Arrived::NoMem(m)),
+        Err(ChainFault::Broken) => Err(Arrived::Broke),
+    }
+}
+
+/// A message that can come in does so: an ordinary one waits in the line's list, a high one goes up.
+fn take_in<M: ModuleOf>(chain: &mut Chain<M>, m: Message) -> Result<(), Arrived>
+    requires can { can_arrive chain.old.image Ends.A m ≡ true }
+    ensures image { OnOk result (chain.new.image ≡ arrived_of M.Kind.means chain.old.image Ends.A m) }
+    ensures err { IfErr result (λ arrived. NotIn M.Kind.means chain.old.image m arrived chain.new.image) }
+{
+    if m.is_high() {
+        return send_up(chain, m);
+    }
+    match chain.line_put(m) {
+        Ok(()) => Ok(()),
+        Err(m) => Err(Arrived::NoMem(m)),
+    }
+}
+
+/// A message comes in from a line, and what must move moves.
+pub(crate) fn arrive<M: ModuleOf>(chain: &mut Chain<M>, m: Message) -> Arrived
+    requires line { is_from_line m.kind ≡ true }
+    requires kept { IsKept chain.old.image }
+    ensures { Arrives M.Kind.means chain.old.image m result chain.new.image }
+{
+    if !can_arrive(chain, &m) {
+        return Arrived::Full(m);
+    }
+    match take_in(chain, m) {
+        Ok(()) => {}
+        Err(arrived) => return arrived,
+    }
+    match chain.settle() {
+        Ok(settled) => Arrived::Taken {
+            moves: settled.moves,
+            looks: settled.looks,
+        },
+        Err(_) => {
+            chain.break_off();
+            Arrived::Broke
+        }
+    }
+}

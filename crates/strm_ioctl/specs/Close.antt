@@ -1,0 +1,39 @@
+-- An end is closed (close(2); Programmer's Guide: STREAMS, "Loop-Around Driver").
+use Rattle.std.specs.Prelude.{Bool, true, false}
+use Rattle.strm_msg.specs.Message.{bare}
+use Rattle.strm_msg.specs.declared.kind.MsgKind.TheVariants.{MHangup}
+use Rattle.strm_msg.specs.declared.words.End.{End}
+use Rattle.strm_module.specs.Kinds.{Meaning}
+use Rattle.strm_qpair.specs.End.{shapes_of}
+use Rattle.strm_qpair.specs.Change.{closed}
+use Rattle.strm_chain.specs.declared.place.Spot.TheVariants.{Up}
+use Rattle.strm_chain.specs.Image.{Image, end_of, with_end, partner, count_of}
+use Rattle.strm_chain.specs.Deliver.{deliver}
+use Rattle.strm_call.specs.declared.answer.Reply.TheVariants as Reply
+use Rattle.strm_call.specs.Begun.{Begun, begun_without}
+use Rattle.strm_ioctl.specs.Names.{names_of}
+
+-- the modules are gone, with what their queues hold and what the head's list holds; the driver's list stays
+abbrev pub closed_image : {K : Type 0} → Image K → End → Image K
+closed_image image e = with_end image e (closed (end_of image e))
+
+-- for kinds of any meaning
+module _ {K : Type 0} (means : Meaning K) where
+  -- a hangup goes up from the driver to an end
+  abbrev pub hung_up_if : Bool → Image K → End → Image K
+  hung_up_if false image e = image
+  hung_up_if true image e = deliver means image (Up e (count_of image e)) (bare MHangup)
+
+  -- unless the end is closed
+  abbrev pub hung_up : Image K → End → Image K
+  hung_up image e = hung_up_if (end_of image e).is_open image e
+
+  -- what stands at the other end of a loop is hung up; an echo and a line have no end but the one that was closed. On a
+  -- broken stream nothing follows
+  abbrev pub after_close : Bool → Image K → End → Image K
+  after_close true image e = image
+  after_close false image e = hung_up image (partner image.driver e)
+
+  abbrev pub close_begun : Image K → End → Begun K
+  close_begun image e =
+      begun_without (after_close image.broken (closed_image image e) e) (Reply.Close (record { items = names_of (end_of image e) })) (shapes_of (end_of image e))

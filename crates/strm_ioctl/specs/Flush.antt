@@ -1,0 +1,32 @@
+-- Flushes are sent down (streamio(7): I_FLUSH, I_FLUSHBAND).
+use Rattle.std.specs.Prelude.{ℕ, ◌||◌, not, Bool, Option, None, Some}
+use Rattle.std.specs.Option.{option_or}
+use Rattle.strm_msg.specs.Message.{bare}
+use Rattle.strm_msg.specs.declared.kind.MsgKind.TheVariants.{MFlush}
+use Rattle.strm_msg.specs.declared.words.End.{End}
+use Rattle.strm_module.specs.Kinds.{Meaning}
+use Rattle.strm_chain.specs.declared.place.Spot.TheVariants.{Down}
+use Rattle.strm_chain.specs.Image.{Image, end_of}
+use Rattle.strm_chain.specs.Deliver.{deliver}
+use Rattle.strm_call.specs.declared.refusal.Refusal.{Refusal}
+use Rattle.strm_call.specs.declared.refusal.Refusal.TheVariants.{Invalid, HungUp}
+use Rattle.strm_call.specs.declared.answer.Reply.TheVariants as Reply
+use Rattle.strm_call.specs.Refusal.{refused_if}
+use Rattle.strm_call.specs.Begun.{Begun, begun}
+
+-- read queues, write queues or both are to be flushed
+abbrev pub flush_refusal : {K : Type 0} → Image K → End → Bool → Bool → Option Refusal
+flush_refusal image e r w =
+    option_or (refused_if (not (r || w)) Invalid) (refused_if (end_of image e).state.hung HungUp)
+
+-- for kinds of any meaning
+module _ {K : Type 0} (means : Meaning K) where
+  -- a flush goes down from the head, of all bands or of one
+  abbrev pub flushed_of : Image K → End → Bool → Bool → Option ℕ → Image K
+  flushed_of image e r w band = deliver means image (Down e 1) (bare (MFlush r w band))
+
+  abbrev pub flush_begun : Image K → End → Bool → Bool → Begun K
+  flush_begun image e r w = begun (flushed_of image e r w None) Reply.Flush
+
+  abbrev pub flush_band_begun : Image K → End → ℕ → Bool → Bool → Begun K
+  flush_band_begun image e band r w = begun (flushed_of image e r w (Some band)) Reply.FlushBand

@@ -1,0 +1,33 @@
+-- An ioctl of a program's own is sent down, and its answer is awaited (streamio(7), I_STR).
+use Rattle.std.specs.Prelude.{ℕ, nat_lt, Option, None, Some, is_none}
+use Rattle.std.specs.Option.{option_or}
+use Rattle.strm_msg.specs.Message.{Part, part_len, ioctl_msg}
+use Rattle.strm_msg.specs.declared.words.End.{End}
+use Rattle.strm_module.specs.Kinds.{Meaning}
+use Rattle.strm_qpair.specs.Change.{begun_with}
+use Rattle.strm_chain.specs.declared.place.Spot.TheVariants.{Down}
+use Rattle.strm_chain.specs.Image.{Image, end_of, with_state}
+use Rattle.strm_chain.specs.Deliver.{deliver}
+use Rattle.strm_call.specs.declared.request.TheConstants.{MAX_DATA}
+use Rattle.strm_call.specs.declared.refusal.Refusal.{Refusal}
+use Rattle.strm_call.specs.declared.refusal.Refusal.TheVariants.{Invalid, HungUp, WouldWait}
+use Rattle.strm_call.specs.Refusal.{refused_if}
+use Rattle.strm_call.specs.Begun.{Begun, begun_ioctl}
+
+-- the data is not too long, the end is not hung up, and an id is left
+abbrev pub str_refusal : {K : Type 0} → Image K → End → Part → Option Refusal
+str_refusal image e dat =
+    let state = (end_of image e).state in
+    option_or (refused_if (nat_lt MAX_DATA (part_len dat)) Invalid) (option_or (refused_if state.hung HungUp) (refused_if (is_none state.next) WouldWait))
+
+-- for kinds of any meaning
+module _ {K : Type 0} (means : Meaning K) where
+  -- an ioctl of an id goes down from the head, which awaits its answer
+  abbrev pub asked_of : Image K → End → ℕ → Part → Option ℕ → Image K
+  asked_of image e cmd dat None = image
+  asked_of image e cmd dat (Some id) =
+      deliver means (with_state image e (begun_with (end_of image e).state (Some id))) (Down e 1) (ioctl_msg id cmd dat)
+
+  -- the next id is taken
+  abbrev pub str_begun : Image K → End → ℕ → Part → Begun K
+  str_begun image e cmd dat = begun_ioctl (asked_of image e cmd dat (end_of image e).state.next)

@@ -1,0 +1,42 @@
+-- The names of what stands on an end (streamio(7): I_LIST, I_FIND).
+use Rattle.std.specs.Prelude.{ℕ, ◌&&◌, not, nat_le, Bool, Option, List, [], ◌∷◌, ◌++◌, length, map, codes}
+use Rattle.std.specs.List.{list_any}
+use Rattle.std.specs.Str.{bytes_eq}
+use Rattle.arrayvec.specs.ArrayVec.{ArrayVec}
+use Rattle.strm_msg.specs.declared.words.End.{End}
+use Rattle.strm_module.specs.declared.shape.TheConstants.{LONGEST_NAME}
+use Rattle.strm_qpair.specs.End.{EndState}
+use Rattle.strm_qpair.specs.declared.driver.Driver.{Driver}
+use Rattle.strm_qpair.specs.declared.driver.Driver.TheVariants.{Echo, Loop, Line}
+use Rattle.strm_chain.specs.Image.{Image, end_of}
+use Rattle.strm_call.specs.declared.refusal.Refusal.{Refusal}
+use Rattle.strm_call.specs.declared.refusal.Refusal.TheVariants.{Invalid}
+use Rattle.strm_call.specs.declared.answer.Reply.TheVariants as Reply
+use Rattle.strm_call.specs.Refusal.{refused_if}
+use Rattle.strm_call.specs.Begun.{Begun, begun}
+
+-- the names of the modules, topmost first
+abbrev pub names_of : {K : Type 0} → EndState K → List (ArrayVec ℕ)
+names_of e = map (λ s. s.shape.name) e.modules
+
+abbrev pub driver_name : Driver → ArrayVec ℕ
+driver_name Echo = record { items = codes "echo" }
+driver_name Loop = record { items = codes "loop" }
+driver_name Line = record { items = codes "line" }
+
+-- the driver is the last
+abbrev pub list_begun : {K : Type 0} → Image K → End → Begun K
+list_begun image e =
+    begun image (Reply.List (record { items = names_of (end_of image e) ++ driver_name image.driver ∷ [] }))
+
+-- a name has 1 to 8 bytes
+abbrev pub find_refusal : List ℕ → Option Refusal
+find_refusal name = refused_if (not (nat_le 1 (length name) && nat_le (length name) LONGEST_NAME)) Invalid
+
+abbrev pub has_name : ArrayVec ℕ → List ℕ → Bool
+has_name module_name name = bytes_eq module_name.items name
+
+-- the driver is no module
+abbrev pub find_begun : {K : Type 0} → Image K → End → List ℕ → Begun K
+find_begun image e name =
+    begun image (Reply.Find (list_any (λ n. has_name n name) (names_of (end_of image e))))

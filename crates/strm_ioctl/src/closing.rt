@@ -1,0 +1,87 @@
+//! An end is closed.
+ghost use Rattle.std.specs.Prelude.{◌≡◌, true, false, map, Some, OnOk, OnErr, IfOk, IfErr};
+ghost use Rattle.strm_msg.specs.declared.words.End.{End};
+ghost use Rattle.strm_chain.specs.declared.fault.ChainFault.TheVariants as ChainFaults;
+ghost use Rattle.strm_chain.specs.Fault.{Breaks};
+ghost use Rattle.strm_chain.specs.Image.{end_of, has_end, partner};
+ghost use Rattle.strm_call.specs.Begun.{Fails};
+ghost use Rattle.strm_ioctl.specs.Close.{hung_up, after_close, close_begun};
+
+use crate::names::names_of;
+use arrayvec::ArrayVec;
+use strm_call::{Reply, deliver};
+use strm_chain::{Chain, ChainFault, Driver, MOST_MODULES, Spot};
+use strm_module::{Instance, ModuleOf};
+use strm_msg::{End, Message};
+
+/// The end to which the hangup goes when an end is closed.
+fn partner_of(driver: Driver, end: End) -> End
+    ensures { result ≡ partner driver end }
+{
+    match (driver, end) {
+        (Driver::Loop, End::A) => End::B,
+        (Driver::Loop, End::B) => End::A,
+        _ => end,
+    }
+}
+
+/// Sends a hangup up from the driver, to the head of an end, unless that is closed.
+fn hang_up<M: ModuleOf>(chain: &mut Chain<M>, end: End) -> Result<(), ChainFault>
+    requires there { (end_of chain.old.image end).is_open ≡ true → has_end chain.old.image.driver end ≡ true }
+    requires whole { chain.old.image.broken ≡ false }
+    ensures image { OnOk result (chain.new.image ≡ hung_up M.Kind.means chain.old.image end) }
+    ensures failed { IfErr result (λ fault. Fails fault chain.old.image (hung_up M.Kind.means chain.old.image end) chain.new.image) }
+{
+    if !chain.is_open(end) {
+        return Ok(());
+    }
+    let i = chain.count(end) as u8;
+    deliver(chain, Spot::Up { end, i }, Message::of_hangup())
+}
+
+/// Hangs the other end of a loop up after an end was closed, on a chain that is not broken.
+fn after_close<M: ModuleOf>(chain: &mut Chain<M>, end: End) -> Result<(), ChainFault>
+    requires there { (end_of chain.old.image (partner chain.old.image.driver end)).is_open ≡ true → has_end chain.old.image.driver (partner chain.old.image.driver end) ≡ true }
+    ensures image { OnOk result (chain.new.image ≡ after_close M.Kind.means chain.old.image.broken chain.old.image end) }
+    ensures fault { IfErr result (λ fault. fault ≡ ChainFaults.Broken) }
+    ensures broken { OnErr result (Breaks (after_close M.Kind.means chain.old.image.broken chain.old.image end) chain.new.image) }
+    ensures whole { OnErr result (chain.old.image.broken ≡ false) }
+{
+    if chain.is_broken() {
+        return Ok(());
+    }
+    match hang_up(chain, partner_of(chain.driver(), end)) {
+        Ok(()) => Ok(()),
+        Err(ChainFault::NoMem) => {
+            chain.break_off();
+            Err(ChainFault::Broken)
+        }
+        Err(ChainFault::Broken) => Err(ChainFault::Broken),
+    }
+}
+
+/// Takes all modules out, topmost first, drops what their queues and the head's list hold, and closes
+/// the end; then the other end of a loop is hung up. On a broken chain nothing follows (close(2)).
+///
+/// The modules are handed out in `back`, each as `Some`, and the end is closed, also where memory is
+/// wanting for the hangup: then the chain breaks. Nothing else is refused.
+pub fn close<M: ModuleOf>(
+    chain: &mut Chain<M>,
+    end: End,
+    back: &mut ArrayVec<Option<Instance<M>>, MOST_MODULES>,
+) -> Result<Reply, ChainFault>
+    requires ends { (e : End) → (end_of chain.old.image e).is_open ≡ true → has_end chain.old.image.driver e ≡ true }
+    ensures back { back.new.items ≡ map (λ s. Some s) (close_begun M.Kind.means chain.old.image end).out }
+    ensures reply { IfOk result (λ reply. reply ≡ (close_begun M.Kind.means chain.old.image end).reply) }
+    ensures image { OnOk result (chain.new.image ≡ (close_begun M.Kind.means chain.old.image end).image) }
+    ensures fault { IfErr result (λ fault. fault ≡ ChainFaults.Broken) }
+    ensures broken { OnErr result (Breaks (close_begun M.Kind.means chain.old.image end).image chain.new.image) }
+    ensures whole { OnErr result (chain.old.image.broken ≡ false) }
+{
+    let names = names_of(chain, end);
+    *back = chain.dismantle(end);
+    match after_close(chain, end) {
+        Ok(()) => Ok(Reply::Close { names }),
+        Err(fault) => Err(fault),
+    }
+}

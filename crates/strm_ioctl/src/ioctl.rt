@@ -1,0 +1,78 @@
+//! An ioctl of a program's own: it is sent down, and its answer comes up.
+ghost use Rattle.std.specs.Prelude.{◌≡◌, true, false, IsNone, IsSome, OnOk, IfErr};
+ghost use Rattle.strm_qpair.specs.Change.{ended};
+ghost use Rattle.strm_chain.specs.Deliver.{is_there};
+ghost use Rattle.strm_chain.specs.Image.{end_of};
+ghost use Rattle.strm_chain.specs.declared.place.Spot.TheVariants as Spots;
+ghost use Rattle.strm_call.specs.Begun.{Fails};
+ghost use Rattle.strm_call.specs.Reply.{acknowledged};
+ghost use Rattle.strm_ioctl.specs.Ioctl.{str_refusal, asked_of};
+
+use strm_call::{Acknowledged, MAX_DATA, Refusal, deliver};
+use strm_chain::{Chain, ChainFault, Spot};
+use strm_module::ModuleOf;
+use strm_msg::{Bytes, End, Message, MsgKind};
+
+/// The first of an ioctl's own refusals that holds: EINVAL for data over its greatest size, ENXIO for
+/// an end that is hung up, and EAGAIN where the greatest id was given out (streamio(7), I_STR).
+pub fn str_refusal<M: ModuleOf>(chain: &Chain<M>, end: End, dat: &Option<Bytes>) -> Option<Refusal>
+    ensures { result ≡ str_refusal chain.now.image end dat.now }
+{
+    let state = chain.state(end);
+    match dat {
+        Some(dat) if dat.len() > MAX_DATA => Some(Refusal::Invalid),
+        _ if state.hung => Some(Refusal::HungUp),
+        _ if state.next.is_none() => Some(Refusal::WouldWait),
+        _ => None,
+    }
+}
+
+/// Takes the next id, whose answer is then awaited, and sends an ioctl of it down (streamio(7),
+/// I_STR).
+///
+/// To be called where the end is there, an id is left, none is awaited and no answer is kept, and the
+/// chain is not broken. Refused for want of memory alone: nothing is changed, or the chain breaks.
+pub fn send_ioctl<M: ModuleOf>(
+    chain: &mut Chain<M>,
+    end: End,
+    cmd: u32,
+    dat: Option<Bytes>,
+) -> Result<(), ChainFault>
+    requires there { is_there chain.old.image (Spots.Down end 1) ≡ true }
+    requires whole { chain.old.image.broken ≡ false }
+    requires next { IsSome (end_of chain.old.image end).state.next }
+    requires idle { IsNone (end_of chain.old.image end).state.pending }
+    requires unanswered { IsNone (end_of chain.old.image end).state.kept }
+    ensures image { OnOk result (chain.new.image ≡ asked_of M.Kind.means chain.old.image end cmd dat (end_of chain.old.image end).state.next) }
+    ensures failed { IfErr result (λ fault. Fails fault chain.old.image (asked_of M.Kind.means chain.old.image end cmd dat (end_of chain.old.image end).state.next) chain.new.image) }
+{
+    let id = chain.begin_ioctl(end).unwrap();
+    let m = Message {
+        kind: MsgKind::MIoctl { id, cmd },
+        band: 0,
+        ctl: None,
+        dat,
+    };
+    match deliver(chain, Spot::top(end), m) {
+        Ok(()) => Ok(()),
+        Err(ChainFault::NoMem) => {
+            chain.undo_ioctl(end);
+            Err(ChainFault::NoMem)
+        }
+        Err(ChainFault::Broken) => Err(ChainFault::Broken),
+    }
+}
+
+/// What became of an ioctl, by the answer that its head has kept (M_IOCACK, M_IOCNAK).
+pub fn acknowledged(kept: Option<Message>) -> Acknowledged
+    ensures { result ≡ acknowledged kept }
+{
+    let Some(m) = kept else {
+        return Acknowledged::Timeout;
+    };
+    match m.kind {
+        MsgKind::MIocack { rval, .. } => Acknowledged::Ack { rval, dat: m.dat },
+        MsgKind::MIocnak { errno, .. } => Acknowledged::Nak { errno },
+        _ => Acknowledged::Timeout,
+    }
+}

@@ -1,0 +1,107 @@
+//! Look, list and find: questions about the modules, which change nothing and take no memory.
+ghost use Rattle.std.specs.Prelude.{◌≡◌, false, ◌≤◌, length};
+ghost use Rattle.std.specs.List.{list_any};
+ghost use Rattle.strm_qpair.specs.declared.end.TheConstants.{MOST_MODULES};
+ghost use Rattle.strm_chain.specs.Image.{end_of};
+ghost use Rattle.strm_ioctl.specs.Ask.{is_empty};
+ghost use Rattle.strm_ioctl.specs.Modules.{look_refusal, look_begun};
+ghost use Rattle.strm_ioctl.specs.Names.{names_of, driver_name, has_name, list_begun, find_refusal, find_begun};
+
+use arrayvec::ArrayVec;
+use strm_call::{MOST_NAMES, Name, Refusal, Reply, copy_name};
+use strm_chain::{Chain, Driver, MOST_MODULES};
+use strm_module::{LONGEST_NAME, ModuleOf};
+use strm_msg::{Bytes, End};
+
+/// The name of a driver.
+fn driver_name(driver: Driver) -> Name
+    ensures { result ≡ driver_name driver }
+{
+    let name: &[u8] = match driver {
+        Driver::Echo => b"echo",
+        Driver::Loop => b"loop",
+        Driver::Line => b"line",
+    };
+    ArrayVec::try_from(name).unwrap()
+}
+
+/// The names of the modules of an end, topmost first. Takes no memory.
+pub(crate) fn names_of<M: ModuleOf, const N: usize>(chain: &Chain<M>, end: End) -> ArrayVec<Name, N>
+    requires { MOST_MODULES ≤ N }
+    ensures names { result.items ≡ names_of (end_of chain.now.image end) }
+    ensures few { length result.items ≤ MOST_MODULES }
+{
+    let mut names = ArrayVec::new();
+    let count = chain.count(end);
+    for i in 0..count {
+        let shape = chain.shape(end, i as u8 + 1).unwrap();
+        names.push(copy_name(&shape.name));
+    }
+    names
+}
+
+/// The refusal of a look's own: EINVAL where no module stands there (streamio(7), I_LOOK).
+pub fn look_refusal<M: ModuleOf>(chain: &Chain<M>, end: End) -> Option<Refusal>
+    ensures { result ≡ look_refusal chain.now.image end }
+{
+    if chain.count(end) == 0 {
+        return Some(Refusal::Invalid);
+    }
+    None
+}
+
+/// Tells the name of the topmost module (streamio(7), I_LOOK). To be called where a module stands
+/// there.
+pub fn look<M: ModuleOf>(chain: &Chain<M>, end: End) -> Reply
+    requires { is_empty (end_of chain.now.image end).modules ≡ false }
+    ensures { result ≡ (look_begun chain.now.image end).reply }
+{
+    let first = chain.shape(end, 1).unwrap();
+    Reply::Look {
+        name: copy_name(&first.name),
+    }
+}
+
+/// Tells the names of the modules, topmost first, and then of the driver (streamio(7), I_LIST).
+pub fn list<M: ModuleOf>(chain: &Chain<M>, end: End) -> Reply
+    ensures { result ≡ (list_begun chain.now.image end).reply }
+{
+    let mut names: ArrayVec<Name, MOST_NAMES> = names_of(chain, end);
+    names.push(driver_name(chain.driver()));
+    Reply::List { names }
+}
+
+/// The refusal of a find's own: EINVAL for a name of no byte or of more than `LONGEST_NAME`
+/// (streamio(7), I_FIND).
+pub fn find_refusal(name: &Bytes) -> Option<Refusal>
+    ensures { result ≡ find_refusal name.now }
+{
+    if name.len() == 0 || name.len() > LONGEST_NAME {
+        return Some(Refusal::Invalid);
+    }
+    None
+}
+
+/// Whether a module has a name.
+fn has_name(module: &Name, name: &Bytes) -> bool
+    ensures { result ≡ has_name module.now name.now }
+{
+    module.as_slice() == name.as_slice()
+}
+
+/// Whether a name is among those of modules.
+fn is_among(names: &[Name], name: &Bytes) -> bool
+    ensures { result ≡ list_any (λ module_name. has_name module_name name.now) names.now }
+{
+    names.iter().any(|module| has_name(module, name))
+}
+
+/// Tells whether a module of a name stands there (streamio(7), I_FIND).
+pub fn find<M: ModuleOf>(chain: &Chain<M>, end: End, name: &Bytes) -> Reply
+    ensures { result ≡ (find_begun chain.now.image end name.now).reply }
+{
+    let names: ArrayVec<Name, MOST_MODULES> = names_of(chain, end);
+    Reply::Find {
+        found: is_among(names.as_slice(), name),
+    }
+}

@@ -1,0 +1,427 @@
+//! Worked examples, by the public calls alone: tables of messages with what is answered to each.
+use Keeps::{Counted, Partial, Same};
+use Sample::{Ack, Data, Flush, Hangup, Ioctl, Proto};
+use Want::{GoesOn, Nothing, Sends, Twice, Waits};
+use std::alloc::Global;
+use std::process::Abort;
+use strm_module::{
+    Band, Count, CrNl, Instance, Kind, Kinds, Line, MakeFault, Module, Mute, Outs, Pass, Plain,
+    Put, Shape, Table, Tee,
+};
+use strm_msg::Side::{Rd, Wr};
+use strm_msg::{Bytes, Message, NoMem, Side};
+use strm_queue::Marks;
+
+mod user;
+
+/// A message, written out. Each ioctl and each answer to one has number 7.
+#[derive(Clone, Copy, Drop)]
+enum Sample<'a> {
+    /// A band, and data.
+    Data(u8, &'a [u8]),
+    /// A band, and control without data.
+    Proto(u8, &'a [u8]),
+    /// A command, and its data.
+    Ioctl(u32, Option<&'a [u8]>),
+    /// A value, and data.
+    Ack(u64, Option<&'a [u8]>),
+    /// The sides, and the band.
+    Flush(bool, bool, Option<u8>),
+    Hangup,
+}
+
+/// Which procedure a message is handed to.
+#[derive(Clone, Copy, Drop)]
+enum Call {
+    Put,
+    Serve,
+}
+
+/// What is answered.
+#[derive(Clone, Copy, Drop)]
+enum Want<'a> {
+    /// The message waits, as it came.
+    Waits,
+    /// Nothing leaves.
+    Nothing,
+    /// The message goes on, as it came.
+    GoesOn,
+    /// This leaves in its place.
+    Sends(Side, Sample<'a>),
+    /// A copy goes up, and then the message on.
+    Twice,
+}
+
+/// What the module keeps afterwards.
+#[derive(Clone, Copy, Drop)]
+enum Keeps<'a> {
+    /// What it kept before.
+    Same,
+    /// This number of messages.
+    Counted(u64),
+    /// This partial line.
+    Partial(&'a [u8]),
+}
+
+/// A message that comes on a side, what is answered, and what is kept then.
+type Row<'a> = (Side, Sample<'a>, Want<'a>, Keeps<'a>);
+
+fn bytes(rt: &impl Abort, alloc: Global, bytes: &[u8]) -> Bytes {
+    Bytes::from_slice(alloc, bytes).expect(rt, "no memory for bytes")
+}
+
+fn part(rt: &impl Abort, alloc: Global, part: Option<&[u8]>) -> Option<Bytes> {
+    match part {
+        Some(part) => Some(bytes(rt, alloc, part)),
+        None => None,
+    }
+}
+
+fn message(rt: &impl Abort, alloc: Global, sample: Sample<'_>) -> Message {
+    match sample {
+        Data(band, dat) => Message::of_data(alloc, band, dat),
+        Proto(band, ctl) => Message::of_proto(alloc, band, ctl, None),
+        Ioctl(cmd, dat) => Message::of_ioctl(alloc, 7, cmd, dat),
+        Ack(rval, dat) => Ok(Message::of_ack(7, rval, part(rt, alloc, dat))),
+        Flush(r, w, band) => Ok(Message::of_flush(r, w, band)),
+        Hangup => Ok(Message::of_hangup()),
+    }
+    .expect(rt, "no memory for a message")
+}
+
+fn line(rt: &impl Abort, alloc: Global, partial: &[u8]) -> Kind {
+    Kind::Line {
+        partial: bytes(rt, alloc, partial),
+    }
+}
+
+/// A table that makes capitals of a, b and c.
+fn capitals() -> [u8; 256] {
+    let mut map = [0; 256];
+    for (b, to) in (0..=255u8).zip(map.iter_mut()) {
+        *to = match b {
+            b'a'..=b'c' => b - 32,
+            _ => b,
+        };
+    }
+    map
+}
+
+/// The module, which was made.
+fn made<M: Module>(rt: &impl Abort, made: Result<Instance<M>, MakeFault>) -> Instance<M> {
+    made.expect(rt, "a good name and good marks")
+}
+
+fn sent(side: Side, m: Message) -> Put {
+    let mut outs = Outs::new();
+    outs.push((side, m));
+    Put::Sent(outs)
+}
+
+fn sent_twice(first: Message, second: Message) -> Put {
+    let mut outs = Outs::new();
+    outs.push((Rd, first));
+    outs.push((Wr, second));
+    Put::Sent(outs)
+}
+
+fn wanted(rt: &impl Abort, alloc: Global, side: Side, came: Sample<'_>, want: Want<'_>) -> Put {
+    match want {
+        Waits => Put::Queue(message(rt, alloc, came)),
+        Nothing => Put::Sent(Outs::new()),
+        GoesOn => sent(side, message(rt, alloc, came)),
+        Sends(side, sample) => sent(side, message(rt, alloc, sample)),
+        Twice => sent_twice(message(rt, alloc, came), message(rt, alloc, came)),
+    }
+}
+
+/// The kind that is to be there, where this one was before.
+fn kept(rt: &impl Abort, alloc: Global, before: &Kind, keeps: Keeps<'_>) -> Kind {
+    match keeps {
+        Same => before.copy(alloc).expect(rt, "no memory for a kind"),
+        Counted(n) => Kind::Count { n },
+        Partial(partial) => line(rt, alloc, partial),
+    }
+}
+
+/// What a call answers. A service only sends.
+fn called<M: Module>(
+    alloc: Global,
+    it: &mut Instance<M>,
+    call: Call,
+    side: Side,
+    m: Message,
+) -> Result<Put, NoMem> {
+    match call {
+        Call::Put => it.put(alloc, side, m),
+        Call::Serve => Ok(Put::Sent(it.serve(alloc, side, m)?)),
+    }
+}
+
+/// Hands a module each message of a table in its turn.
+fn play<M: Module>(
+    rt: &impl Abort,
+    alloc: Global,
+    it: &mut Instance<M>,
+    call: Call,
+    rows: &[Row<'_>],
+) {
+    for (i, (side, came, want, keeps)) in rows.iter().enumerate() {
+        let kind = kept(rt, alloc, &it.shape().kind, *keeps);
+        let want = wanted(rt, alloc, *side, *came, *want);
+        let m = message(rt, alloc, *came);
+        let answer = called(alloc, it, call, *side, m);
+        assert!(rt; answer == Ok(want), "the answer to message {i}");
+        assert!(rt; it.shape().kind == kind, "what is kept after message {i}");
+    }
+}
+
+/// A new module is put each message of a table.
+fn puts<M: Module>(
+    rt: &impl Abort,
+    alloc: Global,
+    new: Result<Instance<M>, MakeFault>,
+    rows: &[Row<'_>],
+) {
+    let mut it = made(rt, new);
+    play(rt, alloc, &mut it, Call::Put, rows);
+}
+
+/// A module of a kind, with these marks on both sides.
+fn plain(rt: &impl Abort, kind: Kind, marks: Option<(u32, u32)>) -> Instance<Plain> {
+    let shape = Shape::new(1, b"plain", marks, marks, kind).expect(rt, "a good name and marks");
+    Instance::new(shape, Plain)
+}
+
+const MARKS: Option<(u32, u32)> = Some((5, 4));
+
+const X: Sample<'static> = Data(0, b"x");
+
+#[test]
+fn count_counts_what_is_put(rt: HostRuntime) {
+    let told = Sends(Rd, Ack(1, None));
+    let rows = [
+        (Wr, X, GoesOn, Counted(1)),
+        (Wr, Ioctl(1, None), told, Counted(1)),
+        (Wr, Ioctl(2, None), told, Counted(0)),
+    ];
+    puts(&rt, rt.alloc(), Count::new(1, b"cnt", None, None), &rows);
+}
+
+#[test]
+fn count_with_a_queue_counts_what_is_served(rt: HostRuntime) {
+    let alloc = rt.alloc();
+    let mut count = made(&rt, Count::new(1, b"cnt", None, MARKS));
+    let put = [(Wr, X, Waits, Counted(0))];
+    play(&rt, alloc, &mut count, Call::Put, &put);
+    let served = [(Wr, X, GoesOn, Counted(1))];
+    play(&rt, alloc, &mut count, Call::Serve, &served);
+}
+
+#[test]
+fn line_gathers_lines_of_band_0(rt: HostRuntime) {
+    let alloc = rt.alloc();
+    let first = Sends(Rd, Data(0, b"abc\n"));
+    let three = Sends(Rd, Data(0, b"d\n\ne\n"));
+    let rows = [
+        (Rd, Data(0, b"ab"), Nothing, Partial(b"ab")),
+        (Rd, Data(0, b"c\nd"), first, Partial(b"d")),
+        (Rd, Data(3, b"e\nf"), GoesOn, Same),
+        (Wr, Data(0, b"e\nf"), GoesOn, Same),
+        (Rd, Data(0, b"\n\ne\n"), three, Partial(b"")),
+    ];
+    puts(&rt, alloc, Line::new(alloc, 1, b"ln", None, None), &rows);
+}
+
+#[test]
+fn line_keeps_at_most_4096_bytes(rt: HostRuntime) {
+    let alloc = rt.alloc();
+    let more = Data(0, &[b'a'; 96]);
+    let all = Sends(Rd, Data(0, &[b'a'; 4097]));
+    let rows = [
+        (Rd, more, Nothing, Partial(&[b'a'; 4096])),
+        (Rd, Data(0, b"a"), all, Partial(b"")),
+    ];
+    let mut it = plain(&rt, line(&rt, alloc, &[b'a'; 4000]), None);
+    play(&rt, alloc, &mut it, Call::Put, &rows);
+}
+
+#[test]
+fn flush_empties_a_partial_line(rt: HostRuntime) {
+    let alloc = rt.alloc();
+    for (flush, keeps) in [
+        (Flush(true, false, None), Partial(b"")),
+        (Flush(true, true, Some(0)), Partial(b"")),
+        (Flush(true, true, Some(1)), Same),
+        (Flush(false, true, None), Same),
+        (Flush(false, true, Some(0)), Same),
+    ] {
+        let mut it = plain(&rt, line(&rt, alloc, b"ab"), MARKS);
+        let rows = [(Wr, flush, GoesOn, keeps)];
+        play(&rt, alloc, &mut it, Call::Put, &rows);
+    }
+}
+
+#[test]
+fn crnl_changes_ends_of_lines(rt: HostRuntime) {
+    let to_lf = Sends(Rd, Data(0, b"a\nb\r"));
+    let last_cr = Sends(Rd, Data(2, b"\r\n\n\ra"));
+    let rows = [
+        (Wr, Data(0, b"a\nb"), Sends(Wr, Data(0, b"a\r\nb")), Same),
+        (Wr, Data(2, b"\r\n"), Sends(Wr, Data(2, b"\r\r\n")), Same),
+        (Rd, Data(0, b"a\r\nb\r"), to_lf, Same),
+        (Rd, Data(2, b"\r\r\n\n\ra"), last_cr, Same),
+    ];
+    puts(&rt, rt.alloc(), CrNl::new(1, b"c", None, None), &rows);
+}
+
+#[test]
+fn table_maps_data_and_answers(rt: HostRuntime) {
+    let mapped = Sends(Wr, Data(2, b"CAd"));
+    let told = Sends(Rd, Ack(3, Some(b"CAB")));
+    let rows = [
+        (Wr, Data(2, b"cad"), mapped, Same),
+        (Rd, Data(2, b"cad"), GoesOn, Same),
+        (Wr, Ioctl(3, Some(b"cab")), told, Same),
+        (Wr, Ioctl(3, None), Sends(Rd, Ack(0, None)), Same),
+        (Wr, Ioctl(4, Some(b"cab")), GoesOn, Same),
+        (Wr, Proto(1, b"cab"), GoesOn, Same),
+    ];
+    let table = Table::new(1, b"up", None, None, capitals());
+    puts(&rt, rt.alloc(), table, &rows);
+}
+
+#[test]
+fn tee_sends_its_copy_first(rt: HostRuntime) {
+    let rows = [(Wr, X, Twice, Same), (Rd, X, GoesOn, Same)];
+    puts(&rt, rt.alloc(), Tee::new(1, b"t", None, None), &rows);
+}
+
+#[test]
+fn band_gives_its_band(rt: HostRuntime) {
+    let rows = [
+        (Wr, Data(2, b"x"), Sends(Wr, Data(7, b"x")), Same),
+        (Wr, Proto(2, b"p"), Sends(Wr, Proto(7, b"p")), Same),
+        (Rd, Data(2, b"x"), GoesOn, Same),
+        (Rd, Proto(2, b"p"), GoesOn, Same),
+    ];
+    puts(&rt, rt.alloc(), Band::new(1, b"v", None, None, 7), &rows);
+}
+
+#[test]
+fn mute_drops_data_and_pass_sends_it(rt: HostRuntime) {
+    let alloc = rt.alloc();
+    let rows = [(Wr, X, Nothing, Same), (Rd, X, GoesOn, Same)];
+    puts(&rt, alloc, Mute::new(1, b"u", None, None), &rows);
+    let rows = [(Wr, X, GoesOn, Same), (Rd, X, GoesOn, Same)];
+    puts(&rt, alloc, Pass::new(2, b"p", None, None), &rows);
+}
+
+/// One kind of each, with something kept where there is something to keep.
+fn one_of_each(rt: &impl Abort, alloc: Global) -> [Kind; 8] {
+    [
+        Kind::Pass,
+        Kind::Table { map: capitals() },
+        Kind::CrNl,
+        line(rt, alloc, b"ab"),
+        Kind::Count { n: 5 },
+        Kind::Band { b: 3 },
+        Kind::Tee,
+        Kind::Mute,
+    ]
+}
+
+#[test]
+fn each_kind_queues_ordinary_messages_alone(rt: HostRuntime) {
+    let alloc = rt.alloc();
+    let put = [
+        (Rd, Data(0, b"x\n"), Waits, Same),
+        (Wr, Ioctl(3, None), Waits, Same),
+        (Rd, Hangup, GoesOn, Same),
+    ];
+    let served = [(Wr, Ioctl(99, None), GoesOn, Same)];
+    for kind in one_of_each(&rt, alloc) {
+        let mut it = plain(&rt, kind, MARKS);
+        play(&rt, alloc, &mut it, Call::Put, &put);
+        play(&rt, alloc, &mut it, Call::Serve, &served);
+    }
+}
+
+#[test]
+fn side_without_marks_has_no_queue(rt: HostRuntime) {
+    let rows = [(Rd, X, Waits, Same), (Wr, X, GoesOn, Same)];
+    puts(&rt, rt.alloc(), Pass::new(1, b"p", MARKS, None), &rows);
+}
+
+const EQUAL: Option<(u32, u32)> = Some((4, 4));
+
+const TURNED: Option<(u32, u32)> = Some((4, 5));
+
+#[test]
+fn faults_are_for_the_name_first(rt: HostRuntime) {
+    for (name, rd, wr, fault) in [
+        (b"ninebytes".as_slice(), EQUAL, None, Some(MakeFault::Name)),
+        (b"ninebytes", None, None, Some(MakeFault::Name)),
+        (b"ninebytes", MARKS, MARKS, Some(MakeFault::Name)),
+        (b"eightbyt", None, None, None),
+        (b"eightbyt", MARKS, MARKS, None),
+        (b"eightbyt", MARKS, TURNED, Some(MakeFault::Marks)),
+        (b"", None, None, Some(MakeFault::Name)),
+        (b"a-b", None, EQUAL, Some(MakeFault::Name)),
+        (b"a", EQUAL, None, Some(MakeFault::Marks)),
+    ] {
+        let made = Pass::new(1, name, rd, wr);
+        assert!(rt; made.err() == fault, "{name:?} {rd:?} {wr:?}");
+    }
+}
+
+#[test]
+fn faults_have_numbers_and_words(rt: HostRuntime) {
+    let name = "a module's name must be 1 to 8 letters, digits or `_`";
+    let marks = "the low mark of a queue must be below its high mark";
+    for (fault, number, words) in [(MakeFault::Name, 1, name), (MakeFault::Marks, 2, marks)] {
+        assert_eq!(rt; fault.number(), number);
+        let text = fault.to_string(rt.alloc()).expect(&rt, "no memory");
+        assert_eq!(rt; text.as_str(), words);
+    }
+}
+
+const NAME: &[u8] = b"A_z09";
+
+const OTHER: Option<(u32, u32)> = Some((16, 0));
+
+/// A new module has the shape that was asked for, and a copy of it is equal.
+fn has_shape<M: Module>(
+    rt: &impl Abort,
+    alloc: Global,
+    new: Result<Instance<M>, MakeFault>,
+    kind: Kind,
+) {
+    let it = made(rt, new);
+    let shape = it.shape();
+    assert_eq!(rt; shape.serial, 9);
+    assert_eq!(rt; shape.name.as_slice(), NAME);
+    assert_eq!(rt; shape.rd, Marks::new(5, 4));
+    assert_eq!(rt; shape.wr, Marks::new(16, 0));
+    assert_eq!(rt; shape.kind, kind);
+    let copy = shape.copy(alloc).expect(rt, "no memory for a shape");
+    assert!(rt; copy == *shape, "a copy is equal");
+}
+
+#[test]
+fn new_modules_have_the_shape_asked_for(rt: HostRuntime) {
+    let alloc = rt.alloc();
+    let (rd, wr, map) = (MARKS, OTHER, capitals());
+    let table = Table::new(9, NAME, rd, wr, map);
+    let gathering = Line::new(alloc, 9, NAME, rd, wr);
+    let count = Count::new(9, NAME, rd, wr);
+    let band = Band::new(9, NAME, rd, wr, 7);
+    has_shape(&rt, alloc, Pass::new(9, NAME, rd, wr), Kind::Pass);
+    has_shape(&rt, alloc, table, Kind::Table { map });
+    has_shape(&rt, alloc, CrNl::new(9, NAME, rd, wr), Kind::CrNl);
+    has_shape(&rt, alloc, gathering, line(&rt, alloc, b""));
+    has_shape(&rt, alloc, count, Kind::Count { n: 0 });
+    has_shape(&rt, alloc, band, Kind::Band { b: 7 });
+    has_shape(&rt, alloc, Tee::new(9, NAME, rd, wr), Kind::Tee);
+    has_shape(&rt, alloc, Mute::new(9, NAME, rd, wr), Kind::Mute);
+}

@@ -1,0 +1,243 @@
+//! Modules as a user of the crate writes them: an object that tallies what it is asked, one that
+//! leaves both procedures out, and one for a vocabulary of its own.
+use super::Keeps::Counted;
+use super::Sample::{Ack, Ioctl};
+use super::Want::{GoesOn, Sends};
+use super::{Call, X, called, message, play};
+use std::alloc::Global;
+use std::process::Abort;
+use std::sync::Arc;
+use std::sync::atomic::{AtomicU64, Ordering};
+use strm_module::{Count, Instance, Kind, Kinds, Module, ModuleOf, Outs, Put, Shape, reply};
+use strm_msg::Side::{Rd, Wr};
+use strm_msg::{Message, NoMem, Side};
+
+/// A sum that others hold too.
+type Tally = Arc<AtomicU64, Global>;
+
+const PUT: u64 = 1;
+
+const SERVED: u64 = 100;
+
+const CLOSED: u64 = 10000;
+
+/// Acts by its shape, and adds `PUT`, `SERVED` or `CLOSED` to its tally where it is asked or closed.
+/// It can refuse its first put or its first service.
+struct Watch {
+    tally: Tally,
+    refuses_put: bool,
+    refuses_serve: bool,
+    seen: u64,
+}
+
+impl Drop for Watch {
+    fn drop(self) {
+        self.tally.fetch_add(CLOSED, Ordering::SeqCst);
+        let Watch {
+            tally: _,
+            refuses_put: _,
+            refuses_serve: _,
+            seen: _,
+        } = self;
+    }
+}
+
+impl Module for Watch {
+    fn put(
+        &mut self,
+        alloc: Global,
+        shape: &mut Shape,
+        side: Side,
+        m: Message,
+    ) -> Result<Put, NoMem> {
+        self.tally.fetch_add(PUT, Ordering::SeqCst);
+        self.seen = self.seen.saturating_add(1);
+        if self.refuses_put {
+            self.refuses_put = false;
+            return Err(NoMem);
+        }
+        shape.put(alloc, side, m)
+    }
+
+    fn serve(
+        &mut self,
+        alloc: Global,
+        shape: &mut Shape,
+        side: Side,
+        m: Message,
+    ) -> Result<Outs, NoMem> {
+        self.tally.fetch_add(SERVED, Ordering::SeqCst);
+        if self.refuses_serve {
+            self.refuses_serve = false;
+            return Err(NoMem);
+        }
+        shape.serve(alloc, side, m)
+    }
+}
+
+fn new_tally(rt: &impl Abort, alloc: Global) -> Tally {
+    Arc::new(alloc, AtomicU64::new(0)).expect(rt, "no memory for a tally")
+}
+
+fn read(tally: &Tally) -> u64 {
+    tally.load(Ordering::SeqCst)
+}
+
+/// An object with this tally.
+fn watching(rt: &impl Abort, tally: &Tally) -> Watch {
+    Watch {
+        tally: Arc::try_clone(tally).expect(rt, "the tally has few owners"),
+        refuses_put: false,
+        refuses_serve: false,
+        seen: 0,
+    }
+}
+
+/// An object with this tally that refuses this procedure's first call.
+fn refusing(rt: &impl Abort, tally: &Tally, call: Call) -> Watch {
+    let mut watch = watching(rt, tally);
+    match call {
+        Call::Put => watch.refuses_put = true,
+        Call::Serve => watch.refuses_serve = true,
+    }
+    watch
+}
+
+fn boxed(rt: &impl Abort, alloc: Global, watch: Watch) -> Box<dyn Module> {
+    Box::new(alloc, watch).expect(rt, "no memory for a box")
+}
+
+/// A module without queues that has counted three messages.
+fn counting<M: Module>(rt: &impl Abort, object: M) -> Instance<M> {
+    let kind = Kind::Count { n: 3 };
+    let shape = Shape::new(3, b"count", None, None, kind).expect(rt, "a good name");
+    Instance::new(shape, object)
+}
+
+/// One message is put to the first module, and one is served by the second.
+fn asks_each<M: Module>(
+    rt: &impl Abort,
+    alloc: Global,
+    (first, second): (M, M),
+    (tally, other): (&Tally, &Tally),
+) {
+    let mut first = counting(rt, first);
+    let mut second = counting(rt, second);
+    let put = called(alloc, &mut first, Call::Put, Wr, message(rt, alloc, X));
+    assert!(rt; put.is_ok());
+    assert_eq!(rt; (read(tally), read(other)), (PUT, 0));
+    let served = called(alloc, &mut second, Call::Serve, Wr, message(rt, alloc, X));
+    assert!(rt; served.is_ok());
+    assert_eq!(rt; (read(tally), read(other)), (PUT, SERVED));
+    drop(first);
+    assert_eq!(rt; (read(tally), read(other)), (PUT + CLOSED, SERVED));
+}
+
+#[test]
+fn object_of_the_instance_is_called_and_closed_once(rt: HostRuntime) {
+    let alloc = rt.alloc();
+    let (one, other) = (new_tally(&rt, alloc), new_tally(&rt, alloc));
+    let objects = (watching(&rt, &one), watching(&rt, &other));
+    asks_each(&rt, alloc, objects, (&one, &other));
+    assert_eq!(rt; read(&other), SERVED + CLOSED);
+}
+
+#[test]
+fn object_in_the_box_is_called_and_closed_once(rt: HostRuntime) {
+    let alloc = rt.alloc();
+    let (one, other) = (new_tally(&rt, alloc), new_tally(&rt, alloc));
+    let first = boxed(&rt, alloc, watching(&rt, &one));
+    let second = boxed(&rt, alloc, watching(&rt, &other));
+    asks_each(&rt, alloc, (first, second), (&one, &other));
+    assert_eq!(rt; read(&other), SERVED + CLOSED);
+}
+
+/// A refused call leaves the shape, and the next one is answered.
+fn answers_the_second_time<M: Module>(rt: &impl Abort, alloc: Global, object: M, call: Call) {
+    let mut it = counting(rt, object);
+    let before = it.shape().copy(alloc).expect(rt, "no memory for a shape");
+    let refused = called(alloc, &mut it, call, Wr, message(rt, alloc, X));
+    assert!(rt; refused == Err(NoMem));
+    assert!(rt; *it.shape() == before, "a refusal changes nothing");
+    play(rt, alloc, &mut it, call, &[(Wr, X, GoesOn, Counted(4))]);
+}
+
+#[test]
+fn object_that_refused_is_asked_again(rt: HostRuntime) {
+    let alloc = rt.alloc();
+    for (call, asked) in [(Call::Put, PUT), (Call::Serve, SERVED)] {
+        let tally = new_tally(&rt, alloc);
+        let object = refusing(&rt, &tally, call);
+        answers_the_second_time(&rt, alloc, object, call);
+        assert_eq!(rt; read(&tally), 2 * asked + CLOSED);
+        let object = boxed(&rt, alloc, refusing(&rt, &tally, call));
+        answers_the_second_time(&rt, alloc, object, call);
+        assert_eq!(rt; read(&tally), 2 * (2 * asked + CLOSED));
+    }
+}
+
+#[test]
+fn object_comes_back_with_its_private_data(rt: HostRuntime) {
+    let alloc = rt.alloc();
+    let tally = new_tally(&rt, alloc);
+    let mut it = counting(&rt, watching(&rt, &tally));
+    assert!(rt; it.put(alloc, Wr, message(&rt, alloc, X)).is_ok());
+    let watch = it.into_object();
+    assert_eq!(rt; watch.seen, 1);
+    assert_eq!(rt; read(&tally), PUT);
+    drop(watch);
+    assert_eq!(rt; read(&tally), PUT + CLOSED);
+}
+
+#[test]
+fn boxed_count_counts(rt: HostRuntime) {
+    let alloc = rt.alloc();
+    let object: Box<dyn Module> = Box::new(alloc, Count).expect(&rt, "no memory for a box");
+    let mut it = counting(&rt, object);
+    let rows = [
+        (Wr, X, GoesOn, Counted(4)),
+        (Wr, Ioctl(2, None), Sends(Rd, Ack(4, None)), Counted(0)),
+    ];
+    play(&rt, alloc, &mut it, Call::Put, &rows);
+}
+
+/// A vocabulary of one kind, which turns each message round.
+#[derive(Debug, Drop, PartialEq, Eq)]
+struct Turn;
+
+impl Kinds for Turn {
+    ghost use Rattle.strm_module.specs.Kinds.{replied};
+
+    ghost means = { λ kind side m. replied kind m };
+
+    fn process(&mut self, _: Global, _: Side, m: Message) -> Result<Outs, NoMem> {
+        Ok(reply(m))
+    }
+
+    fn copy(&self, _: Global) -> Result<Turn, NoMem> {
+        Ok(Turn)
+    }
+}
+
+/// The object of such a module, which acts by its shape.
+#[derive(Drop)]
+struct Turner;
+
+impl ModuleOf for Turner {
+    type Kind = Turn;
+}
+
+#[test]
+fn kind_of_another_vocabulary_acts_by_its_meaning(rt: HostRuntime) {
+    let alloc = rt.alloc();
+    let shape = Shape::new(4, b"turn", Some((5, 4)), None, Turn).expect(&rt, "a good name");
+    let mut it = Instance::new(shape, Turner);
+    let before = it.shape().copy(alloc).expect(&rt, "no memory for a shape");
+    let sent = it.put(alloc, Wr, message(&rt, alloc, X));
+    assert_eq!(rt; sent, Ok(Put::Sent(reply(message(&rt, alloc, X)))));
+    let queued = it.put(alloc, Rd, message(&rt, alloc, X));
+    assert_eq!(rt; queued, Ok(Put::Queue(message(&rt, alloc, X))));
+    let served = it.serve(alloc, Rd, message(&rt, alloc, X));
+    assert_eq!(rt; served, Ok(reply(message(&rt, alloc, X))));
+    assert!(rt; *it.shape() == before);
+}

@@ -1,5 +1,5 @@
 -- The refusals of calls and their order, computed on worked examples.
-use Rattle.std.proofs.Common.{◌≡◌, ℕ, true, List, [], ◌∷◌, Some, None, replicate, refl}
+use Rattle.std.proofs.Common.{◌≡◌, ℕ, true, false, List, [], ◌∷◌, Some, None, replicate, refl}
 use Rattle.strm_msg.specs.Message.{Msg, data_msg, proto_msg, pcproto_msg}
 use Rattle.strm_msg.specs.declared.errno.Errno.TheVariants.{EIO}
 use Rattle.strm_msg.specs.declared.words.End.TheVariants.{A, B}
@@ -10,7 +10,7 @@ use Rattle.strm_call.specs.declared.request.Priority.TheVariants.{Norm, Hipri}
 use Rattle.strm_call.specs.declared.request.PutFlag.TheVariants as PutFlag
 use Rattle.strm_call.specs.declared.request.GetFlag.TheVariants as GetFlag
 use Rattle.strm_call.specs.declared.request.Wanted.TheVariants as Wanted
-use Rattle.strm_call.specs.declared.request.Request.TheVariants.{Putmsg, Putpmsg, Getmsg, Getpmsg, Read, Write, Getband, Nread}
+use Rattle.strm_call.specs.declared.request.Request.TheVariants.{Putmsg, Putpmsg, Getmsg, Getpmsg, Read, Write, Getband, Nread, Pop, Look, Find, Str, Flush, Close}
 use Rattle.strm_call.specs.declared.refusal.Refusal.TheVariants.{Closed, Broken, Error, Invalid, TooLong, HungUp, BadMessage, NoMessage, WouldWait}
 use Rattle.strm_head.specs.Begin.{refusal_of}
 
@@ -98,3 +98,36 @@ read_of_no_bytes_looks_at_nothing = refl
 
 no_band_of_no_message : refusal_of start A Getband ≡ Some NoMessage
 no_band_of_no_message = refl
+
+no_module_before_hung_up : refusal_of hung_up A Pop ≡ Some Invalid
+no_module_before_hung_up = refl
+
+no_module_to_look_at : refusal_of start A Look ≡ Some Invalid
+no_module_to_look_at = refl
+
+name_of_nine_bytes : refusal_of start A (Find (replicate 9 97)) ≡ Some Invalid
+name_of_nine_bytes = refl
+
+name_of_eight_bytes : refusal_of start A (Find (replicate 8 97)) ≡ None
+name_of_eight_bytes = refl
+
+ioctl_data_too_long_before_hung_up : refusal_of hung_up A (Str 1 (Some (replicate 4097 97))) ≡ Some Invalid
+ioctl_data_too_long_before_hung_up = refl
+
+greatest_ioctl_data_is_taken : refusal_of start A (Str 1 (Some (replicate 4096 97))) ≡ None
+greatest_ioctl_data_is_taken = refl
+
+no_id_is_left : refusal_of (record start { a = record start.a { state = record start.a.state { next = None } } }) A (Str 1 None) ≡ Some WouldWait
+no_id_is_left = refl
+
+flush_of_neither_side_before_hung_up : refusal_of hung_up A (Flush false false) ≡ Some Invalid
+flush_of_neither_side_before_hung_up = refl
+
+flush_of_a_hung_up_end : refusal_of hung_up A (Flush true false) ≡ Some HungUp
+flush_of_a_hung_up_end = refl
+
+broken_stream_with_an_error_is_closed : refusal_of with_error A Close ≡ None
+broken_stream_with_an_error_is_closed = refl
+
+closed_end_is_not_closed_again : refusal_of with_error B Close ≡ Some Closed
+closed_end_is_not_closed_again = refl

@@ -34,9 +34,9 @@ abbrev pub find_refusal : List ℕ → Option Refusal
 find_refusal name = refused_if (not (nat_le 1 (length name) && nat_le (length name) LONGEST_NAME)) Invalid
 
 abbrev pub has_name : ArrayVec ℕ → List ℕ → Bool
-has_name module_name name = bytes_eq module_name.items name
+has_name own name = bytes_eq own.items name
 
 -- the driver is no module
 abbrev pub find_begun : {K : Type 0} → Image K → End → List ℕ → Begun K
 find_begun image e name =
-    begun image (Reply.Find (list_any (λ n. has_name n name) (names_of (end_of image e))))
+    begun image (Reply.Find (list_any (λ own. has_name own name) (names_of (end_of image e))))

@@ -83,17 +83,17 @@ pub fn find_refusal(name: &Bytes) -> Option<Refusal>
 }
 
 /// Whether a module has a name.
-fn has_name(module: &Name, name: &Bytes) -> bool
-    ensures { result ≡ has_name module.now name.now }
+fn has_name(own: &Name, name: &Bytes) -> bool
+    ensures { result ≡ has_name own.now name.now }
 {
-    module.as_slice() == name.as_slice()
+    own.as_slice() == name.as_slice()
 }
 
 /// Whether a name is among those of modules.
 fn is_among(names: &[Name], name: &Bytes) -> bool
-    ensures { result ≡ list_any (λ module_name. has_name module_name name.now) names.now }
+    ensures { result ≡ list_any (λ own. has_name own name.now) names.now }
 {
-    names.iter().any(|module| has_name(module, name))
+    names.iter().any(|own| has_name(own, name))
 }
 
 /// Tells whether a module of a name stands there (streamio(7), I_FIND).

@@ -28,8 +28,8 @@ abbrev pub begun_ioctl : {K : Type 0} → Image K → Begun K
 begun_ioctl image = record { image = image; reply = Str Timeout; awaits = true; out = [] }
 
 -- a call that takes modules out
-abbrev pub begun_without : {K : Type 0} → Image K → Reply → List (Shape K) → Begun K
-begun_without image reply out = record { image = image; reply = reply; awaits = false; out = out }
+abbrev pub begun_taking : {K : Type 0} → Image K → Reply → List (Shape K) → Begun K
+begun_taking image reply out = record { image = image; reply = reply; awaits = false; out = out }
 
 -- the reply of a call when no queue must move any longer, and the answer that its head then has kept
 abbrev pub reply_after : {K : Type 0} → Begun K → Option Msg → Reply

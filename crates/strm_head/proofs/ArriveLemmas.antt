@@ -10,7 +10,7 @@ use Rattle.strm_head.specs.declared.outcome.Arrived.{Arrived}
 use Rattle.strm_head.specs.declared.outcome.Arrived.TheVariants.{Taken, Full, NoMem, Broke}
 use Rattle.strm_head.specs.declared.history.Event.TheVariants as Events
 use Rattle.strm_head.specs.Inside.{IsKept}
-use Rattle.strm_head.specs.Played.{happened, line_played, Plays}
+use Rattle.strm_head.specs.Played.{happened, line_played, come_back, must_come_back, Plays}
 use Rattle.strm_head.specs.Arrive.{Arrives}
 use Rattle.strm_head.proofs.KeptLemmas.{landed_kept}
 
@@ -35,3 +35,10 @@ module _ {K : Type 0} (means : Meaning K) where
   line_happened P image m copy (Full back) after same arrives = rw arrives.1 refl
   line_happened P image m copy (NoMem back) after same arrives = rw arrives.1 refl
   line_happened P image m copy Broke after same arrives = rw same refl
+
+-- no module comes back of a message
+pub line_back : (K : Type 0) (m : Msg) (arrived : Arrived) → come_back {K = K} (line_played m arrived) ≡ must_come_back (line_played m arrived)
+line_back K m (Taken moves looks) = refl
+line_back K m (Full same) = refl
+line_back K m (NoMem same) = refl
+line_back K m Broke = refl

@@ -25,7 +25,7 @@ use Rattle.strm_msg.specs.Message.{Msg}
 use Rattle.strm_call.specs.Begun.{Begun, begun, begun_ioctl, reply_after}
 use Rattle.strm_head.specs.Begin.{begun_of, refusal_of, changes_no_queue, awaits_answer, takes_no_memory, can_lack_memory, pushed_of, closed_refusal, common_refusal, error_refusal, handed_out, back_of, out_of, serials_of, wants_memory}
 use Rattle.strm_head.specs.Inside.{IsKept}
-use Rattle.strm_head.specs.Step.{Answers, Finishes, SettlesIf, Settles, answered_if}
+use Rattle.strm_head.specs.Step.{Answers, Finishes, SettlesUnless, Settles, answered_if}
 use Rattle.strm_head.proofs.KeptLemmas.{whole_of, quiet_begun, begun_opens}
 
 -- for kinds of any meaning
@@ -175,7 +175,7 @@ module _ {K : Type 0} (means : Meaning K) where
   with_out e b new reply (Done said) moves after i r plain done =
       record {
         settled = done.settled;
-        settles = subst (λ (image : Image K). SettlesIf means image.broken image moves done.settled) i done.settles;
+        settles = subst (λ (image : Image K). SettlesUnless means image.broken image moves done.settled) i done.settles;
         replies = done.replies ∙ r ∙ sym (plain_reply b _ plain);
         leaves = done.leaves ∙ ap (λ a. answered_if a e done.settled) (sym plain);
         takes = refl;
@@ -217,7 +217,7 @@ module _ {K : Type 0} (means : Meaning K) where
       let whole = quiet_whole image e request unrefused is in
       let b = begun_of means image e request in
       let quiet = quiet_begun means image e request is (kept.quiet whole) in
-      let settles : SettlesIf means b.image.broken b.image [] b.image = subst (λ (x : Bool). SettlesIf means x b.image [] b.image) (sym (quiet.broken ∙ whole)) (record { leads = refl; quiet = quiet.quiet }) in
+      let settles : SettlesUnless means b.image.broken b.image [] b.image = subst (λ (x : Bool). SettlesUnless means x b.image [] b.image) (sym (quiet.broken ∙ whole)) (record { leads = refl; quiet = quiet.quiet }) in
       rw (a, m, i)
       (unrefused, (λ quiet. refl), record { settled = b.image; settles = settles; replies = r ∙ sym (plain_reply b _ quiet.awaits); leaves = ap (λ x. answered_if x e b.image) (sym quiet.awaits); takes = refl })
 
@@ -246,13 +246,13 @@ module _ {K : Type 0} (means : Meaning K) where
   pub still_finishes : (e : End) (image : Image K) (reply : Reply) (answer : Answer) (moves : List Place) → image.broken ≡ true → answer ≡ Done reply → moves ≡ [] → Finishes means e (begun image reply) answer moves [] image
   still_finishes e image reply answer moves broken a m =
       rw (a, m)
-      (record { settled = image; settles = subst (λ (x : Bool). SettlesIf means x image [] image) (sym broken) (record { stays = refl; unchanged = refl }); replies = refl; leaves = refl; takes = refl })
+      (record { settled = image; settles = subst (λ (x : Bool). SettlesUnless means x image [] image) (sym broken) (record { stays = refl; unchanged = refl }); replies = refl; leaves = refl; takes = refl })
 
   -- a call after which what must move has moved
   pub settled_finishes : (e : End) (image after : Image K) (reply : Reply) (answer : Answer) (moves : List Place) → image.broken ≡ false → Settles means image moves after → answer ≡ Done reply → Finishes means e (begun image reply) answer moves [] after
   settled_finishes e image after reply answer moves whole settles a =
       rw a
-      (record { settled = after; settles = subst (λ (x : Bool). SettlesIf means x image moves after) (sym whole) settles; replies = refl; leaves = refl; takes = refl })
+      (record { settled = after; settles = subst (λ (x : Bool). SettlesUnless means x image moves after) (sym whole) settles; replies = refl; leaves = refl; takes = refl })
 
 -- a refusal that is not for want of memory, if it is one
 abbrev IsNotMemory : Option Refusal → Type 0

@@ -17,7 +17,7 @@ use Rattle.strm_head.specs.declared.history.Played.TheVariants.{Step, Left}
 use Rattle.strm_head.specs.Begin.{begun_of, handed_out, back_of, out_of, serials_of}
 use Rattle.strm_head.specs.Step as Steps
 use Rattle.strm_head.specs.Step.{Answers, IsStep, Legal}
-use Rattle.strm_head.specs.Played.{serial_of, out_in, entry_of, history_of, Plays}
+use Rattle.strm_head.specs.Played.{serial_of, out_in, due_back, entry_of, history_of, Plays}
 
 -- for kinds of any meaning
 module _ {K : Type 0} (means : Meaning K) where
@@ -54,6 +54,12 @@ module _ {K : Type 0} (means : Meaning K) where
   call_plays image e request copy answer moves out back after same o b answers =
       let taken : out ≡ out_of means image e request answer = o ∙ ap (λ l. out_in answer l) b ∙ out_back image e request answer in
       rw (same, taken) answers
+
+  -- what comes back of a call has the serials that must
+  pub call_back : (request : Request (Shape K)) (answer : Answer) (out : List ℕ) (back : List (Option (Shape K))) (image : Image K) (e : End) → out ≡ out_in answer back → back ≡ back_of means image e request answer → flat_map serial_of back ≡ due_back (Asked request) answer out
+  call_back request (Refused refusal) out back image e o b = ap (λ l. flat_map serial_of l) b
+  call_back request (Done reply) out back image e o b = sym o
+  call_back request Broke out back image e o b = sym o
 
 -- one module that comes back has one serial
 pub serial_length : {K : Type 0} (back : List (Option (Shape K))) → length (flat_map serial_of back) ≤ length back

@@ -39,7 +39,7 @@ use Rattle.strm_ioctl.specs.Close.{closed_image, after_close}
 use Rattle.strm_ioctl.proofs.CloseLemmas.{hung_up_keeps}
 use Rattle.strm_head.specs.Begin.{begun_of, refusal_of, changes_no_queue}
 use Rattle.strm_head.specs.Inside.{HasItsEnds, IsIdle, AreIdle, IsKept, OpensNone}
-use Rattle.strm_head.specs.Step.{Answers, IsDone, IsBroken, SettlesIf, Lands, arrival, arrived_of, answered_if}
+use Rattle.strm_head.specs.Step.{Answers, IsDone, IsBroken, SettlesUnless, Lands, arrival, arrived_of, answered_if}
 
 -- what a message leaves opens no end
 opened_in : {K : Type 0} (old new : Image K) → SameModules old new → (e : End) → (end_of new e).is_open ≡ true → (end_of old e).is_open ≡ true
@@ -343,7 +343,7 @@ module _ {K : Type 0} (means : Meaning K) where
         ends = λ e h. ap (λ d. has_end d e) broke.breaks.driver ∙ ends e (broken_opens begun.image after broke.breaks e h);
       }
 
-  settled_kept : (broken : Bool) (e : End) (begun : Begun K) (moves : List Place) (settled : Image K) → begun.image.broken ≡ broken → SettlesIf means broken begun.image moves settled → HasItsEnds begun.image → (begun.image.broken ≡ false → AreIdle (answered_if begun.awaits e begun.image)) → IsKept (answered_if begun.awaits e settled)
+  settled_kept : (broken : Bool) (e : End) (begun : Begun K) (moves : List Place) (settled : Image K) → begun.image.broken ≡ broken → SettlesUnless means broken begun.image moves settled → HasItsEnds begun.image → (begun.image.broken ≡ false → AreIdle (answered_if begun.awaits e begun.image)) → IsKept (answered_if begun.awaits e settled)
   settled_kept false e begun moves settled whole settles ends idle =
       let same = leads_keeps means begun.image moves settled settles.leads in
       record {

@@ -29,7 +29,7 @@ use Rattle.strm_head.specs.declared.history.Event.{Event}
 use Rattle.strm_head.specs.declared.history.Event.TheVariants.{Asked, Arrived}
 use Rattle.strm_head.specs.declared.history.Entry.{Entry}
 use Rattle.strm_head.specs.Begin.{begun_of, changes_modules, serials_of}
-use Rattle.strm_head.specs.Step.{Answers, IsDone, SettlesIf, Lands, Step, Legal, answered_if}
+use Rattle.strm_head.specs.Step.{Answers, IsDone, SettlesUnless, Lands, Step, Legal, answered_if}
 use Rattle.strm_head.specs.Serials.{standing, pushed_by, pushed_in, taken_in, times_in, AreAccounted}
 use Rattle.strm_head.proofs.KeptLemmas.{after_keeps, arrived_keeps}
 
@@ -203,7 +203,7 @@ module _ {K : Type 0} (means : Meaning K) where
   begun_times image e Close serial =
       rw (standing_same (closed_image image e) _ (after_keeps means image.broken (closed_image image e) e)) (closed_times image e serial)
 
-  settled_standing : (broken : Bool) (old : Image K) (moves : List Place) (new : Image K) → SettlesIf means broken old moves new → standing new ≡ standing old
+  settled_standing : (broken : Bool) (old : Image K) (moves : List Place) (new : Image K) → SettlesUnless means broken old moves new → standing new ≡ standing old
   settled_standing true old moves new still = ap (λ (i : Image K). standing i) still.unchanged
   settled_standing false old moves new settles = standing_same old new (leads_keeps means old moves new settles.leads)
 

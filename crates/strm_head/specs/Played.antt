@@ -13,10 +13,11 @@ use Rattle.strm_chain.specs.Image.{Image}
 use Rattle.strm_call.specs.declared.answer.Answer.{Answer}
 use Rattle.strm_call.specs.declared.answer.Answer.TheVariants.{Done, Refused, Broke}
 use Rattle.strm_head.specs.declared.history.Event.{Event}
-use Rattle.strm_head.specs.declared.history.Event.TheVariants.{Arrived}
+use Rattle.strm_head.specs.declared.history.Event.TheVariants.{Asked, Arrived}
 use Rattle.strm_head.specs.declared.history.Entry.{Entry}
 use Rattle.strm_head.specs.declared.history.Played.{Played}
 use Rattle.strm_head.specs.declared.history.Played.TheVariants.{Step, Left}
+use Rattle.strm_head.specs.Begin.{pushed_of}
 use Rattle.strm_head.specs.Step.{IsStep}
 
 abbrev pub serial_of : {K : Type 0} → Option (Shape K) → List ℕ
@@ -44,6 +45,27 @@ line_played m Came.Broke = line_step m Broke []
 abbrev pub happened : {K P : Type 0} → Played K P → End × Event (Shape K)
 happened (Step entry back) = (entry.end, entry.event)
 happened (Left e m) = (e, Arrived m)
+
+-- the serial of the module that an event hands in, if it hands one in
+abbrev pub handed_in : {K : Type 0} → Event (Shape K) → List ℕ
+handed_in (Asked request) = flat_map serial_of (pushed_of request)
+handed_in (Arrived m) = []
+
+-- the serials of the modules that must come back: that of a refused push, or those that were taken out
+abbrev pub due_back : {K : Type 0} → Event (Shape K) → Answer → List ℕ → List ℕ
+due_back event (Refused refusal) out = handed_in event
+due_back event (Done reply) out = out
+due_back event Broke out = out
+
+-- the serials of the modules that must come back of what happened, by its step
+abbrev pub must_come_back : {K P : Type 0} → Played K P → List ℕ
+must_come_back (Step entry back) = due_back entry.event entry.answer entry.out.items
+must_come_back (Left e m) = []
+
+-- the serials of the modules that do come back
+abbrev pub come_back : {K : Type 0} → Played K (Shape K) → List ℕ
+come_back (Step entry back) = flat_map serial_of back.items
+come_back (Left e m) = []
 
 -- the step that it was, if it was one
 abbrev pub entry_of : {K P : Type 0} → Played K P → List (Entry K)

@@ -78,16 +78,16 @@ module _ {K : Type 0} (means : Meaning K) where
     pub leads : Leads means image moves after
     pub quiet : IsQuiet after
 
-  -- what must move has moved; on a broken stream nothing does
-  abbrev pub SettlesIf : Bool → Image K → List Place → Image K → Type 0
-  SettlesIf true image moves after = IsStill image moves after
-  SettlesIf false image moves after = Settles image moves after
+  -- what must move has moved, unless the stream is broken: then nothing does
+  abbrev pub SettlesUnless : Bool → Image K → List Place → Image K → Type 0
+  SettlesUnless true image moves after = IsStill image moves after
+  SettlesUnless false image moves after = Settles image moves after
 
   -- a call on an end that is done: it was begun, and then what must move has moved. The answer that it awaits, if it does,
   -- is what its head has then
   pub record IsDone (e : End) (begun : Begun K) (reply : Reply) (moves : List Place) (out : List ℕ) (after : Image K) : Type 0 where
     pub settled : Image K
-    pub settles : SettlesIf begun.image.broken begun.image moves settled
+    pub settles : SettlesUnless begun.image.broken begun.image moves settled
     pub replies : reply ≡ reply_after begun (end_of settled e).state.kept
     pub leaves : after ≡ answered_if begun.awaits e settled
     pub takes : out ≡ serials_of begun.out

@@ -9,7 +9,7 @@ ghost use Rattle.strm_head.specs.Begin.{takes_no_memory, back_of, out_of, wants_
 ghost use Rattle.strm_head.specs.Inside.{are_marks};
 ghost use Rattle.strm_head.specs.Step.{Step, Legal};
 ghost use Rattle.strm_head.specs.Arrive.{Arrives};
-ghost use Rattle.strm_head.specs.Played.{happened, history_of, Plays};
+ghost use Rattle.strm_head.specs.Played.{happened, history_of, come_back, must_come_back, Plays};
 ghost use Rattle.strm_head.specs.Serials.{AreAccounted};
 
 use crate::arriving::arrive;
@@ -136,6 +136,7 @@ impl<M: ModuleOf> Stream<M> {
         requires { copy ≡ request }
         ensures plays { Plays M.Kind.means self.old result self.new }
         ensures event { happened result ≡ (end, Events.Asked request) }
+        ensures back { come_back result ≡ must_come_back result }
     {
         let mut back = ArrayVec::new();
         let answered = answer(&mut self.chain, end, request, &mut back);
@@ -159,6 +160,7 @@ impl<M: ModuleOf> Stream<M> {
         requires same { copy ≡ m }
         ensures plays { Plays M.Kind.means self.old result self.new }
         ensures event { happened result ≡ (Ends.A, Events.Arrived m) }
+        ensures back { come_back result ≡ must_come_back result }
     {
         let arrived = arrive(&mut self.chain, m);
         line_played(self.chain.alloc(), copy, arrived)
@@ -169,6 +171,7 @@ impl<M: ModuleOf> Stream<M> {
         requires { copy ≡ m }
         ensures plays { Plays M.Kind.means self.old result self.new }
         ensures event { happened result ≡ (end, Events.Arrived m) }
+        ensures back { come_back result ≡ must_come_back result }
     {
         match end {
             End::A if m.from_line() => self.play_line(m, copy),
@@ -180,6 +183,7 @@ impl<M: ModuleOf> Stream<M> {
     fn play(&mut self, noted: Noted<M>) -> Played<M::Kind, Instance<M>>
         ensures plays { Plays M.Kind.means self.old result self.new }
         ensures event { happened result ≡ noted }
+        ensures back { come_back result ≡ must_come_back result }
     {
         let Noted { end, event, copy } = noted;
         match (event, copy) {
@@ -202,6 +206,7 @@ impl<M: ModuleOf> Stream<M> {
         ensures legal { IfOk result (λ all. Legal M.Kind.means self.old (history_of all.items) self.new) }
         ensures accounts { IfOk result (λ all. AreAccounted self.old (history_of all.items) self.new) }
         ensures events { IfOk result (λ all. map happened all.items ≡ events.items) }
+        ensures back { IfOk result (λ all. map come_back all.items ≡ map must_come_back all.items) }
         ensures err { OnErr result (self.new ≡ self.old) }
     {
         let mut all = Vec::with_capacity(alloc, events.len())?;

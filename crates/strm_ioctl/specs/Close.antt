@@ -10,7 +10,7 @@ use Rattle.strm_chain.specs.declared.place.Spot.TheVariants.{Up}
 use Rattle.strm_chain.specs.Image.{Image, end_of, with_end, partner, count_of}
 use Rattle.strm_chain.specs.Deliver.{deliver}
 use Rattle.strm_call.specs.declared.answer.Reply.TheVariants as Reply
-use Rattle.strm_call.specs.Begun.{Begun, begun_without}
+use Rattle.strm_call.specs.Begun.{Begun, begun_taking}
 use Rattle.strm_ioctl.specs.Names.{names_of}
 
 -- the modules are gone, with what their queues hold and what the head's list holds; the driver's list stays
@@ -36,4 +36,4 @@ module _ {K : Type 0} (means : Meaning K) where
 
   abbrev pub close_begun : Image K → End → Begun K
   close_begun image e =
-      begun_without (after_close image.broken (closed_image image e) e) (Reply.Close (record { items = names_of (end_of image e) })) (shapes_of (end_of image e))
+      begun_taking (after_close image.broken (closed_image image e) e) (Reply.Close (record { items = names_of (end_of image e) })) (shapes_of (end_of image e))

@@ -12,7 +12,7 @@ use Rattle.strm_call.specs.declared.refusal.Refusal.{Refusal}
 use Rattle.strm_call.specs.declared.refusal.Refusal.TheVariants.{Invalid, HungUp}
 use Rattle.strm_call.specs.declared.answer.Reply.TheVariants.{Push, Pop, Look}
 use Rattle.strm_call.specs.Refusal.{refused_if}
-use Rattle.strm_call.specs.Begun.{Begun, begun, begun_without}
+use Rattle.strm_call.specs.Begun.{Begun, begun, begun_taking}
 use Rattle.strm_ioctl.specs.Ask.{is_empty}
 
 abbrev pub push_refusal : {K : Type 0} → Image K → End → Option Refusal
@@ -36,7 +36,7 @@ first_name (s ∷ modules) = s.shape.name
 abbrev pub pop_begun : {K : Type 0} → Image K → End → Begun K
 pop_begun image e =
     let end = end_of image e in
-    begun_without (with_end image e (removed end)) (Pop (first_name end.modules)) (take 1 (shapes_of end))
+    begun_taking (with_end image e (removed end)) (Pop (first_name end.modules)) (take 1 (shapes_of end))
 
 abbrev pub look_refusal : {K : Type 0} → Image K → End → Option Refusal
 look_refusal image e = refused_if (is_empty (end_of image e).modules) Invalid

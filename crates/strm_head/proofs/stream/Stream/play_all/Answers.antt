@@ -20,6 +20,7 @@ loop-noted-preserved g c =
     record {
       legal = history-push g.M.Kind.Kinds.means _ _ _ _ _ _ items before.legal c.play.ensures.plays;
       events = rw (items, map-append, before.events, c.play.ensures.event) refl;
+      back = rw (items, map-append, map-append, before.back, c.play.ensures.back) refl;
       rest = rw (append_assoc, ← c.in-Some.ensures.steps.0) before.rest;
       left = omega arith;
       room = omega (arith, before.room, c.push.ensures.capacity);

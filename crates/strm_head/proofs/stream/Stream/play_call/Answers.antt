@@ -1,6 +1,6 @@
 use Rattle.strm_head.specs.Begin.{out_of}
 use Rattle.strm_head.proofs.KeptLemmas.{answered_kept}
-use Rattle.strm_head.proofs.HistoryLemmas.{call_plays}
+use Rattle.strm_head.proofs.HistoryLemmas.{call_plays, call_back}
 use Rattle.strm_head.proofs.stream.Stream.play_call.Goals as goal
 
 pub invariant_of-self : goal.invariant_of-self
@@ -16,3 +16,9 @@ returns-clause-plays g c =
     let out = rw c.into_parts-answer.ensures.answer at c.taken_out-out.ensures in
     rw (← c.self.view_is, c.into_parts-answer.ensures.answer, c.into_parts-answer.ensures.moves)
     (call_plays means image c.args.end c.args.request c.args.copy c.answer-answered.result.answer c.answer-answered.result.moves c.taken_out-out.result.items c.answer-answered.new.back.items c.answer-answered.new.chain.image c.requires out c.answer-answered.ensures.back c.answer-answered.ensures.answers)
+
+pub returns-clause-back : goal.returns-clause-back
+returns-clause-back g c =
+    let out = rw c.into_parts-answer.ensures.answer at c.taken_out-out.ensures in
+    rw (c.requires, c.into_parts-answer.ensures.answer)
+    (call_back g.M.Kind.Kinds.means c.args.request c.answer-answered.result.answer c.taken_out-out.result.items c.answer-answered.new.back.items c.self.inside.chain.image c.args.end out c.answer-answered.ensures.back)

@@ -3,6 +3,7 @@ use Rattle.std.proofs.Common.{◌≡◌, [], refl}
 use Rattle.strm_msg.specs.Message.{Msg}
 use Rattle.strm_msg.specs.declared.words.End.TheVariants.{A}
 use Rattle.strm_module.specs.Kinds.{Meaning}
+use Rattle.strm_module.specs.declared.shape.Shape.{Shape}
 use Rattle.strm_chain.specs.Image.{Image}
 use Rattle.strm_call.specs.declared.answer.Reply.TheVariants.{Line}
 use Rattle.strm_call.specs.declared.answer.Answer.TheVariants as Answers
@@ -37,7 +38,7 @@ module _ {K : Type 0} (means : Meaning K) where
   line_happened P image m copy Broke after same arrives = rw same refl
 
 -- no module comes back of a message
-pub line_back : (K : Type 0) (m : Msg) (arrived : Arrived) → come_back {K = K} (line_played m arrived) ≡ must_come_back (line_played m arrived)
+pub line_back : (K : Type 0) (m : Msg) (arrived : Arrived) → come_back {K = K} (line_played m arrived) ≡ must_come_back {K = K} {P = Shape K} (line_played m arrived)
 line_back K m (Taken moves looks) = refl
 line_back K m (Full same) = refl
 line_back K m (NoMem same) = refl

@@ -21,7 +21,7 @@ use Rattle.strm_head.specs.Played.{serial_of, out_in, due_back, entry_of, histor
 
 -- for kinds of any meaning
 module _ {K : Type 0} (means : Meaning K) where
-  Legal-append : (image : Image K) (entries : List (Entry K)) (next after : Image K) (entry : Entry K) → Legal means image entries next → IsStep means next entry after → Legal means image (entries ++ entry ∷ []) after
+  pub Legal-append : (image : Image K) (entries : List (Entry K)) (next after : Image K) (entry : Entry K) → Legal means image entries next → IsStep means next entry after → Legal means image (entries ++ entry ∷ []) after
   Legal-append image [] next after entry same step =
       (after, subst (λ (i : Image K). IsStep means i entry after) same step, refl)
   Legal-append image (e ∷ entries) next after entry legal step =

@@ -2,7 +2,6 @@
 ghost use Rattle.std.specs.Prelude.{◌≡◌, IfOk};
 ghost use Rattle.strm_head.specs.Played.{out_in, line_step, line_played};
 
-use crate::call::Back;
 use crate::outcome::Arrived;
 use arrayvec::ArrayVec;
 use std::alloc::Global;
@@ -105,7 +104,7 @@ fn copy_event<M: ModuleOf>(
     ensures { IfOk result (λ copy. copy ≡ event.now) }
 {
     match event {
-        Event::Asked(request) => Ok(Event::Asked(copy_of(alloc, request)?)),
+        Event::Asked(request) => Ok(Event::Asked(copy_request(alloc, request)?)),
         Event::Arrived(m) => Ok(Event::Arrived(m.copy(alloc)?)),
     }
 }
@@ -140,7 +139,10 @@ pub(crate) fn line_played<K, P>(alloc: Global, copy: Message, arrived: Arrived) 
 }
 
 /// The serials of the modules that a call has taken out, topmost first; a refused one takes none.
-pub(crate) fn taken_out<M: ModuleOf>(answer: &Answer, back: &Back<M>) -> ArrayVec<u64, MOST_MODULES>
+pub fn taken_out<M: ModuleOf>(
+    answer: &Answer,
+    back: &ArrayVec<Option<Instance<M>>, MOST_MODULES>,
+) -> ArrayVec<u64, MOST_MODULES>
     ensures { result.items ≡ out_in answer.now back.now.items }
 {
     let mut out = ArrayVec::new();
@@ -157,7 +159,7 @@ pub(crate) fn taken_out<M: ModuleOf>(answer: &Answer, back: &Back<M>) -> ArrayVe
 
 /// A request as a history has it: a copy, with the module's shape in the module's place. Refused for
 /// want of memory alone.
-fn copy_of<M: ModuleOf>(
+pub fn copy_request<M: ModuleOf>(
     alloc: Global,
     request: &Request<Instance<M>>,
 ) -> Result<Request<Shape<M::Kind>>, NoMem>

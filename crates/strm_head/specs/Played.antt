@@ -30,16 +30,16 @@ out_in (Refused refusal) back = []
 out_in (Done reply) back = flat_map serial_of back
 out_in Broke back = flat_map serial_of back
 
-abbrev pub line_step : {K P : Type 0} → Msg → Answer → List Place → Played K P
-line_step m answer moves =
-    Step (record { end = A; event = Arrived m; answer = answer; moves = moves; out = record { items = [] } }) (record { items = [] })
+abbrev pub line_step : {K P : Type 0} → Msg → Answer → List Place → ℕ → Played K P
+line_step m answer moves looks =
+    Step (record { end = A; event = Arrived m; answer = answer; moves = moves; looks = looks; out = record { items = [] } }) (record { items = [] })
 
 -- what became of a message that came in from a line
 abbrev pub line_played : {K P : Type 0} → Msg → ArrivedType.Arrived → Played K P
-line_played m (Came.Taken moves looks) = line_step m (Done Line) moves
+line_played m (Came.Taken moves looks) = line_step m (Done Line) moves looks
 line_played m (Came.Full same) = Left A same
 line_played m (Came.NoMem same) = Left A same
-line_played m Came.Broke = line_step m Broke []
+line_played m Came.Broke = line_step m Broke [] 0
 
 -- what happened, by what became of it
 abbrev pub happened : {K P : Type 0} → Played K P → End × Event (Shape K)

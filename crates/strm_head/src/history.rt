@@ -32,6 +32,8 @@ pub struct Entry<K> {
     pub answer: Answer,
     /// The places that moved.
     pub moves: Moves,
+    /// How many places were looked at, where that is counted; else 0.
+    pub looks: u64,
     /// The serials of the modules that the call took out, topmost first.
     pub out: ArrayVec<u64, MOST_MODULES>,
 }
@@ -110,8 +112,8 @@ fn copy_event<M: ModuleOf>(
 }
 
 /// A message that was taken.
-fn line_step<K, P>(m: Message, answer: Answer, moves: Moves) -> Played<K, P>
-    ensures { result ≡ line_step m answer moves }
+fn line_step<K, P>(m: Message, answer: Answer, moves: Moves, looks: u64) -> Played<K, P>
+    ensures { result ≡ line_step m answer moves looks }
 {
     Played::Step {
         entry: Entry {
@@ -119,6 +121,7 @@ fn line_step<K, P>(m: Message, answer: Answer, moves: Moves) -> Played<K, P>
             event: Event::Arrived(m),
             answer,
             moves,
+            looks,
             out: ArrayVec::new(),
         },
         back: ArrayVec::new(),
@@ -133,13 +136,15 @@ pub(crate) fn line_played<K, P>(alloc: Global, copy: Message, arrived: Arrived) 
     match arrived {
         Arrived::Full(message) => return Played::Left { end, message },
         Arrived::NoMem(message) => return Played::Left { end, message },
-        Arrived::Broke => return line_step(copy, Answer::Broke, Moves::new(alloc)),
-        Arrived::Taken { moves, .. } => line_step(copy, Answer::Done(Reply::Line), moves),
+        Arrived::Broke => return line_step(copy, Answer::Broke, Moves::new(alloc), 0),
+        Arrived::Taken { moves, looks } => {
+            line_step(copy, Answer::Done(Reply::Line), moves, looks)
+        }
     }
 }
 
 /// The serials of the modules that a call has taken out, topmost first; a refused one takes none.
-pub fn taken_out<M: ModuleOf>(
+pub(crate) fn taken_out<M: ModuleOf>(
     answer: &Answer,
     back: &ArrayVec<Option<Instance<M>>, MOST_MODULES>,
 ) -> ArrayVec<u64, MOST_MODULES>

@@ -13,7 +13,7 @@ mod outcome;
 mod stream;
 
 pub use fault::NewFault;
-pub use history::{Entry, Event, Played, copy_request, taken_out};
+pub use history::{Entry, Event, Played, copy_request};
 pub use outcome::{Arrived, Outcome};
 pub use stream::Stream;
 pub use strm_call::{

@@ -1,5 +1,5 @@
 //! A stream, and the calls on it.
-ghost use Rattle.std.specs.Prelude.{◌≡◌, ◌↔◌, ◌<◌, true, false, map, option_map, option_copied, IsOk, IsErrOf, IfOk, OnErr};
+ghost use Rattle.std.specs.Prelude.{◌≡◌, ◌↔◌, ◌<◌, true, false, [], map, flat_map, option_map, option_copied, IsOk, IsErrOf, IfOk, OnErr};
 ghost use Rattle.strm_msg.specs.Kind.{is_from_line};
 ghost use Rattle.strm_qpair.specs.End.{pair_at};
 ghost use Rattle.strm_chain.specs.Image.{end_of, fresh};
@@ -7,9 +7,9 @@ ghost use Rattle.strm_msg.specs.declared.words.End.TheVariants as Ends;
 ghost use Rattle.strm_head.specs.declared.history.Event.TheVariants as Events;
 ghost use Rattle.strm_head.specs.Begin.{takes_no_memory, back_of, out_of, wants_memory};
 ghost use Rattle.strm_head.specs.Inside.{are_marks};
-ghost use Rattle.strm_head.specs.Step.{Step, Legal};
+ghost use Rattle.strm_head.specs.Step.{Step, IsStep, Legal};
 ghost use Rattle.strm_head.specs.Arrive.{Arrives};
-ghost use Rattle.strm_head.specs.Played.{happened, history_of, come_back, must_come_back, Plays};
+ghost use Rattle.strm_head.specs.Played.{serial_of, due_back, happened, history_of, come_back, must_come_back, Plays};
 ghost use Rattle.strm_head.specs.Serials.{AreAccounted};
 
 use crate::arriving::arrive;
@@ -20,8 +20,8 @@ use crate::outcome::{Arrived, Outcome};
 use arrayvec::ArrayVec;
 use std::alloc::Global;
 use std::marker::Model;
-use strm_call::Request;
-use strm_chain::{Chain, Driver};
+use strm_call::{Answer, Request};
+use strm_chain::{Chain, Driver, MOST_MODULES};
 use strm_module::{Instance, ModuleOf, Shape};
 use strm_msg::{End, Message, NoMem};
 use strm_queue::Marks;
@@ -126,6 +126,41 @@ impl<M: ModuleOf> Stream<M> {
         arrive(&mut self.chain, m)
     }
 
+    /// One call on an end, as `apply` makes it, for whoever keeps a history: its answer, and its entry
+    /// there, which has an equal answer and the copy of the request. The modules that come back are put
+    /// into `back`.
+    pub fn enter(
+        &mut self,
+        end: End,
+        request: Request<Instance<M>>,
+        copy: Request<Shape<M::Kind>>,
+        back: &mut ArrayVec<Option<Instance<M>>, MOST_MODULES>,
+    ) -> (Answer, Entry<M::Kind>)
+        requires same { copy ≡ request }
+        requires empty { back.old.items ≡ [] }
+        ensures step { IsStep M.Kind.means self.old result.1 self.new }
+        ensures end { result.1.end ≡ end }
+        ensures event { result.1.event ≡ Events.Asked request }
+        ensures answer { result.1.answer ≡ result.0 }
+        ensures looks { result.1.looks ≡ 0 }
+        ensures back { back.new.items ≡ back_of M.Kind.means self.old end request result.0 }
+        ensures handed { flat_map serial_of back.new.items ≡ due_back result.1.event result.0 result.1.out.items }
+        ensures memory { takes_no_memory request ≡ true → wants_memory result.0 ≡ false }
+    {
+        let answered = answer(&mut self.chain, end, request, back);
+        let (answer, twin, moves) = answered.into_parts();
+        let out = taken_out(&answer, back);
+        let entry = Entry {
+            end,
+            event: Event::Asked(copy),
+            answer: twin,
+            moves,
+            looks: 0,
+            out,
+        };
+        (answer, entry)
+    }
+
     /// One call, as an entry of a history.
     fn play_call(
         &mut self,
@@ -139,19 +174,8 @@ impl<M: ModuleOf> Stream<M> {
         ensures back { come_back result ≡ must_come_back result }
     {
         let mut back = ArrayVec::new();
-        let answered = answer(&mut self.chain, end, request, &mut back);
-        let (answer, _, moves) = answered.into_parts();
-        let out = taken_out(&answer, &back);
-        Played::Step {
-            entry: Entry {
-                end,
-                event: Event::Asked(copy),
-                answer,
-                moves,
-                out,
-            },
-            back,
-        }
+        let (_, entry) = self.enter(end, request, copy, &mut back);
+        Played::Step { entry, back }
     }
 
     /// One message that comes in from a line, as an entry of a history if it is taken.

@@ -306,6 +306,7 @@ pub fn play(rt: &(impl Abort + Print), alloc: Global, rows: &[Row]) {
             event: Event::Asked(request(rt, alloc, *ask)),
             answer: answer(rt, alloc, *say),
             moves: Moves::new(alloc),
+            looks: 0,
             out: ArrayVec::new(),
         };
         let line = CallLine {

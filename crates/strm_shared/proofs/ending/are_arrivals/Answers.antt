@@ -1,0 +1,7 @@
+use Rattle.strm_shared.proofs.HistoryLemmas.{arrivals_left}
+use Rattle.strm_shared.proofs.ending.are_arrivals.Goals as goal
+
+pub loop-entry-preserved : goal.loop-entry-preserved
+loop-entry-preserved g c =
+    let left = arrivals_left c.args.history.now c.loop-entry.entry-index c.entry-item.result c.loop-entry.rest.now c.in-Some.left.now c.loop-entry-test.true c.entry-item.is c.in-Some.ensures in
+    λ same. c.loop-entry.invariant (left same)

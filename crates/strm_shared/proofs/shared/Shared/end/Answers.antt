@@ -1,0 +1,59 @@
+use Rattle.std.proofs.Common.{List, ◌++◌, append-nil, refl, sym, ◌∙◌, ap}
+use Rattle.strm_msg.specs.Message.{Msg}
+use Rattle.strm_shared.specs.History.{arrivals}
+use Rattle.strm_head.proofs.SerialLemmas.{legal_accounts}
+use Rattle.strm_shared.proofs.shared.Shared.end.Goals as goal
+
+pub returns-then-not-are_seats-clause-seats : goal.returns-then-not-are_seats-clause-seats
+returns-then-not-are_seats-clause-seats g c =
+    let are = rw c.as_slice.ensures.value at c.are_seats.ensures in
+    rw (← c.self.view_is) ((λ is seats. absurd (cc (are.1 seats, c.if-not-are_seats.true))), (λ none. refl))
+
+pub returns-then-not-is_of-clause-seats : goal.returns-then-not-is_of-clause-seats
+returns-then-not-is_of-clause-seats g c =
+    let are = rw c.as_slice.ensures.value at c.are_seats.ensures in
+    rw (← c.self.view_is) ((λ is. absurd cc), (λ none. absurd (none (are.0 c.if-not-are_seats.false))))
+
+pub returns-then-not-is_fed-clause-seats : goal.returns-then-not-is_fed-clause-seats
+returns-then-not-is_fed-clause-seats g c =
+    let are = rw c.as_slice.ensures.value at c.are_seats.ensures in
+    rw (← c.self.view_is) ((λ is. absurd cc), (λ none. absurd (none (are.0 c.if-not-are_seats.false))))
+
+pub returns-then-not-do_agree-clause-seats : goal.returns-then-not-do_agree-clause-seats
+returns-then-not-do_agree-clause-seats g c =
+    let are = rw c.as_slice.ensures.value at c.are_seats.ensures in
+    rw (← c.self.view_is) ((λ is. absurd cc), (λ none. absurd (none (are.0 c.if-not-are_seats.false))))
+
+pub returns-clause-legal : goal.returns-clause-legal
+returns-clause-legal g c =
+    let parts = c.into_parts-history.ensures in
+    let of = c.is_of.ensures.0 c.if-not-is_of.false in
+    rw (← c.self.view_is, ← of.1, parts.history, parts.stream) parts.legal
+
+pub returns-clause-accounts : goal.returns-clause-accounts
+returns-clause-accounts g c = legal_accounts g.M.Kind.Kinds.means _ _ _ (returns-clause-legal g c)
+
+pub returns-clause-callers : goal.returns-clause-callers
+returns-clause-callers g c =
+    let agree = (rw (c.as_slice-2.ensures.value, c.as_slice-3.ensures.value) at c.do_agree.ensures) c.if-not-do_agree.false in
+    rw (← c.self.view_is) agree.seated
+
+pub returns-clause-counts : goal.returns-clause-counts
+returns-clause-counts g c =
+    let agree = (rw (c.as_slice-2.ensures.value, c.as_slice-3.ensures.value) at c.do_agree.ensures) c.if-not-do_agree.false in
+    agree.counts
+
+pub returns-clause-arrived : goal.returns-clause-arrived
+returns-clause-arrived g c =
+    let agree = (rw (c.as_slice-2.ensures.value, c.as_slice-3.ensures.value) at c.do_agree.ensures) c.if-not-do_agree.false in
+    ap (λ (l : List Msg). arrivals c.into_parts-history.result.0.items ++ l) c.new.ensures.items ∙ append-nil _ ∙ agree.arrived
+
+pub returns-clause-fed : goal.returns-clause-fed
+returns-clause-fed g c =
+    rw (← c.self.view_is) (sym c.is_fed.ensures ∙ c.if-not-is_fed.false)
+
+pub returns-clause-seats : goal.returns-clause-seats
+returns-clause-seats g c =
+    let are = rw c.as_slice.ensures.value at c.are_seats.ensures in
+    let seats = are.0 c.if-not-are_seats.false in
+    rw (← c.self.view_is) ((λ is. absurd cc), (λ none. absurd (none seats)))

@@ -1,0 +1,92 @@
+-- What a shared stream, its seats and its feeder are to a contract, and what must agree at the end.
+use Rattle.std.specs.Prelude.{◌≡◌, ℕ, ◌+◌, ◌<◌, ◌==◌, nat_lt, zero, suc, not, Bool, true, Option, Some, None, List, [], ◌∷◌, ◌++◌, length, All, Any, if◌then◌else◌, ⊤}
+use Rattle.strm_msg.specs.Message.{Msg}
+use Rattle.strm_call.specs.declared.answer.Answer.{Answer}
+use Rattle.strm_call.specs.declared.answer.Answer.TheVariants as Answers
+use Rattle.strm_head.specs.Begin.{pushed_of}
+use Rattle.strm_head.specs.Step.{is_line}
+use Rattle.strm_shared.specs.declared.setup.Setup.{Setup}
+use Rattle.strm_shared.specs.declared.entry.Who.{Who}
+use Rattle.strm_shared.specs.declared.entry.Who.TheVariants.{Caller, Line}
+use Rattle.strm_shared.specs.declared.entry.Entry.{Entry}
+use Rattle.strm_shared.specs.declared.call.Call.{Call}
+use Rattle.strm_shared.specs.declared.call.Called.{Called}
+use Rattle.strm_shared.specs.declared.call.Called.TheVariants.{Done, NoRoom}
+use Rattle.strm_shared.specs.declared.call.Landed.{Landed}
+use Rattle.strm_shared.specs.declared.call.Landed.TheVariants.{Entered, Full, NoMem}
+use Rattle.strm_shared.specs.History.{arrivals, calls_of}
+use Rattle.strm_shared.specs.Log.{SeatValue}
+
+-- a shared stream: its number, its setup, and how many callers it has
+pub record SharedValue : Type 0 where
+  pub number : ℕ
+  pub setup : Setup
+  pub seats : ℕ
+
+-- a feeder, and what it leaves: the number of the stream, and the messages that it had accepted
+pub record FeedValue : Type 0 where
+  pub number : ℕ
+  pub accepted : List Msg
+
+-- a seat for each caller, that has made no call
+abbrev pub fresh_seats : ℕ → ℕ → List SeatValue
+fresh_seats number zero = []
+fresh_seats number (suc callers) = fresh_seats number callers ++ record { number = number; caller = callers; calls = 0 } ∷ []
+
+-- the feeder of a line, that had nothing accepted; the other drivers have none
+abbrev pub fresh_feed : ℕ → Setup → Option FeedValue
+fresh_feed number setup = if is_line setup.driver then Some (record { number = number; accepted = [] }) else None
+
+-- as many seats as callers, all of one stream, and one for each caller
+pub record AreSeats (number callers : ℕ) (seats : List SeatValue) : Type 0 where
+  pub many : length seats ≡ callers
+  pub of_one : All (λ s. s.number ≡ number) seats
+  pub each : (caller : ℕ) → caller < callers → Any (λ s. s.caller ≡ caller) seats
+
+-- the seat counts a call that was made, and no other
+abbrev pub Counted : {P : Type 0} → Call P → SeatValue → Called P → SeatValue → Type 0
+Counted call seat (Done answer back) after = after ≡ record seat { calls = seat.calls + 1 }
+Counted call seat (NoRoom same) after = after ≡ seat
+
+-- the module of a refused push comes back with the answer
+abbrev pub HandsBackRefused : {P : Type 0} → Call P → Answer → List (Option P) → Type 0
+HandsBackRefused call (Answers.Refused refusal) back = back ≡ pushed_of call.request
+HandsBackRefused call (Answers.Done reply) back = ⊤
+HandsBackRefused call Answers.Broke back = ⊤
+
+-- so does a call that was not made
+abbrev pub HandsBack : {P : Type 0} → Call P → Called P → Type 0
+HandsBack call (Done answer back) = HandsBackRefused call answer back.items
+HandsBack call (NoRoom same) = same ≡ call
+
+-- a message that did not come in comes back
+abbrev pub ComesBack : Msg → Landed → Type 0
+ComesBack m Entered = ⊤
+ComesBack m (Full same) = same ≡ m
+ComesBack m (NoMem same) = same ≡ m
+
+-- the step was made by the line, or by a caller who has a seat
+abbrev pub has_seat : ℕ → Who → Bool
+has_seat callers (Caller caller) = nat_lt caller callers
+has_seat callers Line = true
+
+-- each caller has made as many calls as its seat counts
+abbrev pub CountsAgree : {K : Type 0} → List (Entry K) → List SeatValue → Type 0
+CountsAgree history seats = All (λ s. calls_of s.caller history ≡ s.calls) seats
+
+-- a line's feeder has ended; the other drivers have none
+abbrev pub is_fed : ℕ → Setup → Option FeedValue → Bool
+is_fed number setup None = not (is_line setup.driver)
+is_fed number setup (Some feed) = feed.number == number
+
+-- what the feeder had accepted, if there was one
+abbrev pub accepted_of : Option FeedValue → List Msg
+accepted_of None = []
+accepted_of (Some feed) = feed.accepted
+
+-- each step was made by the line or by a caller with a seat, each caller made as many calls as its seat counts, and what came
+-- in is what the feeder had accepted
+pub record Agrees {K : Type 0} (callers : ℕ) (history : List (Entry K)) (seats : List SeatValue) (feed : Option FeedValue) : Type 0 where
+  pub seated : All (λ entry. has_seat callers entry.who ≡ true) history
+  pub counts : CountsAgree history seats
+  pub arrived : arrivals history ≡ accepted_of feed

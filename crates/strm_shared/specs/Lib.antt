@@ -1,0 +1,5 @@
+pub mod Setup
+pub mod Fault
+pub mod History
+pub mod Log
+pub mod Ending

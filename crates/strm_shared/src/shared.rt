@@ -1,0 +1,201 @@
+//! A stream that several callers share.
+ghost use Rattle.std.specs.Prelude.{◌≡◌, ◌↔◌, ◌+◌, ◌++◌, true, false, All, IfOk, OnOk, IsErrOf};
+ghost use Rattle.strm_msg.specs.Kind.{is_from_line};
+ghost use Rattle.strm_shared.specs.Setup.{is_fit, is_ring, opened};
+ghost use Rattle.strm_shared.specs.History.{arrivals, AreAccounted, Legal};
+ghost use Rattle.strm_shared.specs.Ending.{fresh_seats, fresh_feed, accepted_of, has_seat, is_fed, AreSeats, CountsAgree, Counted, ComesBack, HandsBack};
+
+use crate::call::{Call, Called, Landed};
+use crate::ending::{are_seats, do_agree, is_fed};
+use crate::entry::Entry;
+use crate::fault::{EndFault, SharedFault};
+use crate::feeder::{FeedEnd, Feeder};
+use crate::log::Log;
+use crate::seat::Seat;
+use crate::setup::Setup;
+use std::alloc::Global;
+use std::marker::Model;
+use std::sync::{Mutex, Wait};
+use strm_head::{Stream, copy_request};
+use strm_module::{Instance, ModuleOf};
+use strm_msg::{Message, NoMem};
+
+/// A stream that several callers share.
+///
+/// A contract sees its number, its setup, and how many callers it has.
+#[derive(Drop)]
+pub struct Shared<M: ModuleOf> {
+    number: u32,
+    setup: Setup,
+    seats: u32,
+    alloc: Global,
+    log: Mutex<Log<M>>,
+}
+
+impl<M: ModuleOf> Model for Shared<M> {
+    ghost use Rattle.strm_shared.specs.Ending.{SharedValue};
+
+    ghost Value = { SharedValue };
+
+    ghost view = { λ s. record { number = s.number; setup = s.setup; seats = s.seats } };
+}
+
+/// What is left of a shared stream.
+#[derive(Drop)]
+pub struct Ended<M: ModuleOf> {
+    /// Every step, in order.
+    pub history: Vec<Entry<M::Kind>>,
+    /// The stream to which they led.
+    pub stream: Stream<M>,
+    /// The messages that were accepted and had not come in yet. Today there are none.
+    pub left: Vec<Message>,
+}
+
+/// A seat for each caller, that has made no call. Refused for want of memory alone.
+fn seats_of(alloc: Global, number: u32, callers: u32) -> Result<Vec<Seat>, NoMem>
+    ensures { IfOk result (λ seats. seats.items ≡ fresh_seats number callers) }
+{
+    let mut seats = Vec::new(alloc);
+    for caller in 0..callers {
+        seats.push(Seat::new(number, caller))?;
+    }
+    Ok(seats)
+}
+
+/// The feeder of a line; the other drivers have none.
+fn feeder_of(alloc: Global, number: u32, setup: Setup) -> Option<Feeder>
+    ensures { result ≡ fresh_feed number setup }
+{
+    if setup.is_line() {
+        return Some(Feeder::new(alloc, number));
+    }
+    None
+}
+
+impl<M: ModuleOf> Shared<M> {
+    /// A stream that was just made, with a seat for each of its callers, numbered from 0, and for a line
+    /// a feeder. The number is the caller's to choose; seats and feeder have it too.
+    ///
+    /// To be called with marks of which each low one is below its high one. Refused with `Ring` exactly
+    /// where the ring of a line does not hold 1 to 4096 messages, which is looked at first, and with
+    /// `NoMem` for want of memory.
+    pub fn new(
+        alloc: Global,
+        number: u32,
+        setup: Setup,
+        seats: u32,
+    ) -> Result<(Shared<M>, Vec<Seat>, Option<Feeder>), SharedFault>
+        requires { is_fit setup ≡ true }
+        ensures shared { IfOk result (λ all. all.0 ≡ record { number = number; setup = setup; seats = seats }) }
+        ensures seats { IfOk result (λ all. all.1.items ≡ fresh_seats number seats) }
+        ensures feeder { IfOk result (λ all. all.2 ≡ fresh_feed number setup) }
+        ensures ring { IsErrOf result SharedFault.Ring ↔ (is_ring setup ≡ false) }
+    {
+        if !setup.is_ring() {
+            return Err(SharedFault::Ring);
+        }
+        let (Ok(all), Ok(log)) = (
+            seats_of(alloc, number, seats),
+            Log::new(alloc, number, setup),
+        ) else {
+            return Err(SharedFault::NoMem);
+        };
+        let shared = Shared {
+            number,
+            setup,
+            seats,
+            alloc,
+            log: Mutex::new(log),
+        };
+        Ok((shared, all, feeder_of(alloc, number, setup)))
+    }
+
+    /// The number.
+    pub fn number(&self) -> u32
+        ensures { result ≡ self.now.number }
+    {
+        self.number
+    }
+
+    /// How it was made.
+    pub fn setup(&self) -> Setup
+        ensures { result ≡ self.now.setup }
+    {
+        self.setup
+    }
+
+    /// One call of a caller, under the lock: a step of the stream, which the history has with the caller,
+    /// the call and the answer, and which the seat counts. Or it comes back for want of memory for its
+    /// entry, or since the seat can count no more, and nothing is changed.
+    ///
+    /// To be called with a seat of this number. Modules that come back are the caller's, and are not
+    /// dropped under the lock.
+    pub fn call<R: Wait>(
+        &self,
+        rt: &R,
+        seat: &mut Seat,
+        call: Call<Instance<M>>,
+    ) -> Called<Instance<M>>
+        requires { seat.old.number ≡ self.now.number }
+        ensures counts { Counted call seat.old result seat.new }
+        ensures back { HandsBack call result }
+    {
+        let Ok(copy) = copy_request(self.alloc, &call.request) else {
+            return Called::NoRoom(call);
+        };
+        self.log.lock(rt).call(seat, call, copy)
+    }
+
+    /// A message comes in from a line, under the lock.
+    pub(crate) fn arrive<R: Wait>(&self, rt: &R, m: Message, copy: Message) -> Landed
+        requires line { is_from_line m.kind ≡ true }
+        requires same { copy ≡ m }
+        ensures { ComesBack m result }
+    {
+        self.log.lock(rt).arrive(m, copy)
+    }
+
+    /// Ends the stream, when no caller and no feeder has it any more: its whole history, and the stream
+    /// to which the history leads.
+    ///
+    /// Refused with `Seats` exactly where the seats are not those of this number, one for each caller, in
+    /// any order; then with `Unfinished`, where a line's feeder is not shown to have ended, or what stood
+    /// under the lock has another number or setup, a caller without a seat, another number of calls than
+    /// a seat counts, or other arrivals than the feeder had accepted. Then all is dropped.
+    pub fn end(self, seats: Vec<Seat>, feed: Option<FeedEnd>) -> Result<Ended<M>, EndFault>
+        ensures legal { IfOk result (λ ended. Legal M.Kind.means (opened self.setup) ended.history.items ended.stream) }
+        ensures accounts { IfOk result (λ ended. AreAccounted (opened self.setup) ended.history.items ended.stream) }
+        ensures callers { IfOk result (λ ended. All (λ entry. has_seat self.seats entry.who ≡ true) ended.history.items) }
+        ensures counts { IfOk result (λ ended. CountsAgree ended.history.items seats.items) }
+        ensures arrived { IfOk result (λ ended. arrivals ended.history.items ++ ended.left.items ≡ accepted_of feed) }
+        ensures fed { OnOk result (is_fed self.number self.setup feed ≡ true) }
+        ensures seats { IsErrOf result EndFault.Seats ↔ (AreSeats self.number self.seats seats.items → ⊥) }
+    {
+        let Shared {
+            number,
+            setup,
+            seats: callers,
+            alloc,
+            log,
+        } = self;
+        if !are_seats(number, callers, seats.as_slice()) {
+            return Err(EndFault::Seats);
+        }
+        let log = log.into_inner();
+        if !log.is_of(number, setup) {
+            return Err(EndFault::Unfinished);
+        }
+        if !is_fed(number, setup, &feed) {
+            return Err(EndFault::Unfinished);
+        }
+        let (history, stream) = log.into_parts();
+        if !do_agree(callers, history.as_slice(), seats.as_slice(), &feed) {
+            return Err(EndFault::Unfinished);
+        }
+        Ok(Ended {
+            history,
+            stream,
+            left: Vec::new(alloc),
+        })
+    }
+}

@@ -1,0 +1,121 @@
+//! Worked examples, by the public calls alone. What is expected is worked out by hand from the rules:
+//! what each call answers, what the history has of it, and when a shared stream ends.
+ghost use Rattle.std.specs.Prelude.{◌≡◌, true};
+ghost use Rattle.strm_msg.specs.Kind.{is_from_line};
+ghost use Rattle.strm_shared.specs.Setup.{is_fit};
+
+use std::alloc::Global;
+use std::process::Abort;
+use std::sync::Wait;
+use strm_head::{Answer, Driver, Event, Refusal, Reply, Request};
+use strm_module::{Instance, Kind, Plain, Shape};
+use strm_msg::{Bytes, End, Errno, Message};
+use strm_shared::{
+    Call, Called, EndFault, Ended, Entry, FeedEnd, Feeder, Seat, Setup, Shared, SharedFault, Who,
+};
+
+mod callers;
+mod ending;
+mod feeding;
+
+/// An echo whose lists are full at 16 bytes.
+const ECHO: Setup = Setup {
+    driver: Driver::Echo,
+    head: (16, 4),
+    drv: (16, 4),
+    ring: 1,
+};
+
+/// A line whose lists are full at 5 bytes.
+const LINE: Setup = Setup {
+    driver: Driver::Line,
+    head: (5, 4),
+    drv: (5, 4),
+    ring: 2,
+};
+
+/// A shared stream of this number, with its seats and maybe its feeder.
+type Made = (Shared<Plain>, Vec<Seat>, Option<Feeder>);
+
+fn made(rt: &impl Abort, alloc: Global, number: u32, setup: Setup, seats: u32) -> Made
+    requires { is_fit setup ≡ true }
+{
+    Shared::new(alloc, number, setup, seats)
+        .ok()
+        .expect(rt, "a stream")
+}
+
+fn bytes(rt: &impl Abort, alloc: Global, bytes: &[u8]) -> Bytes {
+    Bytes::from_slice(alloc, bytes).expect(rt, "no memory")
+}
+
+fn write(rt: &impl Abort, alloc: Global, dat: &[u8]) -> Request<Instance<Plain>> {
+    Request::Write {
+        dat: bytes(rt, alloc, dat),
+    }
+}
+
+/// A push of a module that passes everything on, of this serial.
+fn push(rt: &impl Abort, serial: u64) -> Request<Instance<Plain>> {
+    let shape = Shape::new(serial, b"pass", None, None, Kind::Pass).expect(rt, "a good name");
+    Request::Push {
+        instance: Instance::new(shape, Plain),
+    }
+}
+
+/// What a call on an end answers, and the serials of the modules that come back.
+fn called<R: Abort + Wait>(
+    rt: &R,
+    shared: &Shared<Plain>,
+    seat: &mut Seat,
+    end: End,
+    request: Request<Instance<Plain>>,
+) -> (Answer, [Option<u64>; 2]) {
+    assert!(rt; seat.number() == shared.number());
+    match shared.call(rt, seat, Call { end, request }) {
+        Called::Done { answer, back } => (answer, serials_of(back.as_slice())),
+        Called::NoRoom(_) => panic!(rt; "no room"),
+    }
+}
+
+/// The serials of the first two modules.
+fn serials_of(back: &[Option<Instance<Plain>>]) -> [Option<u64>; 2] {
+    [0, 1].map(|i| match back.get(i) {
+        Some(Some(module)) => Some(module.shape().serial),
+        _ => None,
+    })
+}
+
+/// What a call on end A answers.
+fn answer<R: Abort + Wait>(
+    rt: &R,
+    shared: &Shared<Plain>,
+    seat: &mut Seat,
+    request: Request<Instance<Plain>>,
+) -> Answer {
+    let (answer, _) = called(rt, shared, seat, End::A, request);
+    answer
+}
+
+fn data(rt: &impl Abort, alloc: Global, dat: &[u8]) -> Message {
+    Message::of_data(alloc, 0, dat).expect(rt, "no memory")
+}
+
+/// Whether the feeder has a message accepted. What comes back is the same message.
+fn accepted<R: Abort + Wait>(
+    rt: &R,
+    alloc: Global,
+    shared: &Shared<Plain>,
+    feeder: &mut Feeder,
+    m: Message,
+) -> bool {
+    assert!(rt; m.from_line());
+    let copy = m.copy(alloc).expect(rt, "no memory");
+    match feeder.arrive(rt, shared, m) {
+        Ok(()) => true,
+        Err(same) => {
+            assert!(rt; same == copy);
+            false
+        }
+    }
+}

@@ -3,7 +3,6 @@ use Rattle.std.proofs.Common.{◌≡◌, [], refl}
 use Rattle.strm_msg.specs.Message.{Msg}
 use Rattle.strm_msg.specs.declared.words.End.TheVariants.{A}
 use Rattle.strm_module.specs.Kinds.{Meaning}
-use Rattle.strm_module.specs.declared.shape.Shape.{Shape}
 use Rattle.strm_chain.specs.Image.{Image}
 use Rattle.strm_call.specs.declared.answer.Reply.TheVariants.{Line}
 use Rattle.strm_call.specs.declared.answer.Answer.TheVariants as Answers
@@ -11,7 +10,7 @@ use Rattle.strm_head.specs.declared.outcome.Arrived.{Arrived}
 use Rattle.strm_head.specs.declared.outcome.Arrived.TheVariants.{Taken, Full, NoMem, Broke}
 use Rattle.strm_head.specs.declared.history.Event.TheVariants as Events
 use Rattle.strm_head.specs.Inside.{IsKept}
-use Rattle.strm_head.specs.Played.{happened, line_played, come_back, must_come_back, Plays}
+use Rattle.strm_head.specs.Played.{happened, line_played, Plays}
 use Rattle.strm_head.specs.Arrive.{Arrives}
 use Rattle.strm_head.proofs.KeptLemmas.{landed_kept}
 
@@ -25,21 +24,14 @@ module _ {K : Type 0} (means : Meaning K) where
   arrived_kept image m Broke after kept arrives = landed_kept means image A m Answers.Broke [] [] after kept arrives
 
   -- a message that came in from a line is a step, or was left
-  pub line_plays : (P : Type 0) (image : Image K) (m copy : Msg) (arrived : Arrived) (after : Image K) → copy ≡ m → Arrives means image m arrived after → Plays means {P = P} image (line_played copy arrived) after
-  line_plays P image m copy (Taken moves looks) after same arrives = rw same arrives.0
-  line_plays P image m copy (Full back) after same arrives = arrives.2
-  line_plays P image m copy (NoMem back) after same arrives = arrives.2
-  line_plays P image m copy Broke after same arrives = rw same arrives
+  pub line_plays : (image : Image K) (m copy : Msg) (arrived : Arrived) (after : Image K) → copy ≡ m → Arrives means image m arrived after → Plays means image (line_played copy arrived) after
+  line_plays image m copy (Taken moves looks) after same arrives = (rw same arrives.0, refl)
+  line_plays image m copy (Full back) after same arrives = arrives.2
+  line_plays image m copy (NoMem back) after same arrives = arrives.2
+  line_plays image m copy Broke after same arrives = (rw same arrives, refl)
 
   pub line_happened : (P : Type 0) (image : Image K) (m copy : Msg) (arrived : Arrived) (after : Image K) → copy ≡ m → Arrives means image m arrived after → happened {K = K} {P = P} (line_played copy arrived) ≡ (A, Events.Arrived m)
   line_happened P image m copy (Taken moves looks) after same arrives = rw same refl
   line_happened P image m copy (Full back) after same arrives = rw arrives.1 refl
   line_happened P image m copy (NoMem back) after same arrives = rw arrives.1 refl
   line_happened P image m copy Broke after same arrives = rw same refl
-
--- no module comes back of a message
-pub line_back : (K : Type 0) (m : Msg) (arrived : Arrived) → come_back {K = K} (line_played m arrived) ≡ must_come_back {K = K} {P = Shape K} (line_played m arrived)
-line_back K m (Taken moves looks) = refl
-line_back K m (Full same) = refl
-line_back K m (NoMem same) = refl
-line_back K m Broke = refl

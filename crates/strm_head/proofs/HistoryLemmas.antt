@@ -17,7 +17,7 @@ use Rattle.strm_head.specs.declared.history.Played.TheVariants.{Step, Left}
 use Rattle.strm_head.specs.Begin.{begun_of, handed_out, back_of, out_of, serials_of}
 use Rattle.strm_head.specs.Step as Steps
 use Rattle.strm_head.specs.Step.{Answers, IsStep, Legal}
-use Rattle.strm_head.specs.Played.{serial_of, out_in, due_back, entry_of, history_of, Plays}
+use Rattle.strm_head.specs.Played.{serial_of, out_in, due_back, entry_of, history_of, Plays, PlaysAll}
 
 -- for kinds of any meaning
 module _ {K : Type 0} (means : Meaning K) where
@@ -31,12 +31,18 @@ module _ {K : Type 0} (means : Meaning K) where
   Legal-same image entries next after legal same =
       rw append-nil (subst (λ (i : Image K). Legal means image entries i) (sym same) legal)
 
-  plays_on : {P : Type 0} (image : Image K) (entries : List (Entry K)) (next after : Image K) (played : Played K P) → Legal means image entries next → Plays means next played after → Legal means image (entries ++ entry_of played) after
-  plays_on image entries next after (Step entry back) legal step = Legal-append image entries next after entry legal step
+  plays_on : (image : Image K) (entries : List (Entry K)) (next after : Image K) (played : Played K (Shape K)) → Legal means image entries next → Plays means next played after → Legal means image (entries ++ entry_of played) after
+  plays_on image entries next after (Step entry back) legal step = Legal-append image entries next after entry legal step.0
   plays_on image entries next after (Left e m) legal same = Legal-same image entries next after legal same
 
   -- what becomes of one more event, as the list then is
-  pub history-push : {P : Type 0} (image : Image K) (all longer : List (Played K P)) (next after : Image K) (played : Played K P) → longer ≡ all ++ played ∷ [] → Legal means image (history_of all) next → Plays means next played after → Legal means image (history_of longer) after
+  pub PlaysAll-append : (image : Image K) (all : List (Played K (Shape K))) (next after : Image K) (played : Played K (Shape K)) → PlaysAll means image all next → Plays means next played after → PlaysAll means image (all ++ played ∷ []) after
+  PlaysAll-append image [] next after played same plays =
+      (after, subst (λ (i : Image K). Plays means i played after) same plays, refl)
+  PlaysAll-append image (p ∷ all) next after played plays-all plays =
+      (plays-all.0, plays-all.1, PlaysAll-append plays-all.0 all next after played plays-all.2 plays)
+
+  pub history-push : (image : Image K) (all longer : List (Played K (Shape K))) (next after : Image K) (played : Played K (Shape K)) → longer ≡ all ++ played ∷ [] → Legal means image (history_of all) next → Plays means next played after → Legal means image (history_of longer) after
   history-push image all longer next after played is legal plays =
       rw (is, flat_map-append, append-nil) (plays_on image (history_of all) next after played legal plays)
 

@@ -17,7 +17,7 @@ use Rattle.strm_head.specs.declared.history.Event.TheVariants.{Asked, Arrived}
 use Rattle.strm_head.specs.declared.history.Entry.{Entry}
 use Rattle.strm_head.specs.declared.history.Played.{Played}
 use Rattle.strm_head.specs.declared.history.Played.TheVariants.{Step, Left}
-use Rattle.strm_head.specs.Begin.{pushed_of}
+use Rattle.strm_head.specs.Begin.{pushed_of, back_of}
 use Rattle.strm_head.specs.Step.{IsStep}
 
 abbrev pub serial_of : {K : Type 0} → Option (Shape K) → List ℕ
@@ -57,16 +57,6 @@ due_back event (Refused refusal) out = handed_in event
 due_back event (Done reply) out = out
 due_back event Broke out = out
 
--- the serials of the modules that must come back of what happened, by its step
-abbrev pub must_come_back : {K P : Type 0} → Played K P → List ℕ
-must_come_back (Step entry back) = due_back entry.event entry.answer entry.out.items
-must_come_back (Left e m) = []
-
--- the serials of the modules that do come back
-abbrev pub come_back : {K : Type 0} → Played K (Shape K) → List ℕ
-come_back (Step entry back) = flat_map serial_of back.items
-come_back (Left e m) = []
-
 -- the step that it was, if it was one
 abbrev pub entry_of : {K P : Type 0} → Played K P → List (Entry K)
 entry_of (Step entry back) = entry ∷ []
@@ -78,7 +68,18 @@ history_of all = flat_map entry_of all
 
 -- for kinds of any meaning
 module _ {K : Type 0} (means : Meaning K) where
-  -- an event was a step, or changed nothing
-  abbrev pub Plays : {P : Type 0} → Image K → Played K P → Image K → Type 0
-  Plays image (Step entry back) after = IsStep means image entry after
+  -- the modules that an event hands back: those of a call, and none of a message
+  abbrev pub comes_back : Image K → End → Event (Shape K) → Answer → List (Option (Shape K))
+  comes_back image e (Asked request) answer = back_of means image e request answer
+  comes_back image e (Arrived m) answer = []
+
+  -- an event was a step, of which came back what comes back of it, or changed nothing
+  abbrev pub Plays : Image K → Played K (Shape K) → Image K → Type 0
+  Plays image (Step entry back) after =
+      IsStep means image entry after × (back.items ≡ comes_back image entry.end entry.event entry.answer)
   Plays image (Left e m) after = after ≡ image
+
+  -- there are images, from the first to the last, of which each leads to the next by what became of an event
+  abbrev pub PlaysAll : Image K → List (Played K (Shape K)) → Image K → Type 0
+  PlaysAll image [] after = after ≡ image
+  PlaysAll image (played ∷ all) after = (next : Image K) × Plays image played next × PlaysAll next all after

@@ -9,7 +9,7 @@ ghost use Rattle.strm_head.specs.Begin.{takes_no_memory, back_of, out_of, wants_
 ghost use Rattle.strm_head.specs.Inside.{are_marks};
 ghost use Rattle.strm_head.specs.Step.{Step, IsStep, Legal};
 ghost use Rattle.strm_head.specs.Arrive.{Arrives};
-ghost use Rattle.strm_head.specs.Played.{serial_of, due_back, happened, history_of, come_back, must_come_back, Plays};
+ghost use Rattle.strm_head.specs.Played.{serial_of, due_back, happened, history_of, Plays, PlaysAll};
 ghost use Rattle.strm_head.specs.Serials.{AreAccounted};
 
 use crate::arriving::arrive;
@@ -171,7 +171,6 @@ impl<M: ModuleOf> Stream<M> {
         requires { copy ≡ request }
         ensures plays { Plays M.Kind.means self.old result self.new }
         ensures event { happened result ≡ (end, Events.Asked request) }
-        ensures back { come_back result ≡ must_come_back result }
     {
         let mut back = ArrayVec::new();
         let (_, entry) = self.enter(end, request, copy, &mut back);
@@ -184,7 +183,6 @@ impl<M: ModuleOf> Stream<M> {
         requires same { copy ≡ m }
         ensures plays { Plays M.Kind.means self.old result self.new }
         ensures event { happened result ≡ (Ends.A, Events.Arrived m) }
-        ensures back { come_back result ≡ must_come_back result }
     {
         let arrived = arrive(&mut self.chain, m);
         line_played(self.chain.alloc(), copy, arrived)
@@ -195,7 +193,6 @@ impl<M: ModuleOf> Stream<M> {
         requires { copy ≡ m }
         ensures plays { Plays M.Kind.means self.old result self.new }
         ensures event { happened result ≡ (end, Events.Arrived m) }
-        ensures back { come_back result ≡ must_come_back result }
     {
         match end {
             End::A if m.from_line() => self.play_line(m, copy),
@@ -207,7 +204,6 @@ impl<M: ModuleOf> Stream<M> {
     fn play(&mut self, noted: Noted<M>) -> Played<M::Kind, Instance<M>>
         ensures plays { Plays M.Kind.means self.old result self.new }
         ensures event { happened result ≡ noted }
-        ensures back { come_back result ≡ must_come_back result }
     {
         let Noted { end, event, copy } = noted;
         match (event, copy) {
@@ -227,10 +223,10 @@ impl<M: ModuleOf> Stream<M> {
         alloc: Global,
         events: Vec<(End, Event<Instance<M>>)>,
     ) -> Result<Vec<Played<M::Kind, Instance<M>>>, NoMem>
+        ensures plays { IfOk result (λ all. PlaysAll M.Kind.means self.old all.items self.new) }
         ensures legal { IfOk result (λ all. Legal M.Kind.means self.old (history_of all.items) self.new) }
         ensures accounts { IfOk result (λ all. AreAccounted self.old (history_of all.items) self.new) }
         ensures events { IfOk result (λ all. map happened all.items ≡ events.items) }
-        ensures back { IfOk result (λ all. map come_back all.items ≡ map must_come_back all.items) }
         ensures err { OnErr result (self.new ≡ self.old) }
     {
         let mut all = Vec::with_capacity(alloc, events.len())?;

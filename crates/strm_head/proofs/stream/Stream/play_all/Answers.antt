@@ -1,7 +1,7 @@
 use Rattle.std.proofs.Common.{◌≡◌, [], arith, append-nil, append_assoc, length, length-append, refl, sym, ◌∙◌, ap}
 use Rattle.std.specs.Vec.Iter.{into_iter_items}
 use Rattle.std.proofs.lemmas.List.{map-append}
-use Rattle.strm_head.proofs.HistoryLemmas.{history-push, room_left, nothing_left}
+use Rattle.strm_head.proofs.HistoryLemmas.{history-push, PlaysAll-append, room_left, nothing_left}
 use Rattle.strm_head.proofs.SerialLemmas.{legal_accounts}
 use Rattle.strm_head.proofs.stream.Stream.play_all.Goals as goal
 
@@ -19,8 +19,8 @@ loop-noted-preserved g c =
     let short = ap length c.in-Some.ensures.steps.0 in
     record {
       legal = history-push g.M.Kind.Kinds.means _ _ _ _ _ _ items before.legal c.play.ensures.plays;
+      plays = rw items (PlaysAll-append g.M.Kind.Kinds.means _ _ _ _ _ before.plays c.play.ensures.plays);
       events = rw (items, map-append, before.events, c.play.ensures.event) refl;
-      back = rw (items, map-append, map-append, before.back, c.play.ensures.back) refl;
       rest = rw (append_assoc, ← c.in-Some.ensures.steps.0) before.rest;
       left = omega arith;
       room = omega (arith, before.room, c.push.ensures.capacity);

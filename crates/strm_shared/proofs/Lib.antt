@@ -1,1 +1,2 @@
 pub mod HistoryLemmas
+pub mod TurnLemmas

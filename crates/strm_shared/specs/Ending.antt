@@ -14,7 +14,7 @@ use Rattle.strm_shared.specs.declared.call.Called.{Called}
 use Rattle.strm_shared.specs.declared.call.Called.TheVariants.{Done, NoRoom}
 use Rattle.strm_shared.specs.declared.call.Landed.{Landed}
 use Rattle.strm_shared.specs.declared.call.Landed.TheVariants.{Entered, Full, NoMem}
-use Rattle.strm_shared.specs.History.{arrivals, calls_of}
+use Rattle.strm_shared.specs.History.{calls_of}
 use Rattle.strm_shared.specs.Log.{SeatValue}
 
 -- a shared stream: its number, its setup, and how many callers it has
@@ -83,10 +83,3 @@ is_fed number setup (Some feed) = feed.number == number
 abbrev pub accepted_of : Option FeedValue → List Msg
 accepted_of None = []
 accepted_of (Some feed) = feed.accepted
-
--- each step was made by the line or by a caller with a seat, each caller made as many calls as its seat counts, and what came
--- in is what the feeder had accepted
-pub record Agrees {K : Type 0} (callers : ℕ) (history : List (Entry K)) (seats : List SeatValue) (feed : Option FeedValue) : Type 0 where
-  pub seated : All (λ entry. has_seat callers entry.who ≡ true) history
-  pub counts : CountsAgree history seats
-  pub arrived : arrivals history ≡ accepted_of feed

@@ -1,5 +1,5 @@
 -- Histories of a shared stream: steps, with who made each.
-use Rattle.std.specs.Prelude.{ℕ, ◌==◌, Bool, false, List, [], ◌∷◌, map, flat_map, count_by}
+use Rattle.std.specs.Prelude.{ℕ, ◌==◌, Bool, false, List, [], ◌∷◌, map, filter, flat_map, length}
 use Rattle.strm_msg.specs.Message.{Msg}
 use Rattle.strm_module.specs.Kinds.{Meaning}
 use Rattle.strm_chain.specs.Image.{Image}
@@ -29,9 +29,13 @@ abbrev pub is_caller : ℕ → Who → Bool
 is_caller caller (Caller other) = other == caller
 is_caller caller Line = false
 
+-- the steps that a caller made, in order: its calls
+abbrev pub own : {K : Type 0} → ℕ → List (Entry K) → List (Entry K)
+own caller history = filter (λ entry. is_caller caller entry.who) history
+
 -- how many calls a caller has made
 abbrev pub calls_of : {K : Type 0} → ℕ → List (Entry K) → ℕ
-calls_of caller history = count_by (λ entry. is_caller caller entry.who) history
+calls_of caller history = length (own caller history)
 
 -- the message that came in, if one did
 abbrev pub came_in : {P : Type 0} → Event P → List Msg

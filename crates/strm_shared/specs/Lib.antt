@@ -3,3 +3,4 @@ pub mod Fault
 pub mod History
 pub mod Log
 pub mod Ending
+pub mod Turns

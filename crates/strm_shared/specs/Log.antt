@@ -1,5 +1,5 @@
 -- What a call and an arrival do to a stream with its history.
-use Rattle.std.specs.Prelude.{◌≡◌, ℕ, ◌+◌, false, List, [], ◌∷◌, ◌++◌, Option, flat_map}
+use Rattle.std.specs.Prelude.{◌≡◌, ℕ, ◌+◌, Bool, true, false, List, [], ◌∷◌, ◌++◌, Option, flat_map}
 use Rattle.strm_msg.specs.Message.{Msg}
 use Rattle.strm_msg.specs.declared.words.End.{End}
 use Rattle.strm_msg.specs.declared.words.End.TheVariants.{A}
@@ -36,6 +36,11 @@ pub record SeatValue : Type 0 where
   pub number : ℕ
   pub caller : ℕ
   pub calls : ℕ
+
+-- the call was made
+abbrev pub is_done : {P : Type 0} → Called P → Bool
+is_done (Done answer back) = true
+is_done (NoRoom same) = false
 
 -- the entry of a message that came in
 abbrev pub arrival_entry : {K : Type 0} → Msg → Answer → List Place → ℕ → Entry K

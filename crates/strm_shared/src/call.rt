@@ -1,4 +1,7 @@
 //! A call on a shared stream, and what becomes of it and of a message that comes in.
+ghost use Rattle.std.specs.Prelude.{◌≡◌};
+ghost use Rattle.strm_shared.specs.Log.{is_done};
+
 use arrayvec::ArrayVec;
 use strm_head::{Answer, MOST_MODULES, Request};
 use strm_msg::{End, Message};
@@ -26,6 +29,18 @@ pub enum Called<P> {
     /// It was not made, for want of memory for its entry in the history, or since the seat can count no
     /// more calls. Nothing was changed, and here it is again.
     NoRoom(Call<P>),
+}
+
+impl<P> Called<P> {
+    /// Whether it was made.
+    pub fn is_done(&self) -> bool
+        ensures { result ≡ is_done self.now }
+    {
+        match self {
+            Called::Done { answer: _, back: _ } => true,
+            Called::NoRoom(_) => false,
+        }
+    }
 }
 
 /// What becomes of a message that comes in from a line.

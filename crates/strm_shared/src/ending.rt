@@ -1,9 +1,9 @@
 //! What must agree before a shared stream has ended.
 ghost use Rattle.std.specs.Prelude.{◌≡◌, ◌↔◌, ◌<◌, ◌++◌, ℕ, true, All, Any, IfSome};
-ghost use Rattle.strm_shared.specs.History.{came_in, arrivals, calls_of};
-ghost use Rattle.strm_shared.specs.Ending.{accepted_of, has_seat, is_fed, AreSeats, Agrees, CountsAgree};
+ghost use Rattle.strm_shared.specs.History.{came_in, arrivals};
+ghost use Rattle.strm_shared.specs.Ending.{accepted_of, is_fed, AreSeats};
 
-use crate::entry::{Entry, Who};
+use crate::entry::Entry;
 use crate::equal::are_equal;
 use crate::feeder::FeedEnd;
 use crate::seat::Seat;
@@ -39,49 +39,6 @@ pub(crate) fn are_seats(number: u32, callers: u32, seats: &[Seat]) -> bool
         && are_seated(callers, seats)
 }
 
-/// Whether a step was made by the line, or by a caller who has a seat.
-fn has_seat(callers: u32, who: Who) -> bool
-    ensures { result ≡ has_seat callers who }
-{
-    match who {
-        Who::Caller(caller) => caller < callers,
-        Who::Line => true,
-    }
-}
-
-/// Whether each step was made by the line, or by a caller who has a seat.
-fn have_seats<K>(callers: u32, history: &[Entry<K>]) -> bool
-    ensures { result ≡ true ↔ All (λ entry. has_seat callers entry.who ≡ true) history.now }
-{
-    history.iter().all(|e| has_seat(callers, e.who))
-}
-
-/// How many calls a caller has made.
-fn calls_of<K>(caller: u32, history: &[Entry<K>]) -> usize
-    ensures { result ≡ calls_of caller history.now }
-{
-    history.iter().filter(|e| e.who.is_caller(caller)).count()
-}
-
-/// Whether a caller has made as many calls as its seat counts.
-fn does_count_agree<K>(history: &[Entry<K>], seat: &Seat) -> bool
-    ensures { result ≡ true ↔ (calls_of seat.now.caller history.now ≡ seat.now.calls) }
-{
-    calls_of(seat.caller(), history) as u64 == seat.calls()
-}
-
-/// Whether each caller has made as many calls as its seat counts.
-fn do_counts_agree<K>(history: &[Entry<K>], seats: &[Seat]) -> bool
-    ensures { result ≡ true ↔ CountsAgree history.now seats.now }
-{
-    for seat in seats {
-        if !does_count_agree(history, seat) {
-            return false;
-        }
-    }
-    true
-}
-
 /// What is left of messages after the one that came in, if one did; `None` where it is not the first.
 fn after_arrival<'a, P>(messages: &'a [Message], event: &Event<P>) -> Option<&'a [Message]>
     ensures { IfSome result (λ rest. messages.now ≡ came_in event.now ++ rest.now) }
@@ -113,7 +70,7 @@ fn are_arrivals<K>(history: &[Entry<K>], accepted: &[Message]) -> bool
 }
 
 /// Whether the messages that came in are those that the feeder had accepted.
-fn is_accepted<K>(history: &[Entry<K>], feed: &Option<FeedEnd>) -> bool
+pub(crate) fn is_accepted<K>(history: &[Entry<K>], feed: &Option<FeedEnd>) -> bool
     ensures { result ≡ true → arrivals history.now ≡ accepted_of feed.now }
 {
     match feed {
@@ -130,16 +87,4 @@ pub(crate) fn is_fed(number: u32, setup: Setup, feed: &Option<FeedEnd>) -> bool
         Some(feed) => feed.number() == number,
         None => !setup.is_line(),
     }
-}
-
-/// Whether the callers and the feeder tell what the history has of them.
-pub(crate) fn do_agree<K>(
-    callers: u32,
-    history: &[Entry<K>],
-    seats: &[Seat],
-    feed: &Option<FeedEnd>,
-) -> bool
-    ensures { result ≡ true → Agrees callers history.now seats.now feed.now }
-{
-    have_seats(callers, history) && do_counts_agree(history, seats) && is_accepted(history, feed)
 }

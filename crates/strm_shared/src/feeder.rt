@@ -3,6 +3,7 @@ ghost use Rattle.std.specs.Prelude.{◌≡◌, ◌∷◌, [], ◌++◌, true, If
 ghost use Rattle.strm_msg.specs.Kind.{is_from_line};
 
 use crate::call::Landed;
+use crate::runs::Runs;
 use crate::shared::Shared;
 use std::alloc::Global;
 use std::marker::Model;
@@ -64,10 +65,10 @@ impl Feeder {
     /// back: it cannot come in, as where the line's list is full in its band, or memory is wanting.
     ///
     /// To be called with a message of a kind that comes from a line (`Message::from_line`).
-    pub fn arrive<M: ModuleOf, R: Wait>(
+    pub fn arrive<M: ModuleOf, N: Runs<M::Kind>, R: Wait>(
         &mut self,
         rt: &R,
-        shared: &Shared<M>,
+        shared: &Shared<M, N>,
         m: Message,
     ) -> Result<(), Message>
         requires { is_from_line m.kind ≡ true }

@@ -1,4 +1,4 @@
-//! What stands under the lock of a shared stream.
+//! A stream with its history.
 ghost use Rattle.std.specs.Prelude.{◌≡◌, ◌↔◌, true, [], IfOk};
 ghost use Rattle.strm_msg.specs.Kind.{is_from_line};
 ghost use Rattle.strm_shared.specs.Setup.{is_fit, opened};
@@ -132,6 +132,13 @@ impl<M: ModuleOf> Log<M> {
             Arrived::Full(m) => Landed::Full(m),
             Arrived::NoMem(m) => Landed::NoMem(m),
         }
+    }
+
+    /// The number.
+    pub(crate) fn number(&self) -> u32
+        ensures { result ≡ self.now.number }
+    {
+        self.number
     }
 
     /// Whether it is the stream of this number and setup.

@@ -1,16 +1,19 @@
 //! A stream that several callers share.
-ghost use Rattle.std.specs.Prelude.{◌≡◌, ◌↔◌, ◌+◌, ◌++◌, true, false, All, IfOk, OnOk, IsErrOf};
+ghost use Rattle.std.specs.Prelude.{◌≡◌, ◌↔◌, ◌+◌, ◌++◌, ℕ, true, false, All, IfOk, OnOk, IsErrOf};
 ghost use Rattle.strm_msg.specs.Kind.{is_from_line};
+ghost use Rattle.strm_head.specs.declared.history.Event.TheVariants.{Asked};
 ghost use Rattle.strm_shared.specs.Setup.{is_fit, is_ring, opened};
-ghost use Rattle.strm_shared.specs.History.{arrivals, AreAccounted, Legal};
+ghost use Rattle.strm_shared.specs.History.{arrivals, own, AreAccounted, Legal};
 ghost use Rattle.strm_shared.specs.Ending.{fresh_seats, fresh_feed, accepted_of, has_seat, is_fed, AreSeats, CountsAgree, Counted, ComesBack, HandsBack};
+ghost use Rattle.strm_shared.specs.Turns.{AreFirstOf, IsNextOf};
 
 use crate::call::{Call, Called, Landed};
-use crate::ending::{are_seats, do_agree, is_fed};
+use crate::ending::{are_seats, is_accepted, is_fed};
 use crate::entry::Entry;
 use crate::fault::{EndFault, SharedFault};
 use crate::feeder::{FeedEnd, Feeder};
-use crate::log::Log;
+use crate::locked::Locked;
+use crate::runs::{AnyCalls, Runs};
 use crate::seat::Seat;
 use crate::setup::Setup;
 use std::alloc::Global;
@@ -24,15 +27,15 @@ use strm_msg::{Message, NoMem};
 ///
 /// A contract sees its number, its setup, and how many callers it has.
 #[derive(Drop)]
-pub struct Shared<M: ModuleOf> {
+pub struct Shared<M: ModuleOf, N: Runs<M::Kind> = AnyCalls> {
     number: u32,
     setup: Setup,
     seats: u32,
     alloc: Global,
-    log: Mutex<Log<M>>,
+    locked: Mutex<Locked<M, N>>,
 }
 
-impl<M: ModuleOf> Model for Shared<M> {
+impl<M: ModuleOf, N: Runs<M::Kind>> Model for Shared<M, N> {
     ghost use Rattle.strm_shared.specs.Ending.{SharedValue};
 
     ghost Value = { SharedValue };
@@ -72,7 +75,7 @@ fn feeder_of(alloc: Global, number: u32, setup: Setup) -> Option<Feeder>
     None
 }
 
-impl<M: ModuleOf> Shared<M> {
+impl<M: ModuleOf, N: Runs<M::Kind>> Shared<M, N> {
     /// A stream that was just made, with a seat for each of its callers, numbered from 0, and for a line
     /// a feeder. The number is the caller's to choose; seats and feeder have it too.
     ///
@@ -84,7 +87,7 @@ impl<M: ModuleOf> Shared<M> {
         number: u32,
         setup: Setup,
         seats: u32,
-    ) -> Result<(Shared<M>, Vec<Seat>, Option<Feeder>), SharedFault>
+    ) -> Result<(Shared<M, N>, Vec<Seat>, Option<Feeder>), SharedFault>
         requires { is_fit setup ≡ true }
         ensures shared { IfOk result (λ all. all.0 ≡ record { number = number; setup = setup; seats = seats }) }
         ensures seats { IfOk result (λ all. all.1.items ≡ fresh_seats number seats) }
@@ -94,9 +97,9 @@ impl<M: ModuleOf> Shared<M> {
         if !setup.is_ring() {
             return Err(SharedFault::Ring);
         }
-        let (Ok(all), Ok(log)) = (
+        let (Ok(all), Ok(locked)) = (
             seats_of(alloc, number, seats),
-            Log::new(alloc, number, setup),
+            Locked::new(alloc, number, setup, seats),
         ) else {
             return Err(SharedFault::NoMem);
         };
@@ -105,7 +108,7 @@ impl<M: ModuleOf> Shared<M> {
             setup,
             seats,
             alloc,
-            log: Mutex::new(log),
+            locked: Mutex::new(locked),
         };
         Ok((shared, all, feeder_of(alloc, number, setup)))
     }
@@ -128,7 +131,8 @@ impl<M: ModuleOf> Shared<M> {
     /// the call and the answer, and which the seat counts. Or it comes back for want of memory for its
     /// entry, or since the seat can count no more, and nothing is changed.
     ///
-    /// To be called with a seat of this number. Modules that come back are the caller's, and are not
+    /// To be called with a seat of this number, and with the call that the run has next for it; in a run of
+    /// `AnyCalls` any is. Modules that come back are the caller's, and are not
     /// dropped under the lock.
     pub fn call<R: Wait>(
         &self,
@@ -136,14 +140,15 @@ impl<M: ModuleOf> Shared<M> {
         seat: &mut Seat,
         call: Call<Instance<M>>,
     ) -> Called<Instance<M>>
-        requires { seat.old.number ≡ self.now.number }
+        requires number { seat.old.number ≡ self.now.number }
+        requires next { IsNextOf (N.calls seat.old.number seat.old.caller) seat.old.calls (call.end, Asked call.request) }
         ensures counts { Counted call seat.old result seat.new }
         ensures back { HandsBack call result }
     {
         let Ok(copy) = copy_request(self.alloc, &call.request) else {
             return Called::NoRoom(call);
         };
-        self.log.lock(rt).call(seat, call, copy)
+        self.locked.lock(rt).call(seat, call, copy)
     }
 
     /// A message comes in from a line, under the lock.
@@ -152,7 +157,7 @@ impl<M: ModuleOf> Shared<M> {
         requires same { copy ≡ m }
         ensures { ComesBack m result }
     {
-        self.log.lock(rt).arrive(m, copy)
+        self.locked.lock(rt).arrive(m, copy)
     }
 
     /// Ends the stream, when no caller and no feeder has it any more: its whole history, and the stream
@@ -160,13 +165,15 @@ impl<M: ModuleOf> Shared<M> {
     ///
     /// Refused with `Seats` exactly where the seats are not those of this number, one for each caller, in
     /// any order; then with `Unfinished`, where a line's feeder is not shown to have ended, or what stood
-    /// under the lock has another number or setup, a caller without a seat, another number of calls than
-    /// a seat counts, or other arrivals than the feeder had accepted. Then all is dropped.
+    /// under the lock has another number or setup, calls of a seat that is not of this stream, another
+    /// number of calls than a seat counts, or other arrivals than the feeder had accepted. Then all is
+    /// dropped.
     pub fn end(self, seats: Vec<Seat>, feed: Option<FeedEnd>) -> Result<Ended<M>, EndFault>
         ensures legal { IfOk result (λ ended. Legal M.Kind.means (opened self.setup) ended.history.items ended.stream) }
         ensures accounts { IfOk result (λ ended. AreAccounted (opened self.setup) ended.history.items ended.stream) }
         ensures callers { IfOk result (λ ended. All (λ entry. has_seat self.seats entry.who ≡ true) ended.history.items) }
         ensures counts { IfOk result (λ ended. CountsAgree ended.history.items seats.items) }
+        ensures first { IfOk result (λ ended. (caller : ℕ) → AreFirstOf (N.calls self.number caller) (own caller ended.history.items)) }
         ensures arrived { IfOk result (λ ended. arrivals ended.history.items ++ ended.left.items ≡ accepted_of feed) }
         ensures fed { OnOk result (is_fed self.number self.setup feed ≡ true) }
         ensures seats { IsErrOf result EndFault.Seats ↔ (AreSeats self.number self.seats seats.items → ⊥) }
@@ -176,20 +183,23 @@ impl<M: ModuleOf> Shared<M> {
             setup,
             seats: callers,
             alloc,
-            log,
+            locked,
         } = self;
         if !are_seats(number, callers, seats.as_slice()) {
             return Err(EndFault::Seats);
         }
-        let log = log.into_inner();
+        let (log, turns) = locked.into_inner().into_parts();
         if !log.is_of(number, setup) {
             return Err(EndFault::Unfinished);
         }
         if !is_fed(number, setup, &feed) {
             return Err(EndFault::Unfinished);
         }
+        if !turns.do_agree(callers, seats.as_slice()) {
+            return Err(EndFault::Unfinished);
+        }
         let (history, stream) = log.into_parts();
-        if !do_agree(callers, history.as_slice(), seats.as_slice(), &feed) {
+        if !is_accepted(history.as_slice(), &feed) {
             return Err(EndFault::Unfinished);
         }
         Ok(Ended {

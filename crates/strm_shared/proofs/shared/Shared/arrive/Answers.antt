@@ -2,4 +2,4 @@ use Rattle.strm_shared.proofs.HistoryLemmas.{comes_back}
 use Rattle.strm_shared.proofs.shared.Shared.arrive.Goals as goal
 
 pub returns : goal.returns
-returns g c = comes_back g.M.Kind.Kinds.means _ c.args.m c.arrive.result _ c.arrive.ensures
+returns g c = comes_back g.M.Kind.Kinds.means _ c.args.m c.arrive.result _ c.arrive.ensures.log

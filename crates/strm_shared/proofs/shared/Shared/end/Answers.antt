@@ -2,6 +2,7 @@ use Rattle.std.proofs.Common.{List, ◌++◌, append-nil, refl, sym, ◌∙◌, 
 use Rattle.strm_msg.specs.Message.{Msg}
 use Rattle.strm_shared.specs.History.{arrivals}
 use Rattle.strm_head.proofs.SerialLemmas.{legal_accounts}
+use Rattle.strm_shared.proofs.TurnLemmas.{counts_agree}
 use Rattle.strm_shared.proofs.shared.Shared.end.Goals as goal
 
 pub returns-then-not-are_seats-clause-seats : goal.returns-then-not-are_seats-clause-seats
@@ -24,6 +25,11 @@ returns-then-not-do_agree-clause-seats g c =
     let are = rw c.as_slice.ensures.value at c.are_seats.ensures in
     rw (← c.self.view_is) ((λ is. absurd cc), (λ none. absurd (none (are.0 c.if-not-are_seats.false))))
 
+pub returns-then-not-is_accepted-clause-seats : goal.returns-then-not-is_accepted-clause-seats
+returns-then-not-is_accepted-clause-seats g c =
+    let are = rw c.as_slice.ensures.value at c.are_seats.ensures in
+    rw (← c.self.view_is) ((λ is. absurd cc), (λ none. absurd (none (are.0 c.if-not-are_seats.false))))
+
 pub returns-clause-legal : goal.returns-clause-legal
 returns-clause-legal g c =
     let parts = c.into_parts-history.ensures in
@@ -35,18 +41,30 @@ returns-clause-accounts g c = legal_accounts g.M.Kind.Kinds.means _ _ _ (returns
 
 pub returns-clause-callers : goal.returns-clause-callers
 returns-clause-callers g c =
-    let agree = (rw (c.as_slice-2.ensures.value, c.as_slice-3.ensures.value) at c.do_agree.ensures) c.if-not-do_agree.false in
-    rw (← c.self.view_is) agree.seated
+    let locked = c.into_parts-log.ensures in
+    let agree = c.do_agree.ensures.0 c.if-not-do_agree.false in
+    let in_turn = (rw (← locked.turns, ← locked.log) at locked.in_turn) agree.0 in
+    rw (← c.self.view_is, ← agree.1, c.into_parts-history.ensures.history) in_turn.seated
 
 pub returns-clause-counts : goal.returns-clause-counts
 returns-clause-counts g c =
-    let agree = (rw (c.as_slice-2.ensures.value, c.as_slice-3.ensures.value) at c.do_agree.ensures) c.if-not-do_agree.false in
-    agree.counts
+    let locked = c.into_parts-log.ensures in
+    let agree = c.do_agree.ensures.0 c.if-not-do_agree.false in
+    let in_turn = (rw (← locked.turns, ← locked.log) at locked.in_turn) agree.0 in
+    rw (c.into_parts-history.ensures.history, ← c.as_slice-2.ensures.value) (counts_agree _ _ _ _ in_turn agree.2)
+
+pub returns-clause-first : goal.returns-clause-first
+returns-clause-first g c =
+    let locked = c.into_parts-log.ensures in
+    let agree = c.do_agree.ensures.0 c.if-not-do_agree.false in
+    let in_turn = (rw (← locked.turns, ← locked.log) at locked.in_turn) agree.0 in
+    let of = c.is_of.ensures.0 c.if-not-is_of.false in
+    rw (← c.self.view_is, ← of.0, c.into_parts-history.ensures.history) in_turn.first
 
 pub returns-clause-arrived : goal.returns-clause-arrived
 returns-clause-arrived g c =
-    let agree = (rw (c.as_slice-2.ensures.value, c.as_slice-3.ensures.value) at c.do_agree.ensures) c.if-not-do_agree.false in
-    ap (λ (l : List Msg). arrivals c.into_parts-history.result.0.items ++ l) c.new.ensures.items ∙ append-nil _ ∙ agree.arrived
+    let arrived = (rw c.as_slice-3.ensures.value at c.is_accepted.ensures) c.if-not-is_accepted.false in
+    ap (λ (l : List Msg). arrivals c.into_parts-history.result.0.items ++ l) c.new.ensures.items ∙ append-nil _ ∙ arrived
 
 pub returns-clause-fed : goal.returns-clause-fed
 returns-clause-fed g c =

@@ -1,0 +1,165 @@
+-- Histories whose calls are in turn, with one entry more.
+use Rattle.std.proofs.Common.{◌≡◌, ℕ, zero, suc, ◌+◌, ◌<◌, ◌==◌, ◌++◌, Bool, true, false, cond, if◌then◌else◌, Option, Some, None, List, [], ◌∷◌, All, length, take, slice_get, get_or, set, replicate, refl, sym, ◌∙◌, ap, subst, arith}
+use Rattle.std.proofs.lemmas.List.{length-append, length-set, get_or-set_same, get_or-set_other, get_or-replicate, length-replicate, append-nil, map-append}
+use Rattle.std.proofs.lemmas.List.Elements.{All-push, filter-append}
+use Rattle.std.proofs.lemmas.Option.{same_Some}
+use Rattle.std.proofs.lemmas.Bool.{eqb-true, eqb-false, lt-ltb, ltb-true, both_ways, and_parts}
+use Rattle.strm_msg.specs.declared.words.End.{End}
+use Rattle.strm_msg.specs.Message.{Msg}
+use Rattle.strm_module.specs.Kinds.{Meaning}
+use Rattle.strm_module.specs.declared.shape.Shape.{Shape}
+use Rattle.strm_call.specs.declared.answer.Answer.{Answer}
+use Rattle.strm_head.specs.declared.history.Event.{Event}
+use Rattle.strm_head.specs.declared.history.Event.TheVariants.{Asked}
+use Rattle.strm_shared.specs.declared.entry.Who.TheVariants.{Caller, Line}
+use Rattle.strm_shared.specs.declared.entry.Entry.{Entry}
+use Rattle.strm_shared.specs.declared.call.Call.{Call}
+use Rattle.strm_shared.specs.declared.call.Called.{Called}
+use Rattle.strm_shared.specs.declared.call.Called.TheVariants.{Done, NoRoom}
+use Rattle.strm_shared.specs.declared.call.Landed.{Landed}
+use Rattle.strm_shared.specs.declared.call.Landed.TheVariants.{Entered, Full, NoMem}
+use Rattle.strm_shared.specs.Log.{LogValue, SeatValue, Enters, CallsBy, Lands, is_done}
+use Rattle.strm_shared.specs.History.{is_caller, own, calls_of}
+use Rattle.strm_shared.specs.Ending.{has_seat, CountsAgree}
+use Rattle.strm_shared.specs.Turns.{asked_of, counted, has_count, is_next, turned, AreFirstOf, AreInTurn, IsNextOf, TurnsValue}
+
+-- the first elements, with one more
+take_next : {A : Type 0} (all : List A) (count : ℕ) (one : A) → slice_get all count ≡ Some one → take (suc count) all ≡ take count all ++ one ∷ []
+take_next [] count one at = absurd cc
+take_next (first ∷ rest) zero one at = ap (λ x. x ∷ []) (same_Some _ _ at)
+take_next (first ∷ rest) (suc count) one at = ap (λ l. first ∷ l) (take_next rest count one at)
+
+-- one call more, the next one
+pub first_more : {K : Type 0} (calls : Option (List (End × Event (Shape K)))) (made : List (Entry K)) (entry : Entry K) → AreFirstOf calls made → IsNextOf calls (length made) (asked_of entry) → AreFirstOf calls (made ++ entry ∷ [])
+first_more None made entry first next = tt
+first_more (Some calls) made entry first next =
+    let len : length (made ++ entry ∷ []) ≡ suc (length made) = length-append made (entry ∷ []) ∙ (let l : length made + 1 ≡ suc (length made) = omega arith in l) in
+    map-append asked_of made (entry ∷ []) ∙ ap (λ l. l ++ asked_of entry ∷ []) first ∙ sym (take_next calls (length made) (asked_of entry) next) ∙ ap (λ n. take n calls) (sym len)
+
+-- the calls of a caller, with one step more
+own_more : {K : Type 0} (caller : ℕ) (history longer : List (Entry K)) (entry : Entry K) → longer ≡ history ++ entry ∷ [] → own caller longer ≡ own caller history ++ own caller (entry ∷ [])
+own_more caller history longer entry is = ap (λ l. own caller l) is ∙ filter-append _ history (entry ∷ [])
+
+-- a step of another
+other_step : {K : Type 0} (caller : ℕ) (history longer : List (Entry K)) (entry : Entry K) → longer ≡ history ++ entry ∷ [] → is_caller caller entry.who ≡ false → own caller longer ≡ own caller history
+other_step caller history longer entry is not = own_more caller history longer entry is ∙ ap (λ b. own caller history ++ cond b (entry ∷ []) []) not ∙ append-nil _
+
+-- a step of its own
+own_step : {K : Type 0} (caller : ℕ) (history longer : List (Entry K)) (entry : Entry K) → longer ≡ history ++ entry ∷ [] → is_caller caller entry.who ≡ true → own caller longer ≡ own caller history ++ entry ∷ []
+own_step caller history longer entry is so = own_more caller history longer entry is ∙ ap (λ b. own caller history ++ cond b (entry ∷ []) []) so
+
+-- a step of the line: no caller has one more
+pub line_in_turn : {K : Type 0} (calls : ℕ → Option (List (End × Event (Shape K)))) (counts : List ℕ) (history longer : List (Entry K)) (entry : Entry K) → longer ≡ history ++ entry ∷ [] → entry.who ≡ Line → AreInTurn calls counts history → AreInTurn calls counts longer
+line_in_turn calls counts history longer entry is line was =
+    let none : (caller : ℕ) → own caller longer ≡ own caller history = λ caller. other_step caller history longer entry is (ap (λ w. is_caller caller w) line) in
+    record {
+      counts_are = λ caller below. was.counts_are caller below ∙ ap (λ l. length l) (sym (none caller));
+      seated = subst (λ l. All (λ e. has_seat (length counts) e.who ≡ true) l) (sym is) (All-push (λ e. has_seat (length counts) e.who ≡ true) history entry was.seated (ap (λ w. has_seat (length counts) w) line));
+      first = λ caller. subst (λ l. AreFirstOf (calls caller) l) (sym (none caller)) (was.first caller);
+    }
+
+-- a call in its turn: its caller has one more
+module _ {K : Type 0} (calls : ℕ → Option (List (End × Event (Shape K)))) (counts : List ℕ) (history longer : List (Entry K)) (entry : Entry K) (who count : ℕ) (is : longer ≡ history ++ entry ∷ []) (by : entry.who ≡ Caller who) (within : who < length counts) (has : get_or counts who 0 ≡ count) (next : IsNextOf (calls who) count (asked_of entry)) (was : AreInTurn calls counts history) where
+  abbrev more : List ℕ
+  more = set counts who (count + 1)
+
+  counts_more : (caller : ℕ) (b : Bool) → (who == caller) ≡ b → caller < length counts → get_or more caller 0 ≡ calls_of caller longer
+  counts_more caller true same below =
+      let at : who ≡ caller = eqb-true who caller same in
+      let len : length (own caller longer) ≡ length (own caller history) + 1 = ap (λ l. length l) (own_step caller history longer entry is (ap (λ w. is_caller caller w) by ∙ same)) ∙ length-append _ _ in
+      let now : get_or more caller 0 ≡ count + 1 = subst (λ (n : ℕ). get_or more n 0 ≡ count + 1) at (get_or-set_same counts who (count + 1) 0 within) in
+      let before : length (own caller history) ≡ count = sym (was.counts_are caller below) ∙ ap (λ (n : ℕ). get_or counts n 0) (sym at) ∙ has in
+      now ∙ ap (λ (n : ℕ). n + 1) (sym before) ∙ sym len
+  counts_more caller false other below =
+      get_or-set_other counts who caller (count + 1) 0 (λ same. eqb-false who caller other (sym same)) ∙ was.counts_are caller below ∙ ap (λ l. length l) (sym (other_step caller history longer entry is (ap (λ w. is_caller caller w) by ∙ other)))
+
+  first_now : (caller : ℕ) (b : Bool) → (who == caller) ≡ b → AreFirstOf (calls caller) (own caller longer)
+  first_now caller true same =
+      let at : who ≡ caller = eqb-true who caller same in
+      let before : length (own caller history) ≡ count = subst (λ (n : ℕ). length (own n history) ≡ count) at (sym (was.counts_are who within) ∙ has) in
+      subst (λ l. AreFirstOf (calls caller) l) (sym (own_step caller history longer entry is (ap (λ w. is_caller caller w) by ∙ same)))
+      (first_more (calls caller) (own caller history) entry (was.first caller) (subst (λ (n : ℕ). IsNextOf (calls caller) n (asked_of entry)) (sym before) (subst (λ (n : ℕ). IsNextOf (calls n) count (asked_of entry)) at next)))
+  first_now caller false other =
+      subst (λ l. AreFirstOf (calls caller) l) (sym (other_step caller history longer entry is (ap (λ w. is_caller caller w) by ∙ other))) (was.first caller)
+
+  pub call_in_turn : AreInTurn calls more longer
+  call_in_turn = record {
+    counts_are = λ caller below. counts_more caller (who == caller) refl (subst (λ (n : ℕ). caller < n) (length-set counts who (count + 1)) below);
+    seated =
+        let sits : has_seat (length counts) entry.who ≡ true = ap (λ w. has_seat (length counts) w) by ∙ lt-ltb who (length counts) within in
+        subst (λ (n : ℕ). All (λ e. has_seat n e.who ≡ true) longer) (sym (length-set counts who (count + 1))) (subst (λ l. All (λ e. has_seat (length counts) e.who ≡ true) l) (sym is) (All-push (λ e. has_seat (length counts) e.who ≡ true) history entry was.seated sits));
+    first = λ caller. first_now caller (who == caller) refl;
+  }
+
+-- before the first step
+none_first : {K : Type 0} (calls : Option (List (End × Event (Shape K)))) → AreFirstOf calls []
+none_first None = tt
+none_first (Some calls) = refl
+
+pub none_in_turn : {K : Type 0} (calls : ℕ → Option (List (End × Event (Shape K)))) (callers : ℕ) → AreInTurn calls (replicate callers 0) []
+none_in_turn calls callers = record {
+  counts_are = λ caller below. get_or-replicate callers caller 0 0 (subst (λ (n : ℕ). caller < n) (length-replicate callers 0) below);
+  seated = λ i d below. absurd (omega arith);
+  first = λ caller. none_first (calls caller);
+}
+
+-- a call that was made is counted, by what its seat counts after it
+pub counted_is : (number : ℕ) (seat after : SeatValue) (turns new : TurnsValue) (next : Bool) → next ≡ is_next number seat turns.counts → after ≡ record seat { calls = seat.calls + 1 } → new ≡ (if next then record { counts = set turns.counts after.caller after.calls; in_turn = turns.in_turn } else record { counts = turns.counts; in_turn = false }) → new ≡ counted number seat turns
+counted_is number seat after turns new next same counts is =
+    is ∙ (λ i. if same i then record { counts = set turns.counts (counts i).caller (counts i).calls; in_turn = turns.in_turn } else record { counts = turns.counts; in_turn = false })
+
+-- a call that was not made is not counted
+pub none_turned : {P : Type 0} (number : ℕ) (seat : SeatValue) (result : Called P) (turns : TurnsValue) → false ≡ is_done result → turns ≡ turned number seat result turns
+none_turned number seat (Done answer back) turns none = absurd cc
+none_turned number seat (NoRoom same) turns none = refl
+
+-- the seat of a call that is next sits on this stream, and has the count of its caller
+is_next_is : (number : ℕ) (seat : SeatValue) (counts : List ℕ) → is_next number seat counts ≡ true → (seat.number ≡ number) × (seat.caller < length counts) × (get_or counts seat.caller 0 ≡ seat.calls)
+is_next_is number seat counts is =
+    let here = and_parts _ _ is in
+    let has = and_parts _ _ here.1 in
+    (eqb-true seat.number number here.0, ltb-true seat.caller (length counts) has.0, eqb-true _ seat.calls has.1)
+
+-- for kinds of any meaning
+module _ {K : Type 0} (means : Meaning K) (calls : ℕ → ℕ → Option (List (End × Event (Shape K)))) where
+  -- an entry of a call has the caller, the end and the call
+  next_of : (old new : LogValue K) (seat : SeatValue) (call : Call (Shape K)) (answer : Answer) (enters : Enters means old (Caller seat.caller) call.end (Asked call.request) answer new) → IsNextOf (calls seat.number seat.caller) seat.calls (call.end, Asked call.request) → IsNextOf (calls seat.number seat.caller) seat.calls (asked_of enters.entry)
+  next_of old new seat call answer enters next = subst (λ asked. IsNextOf (calls seat.number seat.caller) seat.calls asked) (λ i. (sym enters.at i, sym enters.has i)) next
+
+  -- a call that was made keeps the calls in turn
+  done_in_turn : (old new : LogValue K) (seat : SeatValue) (call : Call (Shape K)) (answer : Answer) (turns after : TurnsValue) (b : Bool) → is_next old.number seat turns.counts ≡ b → Enters means old (Caller seat.caller) call.end (Asked call.request) answer new → after ≡ (if b then record { counts = set turns.counts seat.caller (seat.calls + 1); in_turn = turns.in_turn } else record { counts = turns.counts; in_turn = false }) → IsNextOf (calls seat.number seat.caller) seat.calls (call.end, Asked call.request) → (turns.in_turn ≡ true → AreInTurn (calls old.number) turns.counts old.history) → after.in_turn ≡ true → AreInTurn (calls new.number) after.counts new.history
+  done_in_turn old new seat call answer turns after true next enters is one was so =
+      let sits = is_next_is old.number seat turns.counts next in
+      let more : AreInTurn (calls old.number) (set turns.counts seat.caller (seat.calls + 1)) new.history =
+      call_in_turn (calls old.number) turns.counts old.history new.history enters.entry seat.caller seat.calls enters.history enters.by sits.1 sits.2 (subst (λ n. IsNextOf (calls n seat.caller) seat.calls (asked_of enters.entry)) sits.0 (next_of old new seat call answer enters one)) (was (sym (ap (λ t. t.in_turn) is) ∙ so)) in
+      subst (λ n. AreInTurn (calls n) after.counts new.history) (sym enters.number) (subst (λ l. AreInTurn (calls old.number) l new.history) (sym (ap (λ t. t.counts) is)) more)
+  done_in_turn old new seat call answer turns after false next enters is one was so = absurd (both_ways after.in_turn (ap (λ t. t.in_turn) is) so)
+
+  pub call_keeps : (old new : LogValue K) (seat seat_after : SeatValue) (call : Call (Shape K)) (result : Called (Shape K)) (turns after : TurnsValue) → CallsBy means old seat call result new seat_after → after ≡ turned old.number seat result turns → IsNextOf (calls seat.number seat.caller) seat.calls (call.end, Asked call.request) → (turns.in_turn ≡ true → AreInTurn (calls old.number) turns.counts old.history) → after.in_turn ≡ true → AreInTurn (calls new.number) after.counts new.history
+  call_keeps old new seat seat_after call (Done answer back) turns after by is one was so = done_in_turn old new seat call answer turns after (is_next old.number seat turns.counts) refl by.enters is one was so
+  call_keeps old new seat seat_after call (NoRoom same) turns after by is one was so =
+      subst (λ (l : LogValue K). AreInTurn (calls l.number) after.counts l.history) (sym by.1) (subst (λ (t : TurnsValue). AreInTurn (calls old.number) t.counts old.history) (sym is) (was (sym (ap (λ t. t.in_turn) is) ∙ so)))
+
+  -- what the caller of a call that was made, or not, finds of the turns
+  pub done_turned : (old new : LogValue K) (seat seat_after : SeatValue) (call : Call (Shape K)) (result : Called (Shape K)) (turns after : TurnsValue) (next : Bool) → CallsBy means old seat call result new seat_after → true ≡ is_done result → next ≡ is_next old.number seat turns.counts → after ≡ (if next then record { counts = set turns.counts seat_after.caller seat_after.calls; in_turn = turns.in_turn } else record { counts = turns.counts; in_turn = false }) → after ≡ turned old.number seat result turns
+  done_turned old new seat seat_after call (Done answer back) turns after next by done same is = counted_is old.number seat seat_after turns after next same by.counts is
+  done_turned old new seat seat_after call (NoRoom again) turns after next by done same is = absurd cc
+
+  -- the seat that was next has a count
+  pub next_within : (old new : LogValue K) (seat seat_after : SeatValue) (call : Call (Shape K)) (result : Called (Shape K)) (counts : List ℕ) → CallsBy means old seat call result new seat_after → is_next old.number seat counts ≡ true → seat_after.caller < length counts
+  next_within old new seat seat_after call (Done answer back) counts by next = subst (λ (s : SeatValue). s.caller < length counts) (sym by.counts) (is_next_is old.number seat counts next).1
+  next_within old new seat seat_after call (NoRoom same) counts by next = subst (λ (s : SeatValue). s.caller < length counts) (sym by.2) (is_next_is old.number seat counts next).1
+
+  -- a message that came in, or did not, keeps them too
+  pub arrival_keeps : (old new : LogValue K) (m : Msg) (result : Landed) (turns : TurnsValue) → Lands means old m result new → (turns.in_turn ≡ true → AreInTurn (calls old.number) turns.counts old.history) → turns.in_turn ≡ true → AreInTurn (calls new.number) turns.counts new.history
+  arrival_keeps old new m Entered turns is was so =
+      subst (λ n. AreInTurn (calls n) turns.counts new.history) (sym is.enters.number) (line_in_turn (calls old.number) turns.counts old.history new.history is.enters.entry is.enters.history is.enters.by (was so))
+  arrival_keeps old new m (Full same) turns is was so = subst (λ (l : LogValue K). AreInTurn (calls l.number) turns.counts l.history) (sym is.2) (was so)
+  arrival_keeps old new m (NoMem same) turns is was so = subst (λ (l : LogValue K). AreInTurn (calls l.number) turns.counts l.history) (sym is.1) (was so)
+
+-- seats that have the counts of their callers count their calls
+pub counts_agree : {K : Type 0} (calls : ℕ → Option (List (End × Event (Shape K)))) (counts : List ℕ) (history : List (Entry K)) (seats : List SeatValue) → AreInTurn calls counts history → All (λ s. has_count s counts ≡ true) seats → CountsAgree history seats
+counts_agree calls counts history seats are all i d below =
+    let s = get_or seats i d in
+    let has = and_parts _ _ (all i d below) in
+    sym (are.counts_are s.caller (ltb-true s.caller (length counts) has.0)) ∙ eqb-true _ s.calls has.1

@@ -1,0 +1,60 @@
+-- Whether the calls of a history are in turn, and which calls a run allows.
+use Rattle.std.specs.Prelude.{◌≡◌, ℕ, ◌+◌, ◌<◌, ◌&&◌, ◌==◌, nat_lt, Bool, true, false, Option, Some, None, List, All, get_or, length, map, set, slice_get, take, if◌then◌else◌, ⊤}
+use Rattle.strm_msg.specs.declared.words.End.{End}
+use Rattle.strm_module.specs.declared.shape.Shape.{Shape}
+use Rattle.strm_head.specs.declared.history.Event.{Event}
+use Rattle.strm_shared.specs.declared.entry.Entry.{Entry}
+use Rattle.strm_shared.specs.declared.call.Called.{Called}
+use Rattle.strm_shared.specs.declared.call.Called.TheVariants.{Done, NoRoom}
+use Rattle.strm_shared.specs.History.{own, calls_of}
+use Rattle.strm_shared.specs.Log.{LogValue, SeatValue}
+use Rattle.strm_shared.specs.Ending.{has_seat}
+
+-- what an entry asked for, and at which end
+abbrev pub asked_of : {K : Type 0} → Entry K → End × Event (Shape K)
+asked_of entry = (entry.end, entry.event)
+
+-- a call is the next one of those that may be made, after so many; without such a list any is
+abbrev pub IsNextOf : {A : Type 0} → Option (List A) → ℕ → A → Type 0
+IsNextOf None count call = ⊤
+IsNextOf (Some calls) count call = slice_get calls count ≡ Some call
+
+-- what was asked are the first of the calls that may be made
+abbrev pub AreFirstOf : {K : Type 0} → Option (List (End × Event (Shape K))) → List (Entry K) → Type 0
+AreFirstOf None entries = ⊤
+AreFirstOf (Some calls) entries = map asked_of entries ≡ take (length entries) calls
+
+-- how many calls each caller has made, and whether each call was the next one of its seat
+pub record TurnsValue : Type 0 where
+  pub counts : List ℕ
+  pub in_turn : Bool
+
+-- what stands under the lock
+pub record LockedValue (K : Type 0) : Type 0 where
+  pub log : LogValue K
+  pub turns : TurnsValue
+
+-- the caller has a count, and it is the seat's
+abbrev pub has_count : SeatValue → List ℕ → Bool
+has_count seat counts = nat_lt seat.caller (length counts) && get_or counts seat.caller 0 == seat.calls
+
+-- the next call of its caller on the stream of this number is one of this seat
+abbrev pub is_next : ℕ → SeatValue → List ℕ → Bool
+is_next number seat counts = seat.number == number && has_count seat counts
+
+-- a call is counted where its seat was next; else the calls are not in turn any more
+abbrev pub counted : ℕ → SeatValue → TurnsValue → TurnsValue
+counted number seat turns =
+    if is_next number seat turns.counts then record { counts = set turns.counts seat.caller (seat.calls + 1); in_turn = turns.in_turn } else record { counts = turns.counts; in_turn = false }
+
+-- so is each call that was made, and no other
+abbrev pub turned : {P : Type 0} → ℕ → SeatValue → Called P → TurnsValue → TurnsValue
+turned number seat (Done answer back) turns = counted number seat turns
+turned number seat (NoRoom same) turns = turns
+
+-- the counts are those of the history, each step was made by the line or by a caller with a count, and the calls of each caller
+-- are the first of those that it may make
+pub record AreInTurn {K : Type 0} (calls : ℕ → Option (List (End × Event (Shape K)))) (counts : List ℕ) (history : List (Entry K)) : Type 0 where
+  pub counts_are : (caller : ℕ) → caller < length counts → get_or counts caller 0 ≡ calls_of caller history
+  pub seated : All (λ entry. has_seat (length counts) entry.who ≡ true) history
+  pub first : (caller : ℕ) → AreFirstOf (calls caller) (own caller history)

@@ -1,0 +1,33 @@
+//! What a run is about.
+use std::marker::Brand;
+
+/// What a run is about: which calls its callers make on which streams. Proofs alone speak of it; a
+/// program names it by a type, which has no values and costs nothing.
+///
+/// `K` is what the modules are.
+pub trait Runs<K> {
+    ghost use Rattle.std.specs.Prelude.{ℕ, List, Option};
+    ghost use Rattle.strm_msg.specs.declared.words.End.{End};
+    ghost use Rattle.strm_module.specs.declared.shape.Shape.{Shape};
+    ghost use Rattle.strm_head.specs.declared.history.Event.{Event};
+
+    /// Of a stream's number and a caller: the calls that the caller makes there, in order, or none where
+    /// it may make any.
+    ghost calls: { ℕ → ℕ → Option (List (End × Event (Shape K))) };
+}
+
+/// A run of any calls.
+pub struct AnyCalls;
+
+impl<K> Runs<K> for AnyCalls {
+    ghost use Rattle.std.specs.Prelude.{None};
+
+    ghost calls = { λ number caller. None };
+}
+
+/// A run of calls that a proof picks.
+impl<K> Runs<K> for Brand {
+    ghost use Rattle.std.specs.Prelude.{None};
+
+    ghost calls = { λ number caller. None };
+}

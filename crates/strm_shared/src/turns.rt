@@ -1,0 +1,77 @@
+//! How many calls each caller of a shared stream has made.
+ghost use Rattle.std.specs.Prelude.{◌≡◌, ◌↔◌, ◌<◌, true, false, All, IfOk, length, replicate, set, if◌then◌else◌};
+ghost use Rattle.strm_shared.specs.Turns.{has_count, is_next};
+
+use crate::seat::Seat;
+use std::alloc::Global;
+use std::marker::Model;
+use strm_msg::NoMem;
+
+/// How many calls each caller of a shared stream has made, and whether each was the next one of its
+/// seat.
+///
+/// They are in turn for as long as each call comes from the one seat of its caller. A seat of another
+/// stream of the same number is not told apart by its number; its count tells.
+#[derive(Drop)]
+pub(crate) struct Turns {
+    counts: Vec<u64>,
+    in_turn: bool,
+}
+
+impl Model for Turns {
+    ghost use Rattle.strm_shared.specs.Turns.{TurnsValue};
+
+    ghost Value = { TurnsValue };
+
+    ghost view = { λ t. record { counts = t.counts.items; in_turn = t.in_turn } };
+}
+
+impl Turns {
+    /// No caller has made a call. Refused for want of memory alone.
+    pub(crate) fn new(alloc: Global, callers: u32) -> Result<Turns, NoMem>
+        ensures { IfOk result (λ turns. turns ≡ record { counts = replicate callers 0; in_turn = true }) }
+    {
+        let counts = vec![in alloc; 0; callers as usize]?;
+        Ok(Turns {
+            counts,
+            in_turn: true,
+        })
+    }
+
+    /// Whether the seat's caller has made as many calls as the seat counts.
+    fn has_count(&self, seat: &Seat) -> bool
+        ensures { result ≡ has_count seat.now self.now.counts }
+    {
+        let caller = seat.caller() as usize;
+        caller < self.counts.len() && self.counts[caller] == seat.calls()
+    }
+
+    /// Whether the next call of its caller on the stream of this number is one of this seat.
+    pub(crate) fn is_next(&self, number: u32, seat: &Seat) -> bool
+        ensures { result ≡ is_next number seat.now self.now.counts }
+    {
+        seat.number() == number && self.has_count(seat)
+    }
+
+    /// A call was made, by a seat that was next or not, and that has counted it.
+    pub(crate) fn count(&mut self, was_next: bool, seat: &Seat)
+        requires { was_next ≡ true → seat.now.caller < length self.old.counts }
+        ensures { self.new ≡ (if was_next then record { counts = set self.old.counts seat.now.caller seat.now.calls; in_turn = self.old.in_turn } else record { counts = self.old.counts; in_turn = false }) }
+    {
+        if was_next {
+            self.counts[seat.caller() as usize] = seat.calls();
+        } else {
+            self.in_turn = false;
+        }
+    }
+
+    /// Whether the calls are in turn, those of as many callers, and each seat counts as many as its
+    /// caller has made.
+    pub(crate) fn do_agree(&self, callers: u32, seats: &[Seat]) -> bool
+        ensures { result ≡ true ↔ (self.now.in_turn ≡ true) × (length self.now.counts ≡ callers) × All (λ seat. has_count seat self.now.counts ≡ true) seats.now }
+    {
+        self.in_turn
+            && self.counts.len() == callers as usize
+            && seats.iter().all(|s| self.has_count(s))
+    }
+}

@@ -56,8 +56,8 @@ fn partner_of(driver: Driver, end: End) -> End
     }
 }
 
-/// Whether a driver has an end.
-fn has_end(driver: Driver, end: End) -> bool
+/// Whether a driver has an end: each has end A, and a loop has end B too.
+pub fn has_end(driver: Driver, end: End) -> bool
     ensures { result ≡ has_end driver end }
 {
     match end {

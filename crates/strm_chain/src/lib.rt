@@ -9,7 +9,7 @@ mod chain;
 mod fault;
 mod place;
 
-pub use chain::{Chain, head_sends_once};
+pub use chain::{Chain, has_end, head_sends_once};
 pub use fault::ChainFault;
 pub use place::{Moves, Place, Settled, Spot};
 pub use strm_qpair::{Driver, MOST_MODULES, Record};

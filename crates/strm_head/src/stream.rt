@@ -3,6 +3,7 @@ ghost use Rattle.std.specs.Prelude.{◌≡◌, ◌↔◌, ◌<◌, true, false, 
 ghost use Rattle.strm_msg.specs.Kind.{is_from_line};
 ghost use Rattle.strm_qpair.specs.End.{pair_at};
 ghost use Rattle.strm_chain.specs.Image.{end_of, fresh};
+ghost use Rattle.strm_ioctl.specs.Names.{names_of};
 ghost use Rattle.strm_msg.specs.declared.words.End.TheVariants as Ends;
 ghost use Rattle.strm_head.specs.declared.history.Event.TheVariants as Events;
 ghost use Rattle.strm_head.specs.Begin.{takes_no_memory, back_of, out_of, wants_memory};
@@ -20,8 +21,9 @@ use crate::outcome::{Arrived, Outcome};
 use arrayvec::ArrayVec;
 use std::alloc::Global;
 use std::marker::Model;
-use strm_call::{Answer, Request};
+use strm_call::{Answer, Name, Request};
 use strm_chain::{Chain, Driver, MOST_MODULES};
+use strm_ioctl::names_of;
 use strm_module::{Instance, ModuleOf, Shape};
 use strm_msg::{End, Message, NoMem};
 use strm_queue::Marks;
@@ -95,6 +97,14 @@ impl<M: ModuleOf> Stream<M> {
         ensures { option_copied result ≡ option_map (λ s. s.shape) (pair_at (end_of self.now end).modules i) }
     {
         self.chain.shape(end, i)
+    }
+
+    /// The names of the modules on an end, topmost first; none where there are none. A stream that is
+    /// broken shows its modules too. Takes no memory.
+    pub fn names(&self, end: End) -> ArrayVec<Name, MOST_MODULES>
+        ensures { result.items ≡ names_of (end_of self.now end) }
+    {
+        names_of(&self.chain, end)
     }
 
     /// One call on an end: a step of the stream, with its answer, the moves that it made, and the

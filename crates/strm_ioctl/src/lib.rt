@@ -19,5 +19,5 @@ pub use closing::close;
 pub use flushing::{flush, flush_refusal};
 pub use ioctl::{acknowledged, send_ioctl, str_refusal};
 pub use modules::{pop, pop_refusal, push, push_refusal};
-pub use names::{find, find_refusal, list, look, look_refusal};
+pub use names::{find, find_refusal, list, look, look_refusal, names_of};
 pub use options::{get_read, set_read};

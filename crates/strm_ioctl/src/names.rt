@@ -25,8 +25,9 @@ fn driver_name(driver: Driver) -> Name
     ArrayVec::try_from(name).unwrap()
 }
 
-/// The names of the modules of an end, topmost first. Takes no memory.
-pub(crate) fn names_of<M: ModuleOf, const N: usize>(chain: &Chain<M>, end: End) -> ArrayVec<Name, N>
+/// The names of the modules of an end, topmost first, into an array with room for `MOST_MODULES`. Takes
+/// no memory.
+pub fn names_of<M: ModuleOf, const N: usize>(chain: &Chain<M>, end: End) -> ArrayVec<Name, N>
     requires { MOST_MODULES ≤ N }
     ensures names { result.items ≡ names_of (end_of chain.now.image end) }
     ensures few { length result.items ≤ MOST_MODULES }

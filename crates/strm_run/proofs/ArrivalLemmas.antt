@@ -1,0 +1,18 @@
+-- How many messages came in.
+use Rattle.std.proofs.Common.{◌≡◌, ◌+◌, cond, List, ◌++◌, length, refl, arith}
+use Rattle.std.specs.Prelude.{count_by}
+use Rattle.std.proofs.lemmas.List.Recursion.{is_count_by}
+use Rattle.strm_msg.specs.Message.{Msg}
+use Rattle.strm_head.specs.declared.history.Event.{Event}
+use Rattle.strm_head.specs.declared.history.Event.TheVariants.{Asked, Arrived}
+use Rattle.strm_shared.specs.declared.entry.Entry.{Entry}
+use Rattle.strm_shared.specs.History.{came_in, arrivals}
+use Rattle.strm_run.specs.Transcript.{has_come_in}
+
+one_more : {P : Type 0} (event : Event P) (others : List Msg) → length (came_in event ++ others) ≡ cond (has_come_in event) (1 + length others) (length others)
+one_more (Asked request) others = refl
+one_more (Arrived m) others = omega arith
+
+pub arrivals_count : {K : Type 0} (history : List (Entry K)) → length (arrivals history) ≡ count_by (λ entry. has_come_in entry.event) history
+arrivals_count history =
+    is_count_by (λ (h : List (Entry _)). length (arrivals h)) (λ (entry : Entry _). has_come_in entry.event) refl (λ entry rest. one_more entry.event (arrivals rest)) history

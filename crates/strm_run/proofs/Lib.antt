@@ -1,0 +1,5 @@
+pub mod ArrivalLemmas
+pub mod EachLemmas
+pub mod OnceLemmas
+pub mod PartLemmas
+pub mod PlayLemmas

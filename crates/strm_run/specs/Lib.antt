@@ -1,0 +1,4 @@
+pub mod Scripts
+pub mod Fault
+pub mod Transcript
+pub mod Run

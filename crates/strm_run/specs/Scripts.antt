@@ -1,0 +1,54 @@
+-- Scripts and feeds: what they ask of each stream, and whether all that they name is there.
+use Rattle.std.specs.Prelude.{◌≡◌, ℕ, zero, suc, ◌&&◌, ◌==◌, nat_le, Bool, true, false, Option, Some, None, List, [], ◌∷◌, All, AllPairs, slice_get, if◌then◌else◌}
+use Rattle.strm_msg.specs.Message.{Msg}
+use Rattle.strm_msg.specs.declared.words.End.{End}
+use Rattle.strm_module.specs.declared.shape.Shape.{Shape}
+use Rattle.strm_chain.specs.Image.{has_end}
+use Rattle.strm_head.specs.Step.{is_line}
+use Rattle.strm_head.specs.declared.history.Event.{Event}
+use Rattle.strm_head.specs.declared.history.Event.TheVariants.{Asked}
+use Rattle.strm_shared.specs.declared.setup.Setup.{Setup}
+use Rattle.strm_run.specs.declared.script.ScriptCall.{ScriptCall}
+use Rattle.strm_run.specs.declared.script.Script.{Script}
+use Rattle.strm_run.specs.declared.script.Feed.{Feed}
+
+-- the calls that a script has for a stream, in order: the end, and what is asked
+abbrev pub calls_on : {K : Type 0} → ℕ → List (ScriptCall (Shape K)) → List (End × Event (Shape K))
+calls_on number [] = []
+calls_on number (one ∷ rest) =
+    if one.stream == number then (one.call.end, Asked one.call.request) ∷ calls_on number rest else calls_on number rest
+
+-- the calls of a caller; there are none past the last
+abbrev pub script_of : {P : Type 0} → List (Script P) → ℕ → List (ScriptCall P)
+script_of [] caller = []
+script_of (script ∷ rest) zero = script.calls.items
+script_of (script ∷ rest) (suc caller) = script_of rest caller
+
+-- the messages that a stream is fed
+abbrev pub feed_of : List Feed → ℕ → List Msg
+feed_of [] number = []
+feed_of (feed ∷ rest) number = if feed.stream == number then feed.messages.items else feed_of rest number
+
+-- a stream of this number has this end
+abbrev pub end_is_there : Option Setup → End → Bool
+end_is_there None at_end = false
+end_is_there (Some setup) at_end = has_end setup.driver at_end
+
+-- a stream of this number is a line
+abbrev pub line_is_there : Option Setup → Bool
+line_is_there None = false
+line_is_there (Some setup) = is_line setup.driver
+
+-- the stream and the end of each call are there
+abbrev pub AreCallsThere : {P : Type 0} → List Setup → List (ScriptCall P) → Type 0
+AreCallsThere setups calls = All (λ one. end_is_there (slice_get setups one.stream) one.call.end ≡ true) calls
+
+-- so are those of each script, each feed is for a line, and no two are for the same
+pub record AreThere {P : Type 0} (setups : List Setup) (scripts : List (Script P)) (feeds : List Feed) : Type 0 where
+  pub calls : All (λ script. AreCallsThere setups script.calls.items) scripts
+  pub lines : All (λ feed. line_is_there (slice_get setups feed.stream) ≡ true) feeds
+  pub once : AllPairs (λ one other. one.stream ≡ other.stream → ⊥) feeds
+
+-- a run has 1 to 64 workers
+abbrev pub is_crew : ℕ → Bool
+is_crew workers = nat_le 1 workers && nat_le workers 64

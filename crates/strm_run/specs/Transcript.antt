@@ -1,0 +1,49 @@
+-- What a run leaves of a stream.
+use Rattle.std.specs.Prelude.{◌≡◌, ℕ, ◌+◌, ◌⊎◌, Bool, true, false, Option, Some, None, List, [], ◌∷◌, ◌++◌, length, if◌then◌else◌}
+use Rattle.arrayvec.specs.ArrayVec.{ArrayVec}
+use Rattle.strm_msg.specs.Message.{Msg}
+use Rattle.strm_msg.specs.declared.words.End.TheVariants.{A, B}
+use Rattle.strm_module.specs.Kinds.{Meaning}
+use Rattle.strm_qpair.specs.End.{EndState}
+use Rattle.strm_chain.specs.Image.{Image, end_of}
+use Rattle.strm_ioctl.specs.Names.{names_of}
+use Rattle.strm_head.specs.declared.history.Event.{Event}
+use Rattle.strm_head.specs.declared.history.Event.TheVariants.{Asked, Arrived}
+use Rattle.strm_shared.specs.declared.setup.Setup.{Setup}
+use Rattle.strm_shared.specs.Setup.{opened}
+use Rattle.strm_shared.specs.History.{arrivals, AreAccounted, Legal}
+use Rattle.strm_run.specs.declared.transcript.StreamLog.{StreamLog}
+
+-- the names of the modules on an end that is open, topmost first
+abbrev pub names_at : {K : Type 0} → EndState K → Option (ArrayVec (ArrayVec ℕ))
+names_at e = if e.is_open then Some (record { items = names_of e }) else None
+
+-- a message came in
+abbrev pub has_come_in : {P : Type 0} → Event P → Bool
+has_come_in (Asked request) = false
+has_come_in (Arrived m) = true
+
+-- for kinds of any meaning
+module _ {K : Type 0} (means : Meaning K) where
+  -- the history leads by steps from a stream that was just made to one whose ends the log shows, and each module is accounted for
+  pub record IsLegal (setup : Setup) (log : StreamLog K) : Type 0 where
+    pub after : Image K
+    pub legal : Legal means (opened setup) log.history.items after
+    pub accounts : AreAccounted (opened setup) log.history.items after
+    pub a : log.a ≡ names_at (end_of after A)
+    pub b : log.b ≡ names_at (end_of after B)
+
+-- the first are the others, but for some that were left out
+abbrev pub IsPartOf : List Msg → List Msg → Type 0
+IsPartOf part [] = part ≡ []
+IsPartOf part (m ∷ rest) = IsPartOf part rest ⊎ ((others : List Msg) × (part ≡ m ∷ others) × IsPartOf others rest)
+
+-- what came in is the beginning of what was accepted, which is a part of the feed; the numbers are those of these lists
+pub record IsFed {K : Type 0} (feed : List Msg) (log : StreamLog K) : Type 0 where
+  pub accepted : List Msg
+  pub left : List Msg
+  pub came_in : arrivals log.history.items ++ left ≡ accepted
+  pub part : IsPartOf accepted feed
+  pub many : log.accepted ≡ length accepted
+  pub arrived : log.arrived ≡ length (arrivals log.history.items)
+  pub all : log.accepted + log.overrun ≡ length feed

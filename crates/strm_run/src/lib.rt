@@ -1,0 +1,15 @@
+//! Scripts that threads play on shared streams.
+#![tactic(auto)]
+
+mod about;
+mod fault;
+mod judge;
+mod player;
+mod script;
+mod streams;
+mod transcript;
+
+pub use fault::RunFault;
+pub use judge::MOST_WORKERS;
+pub use script::{Feed, Gate, Script, ScriptCall};
+pub use transcript::{StreamLog, Transcript};

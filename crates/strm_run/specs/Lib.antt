@@ -2,3 +2,4 @@ pub mod Scripts
 pub mod Fault
 pub mod Transcript
 pub mod Run
+pub mod Table

@@ -65,3 +65,8 @@ pub record IsFeeding {K : Type 0} (run : RunValue K) (feeder : FeedValue) (messa
 pub record HasOffered {K : Type 0} (run : RunValue K) (feed : FeedValue) (overrun : ℕ) : Type 0 where
   pub part : IsPartOf feed.accepted (feed_of run.feeds feed.number)
   pub all : length feed.accepted + overrun ≡ length (feed_of run.feeds feed.number)
+
+-- what a feeder leaves, and how many of its messages came back
+pub record OfferedValue : Type 0 where
+  pub feed : FeedValue
+  pub overrun : ℕ

@@ -3,10 +3,12 @@
 
 mod about;
 mod fault;
+mod feeding;
 mod judge;
 mod player;
 mod script;
 mod streams;
+mod table;
 mod transcript;
 
 pub use fault::RunFault;

@@ -1,0 +1,38 @@
+use Rattle.std.proofs.Common.{◌≡◌, true, append_assoc}
+use Rattle.strm_msg.specs.Message.{Msg}
+use Rattle.strm_msg.specs.Kind.{is_from_line}
+use Rattle.strm_run.proofs.EachLemmas.{of_others}
+use Rattle.strm_run.proofs.PartLemmas.{part_less, part_more}
+use Rattle.strm_run.proofs.PlayLemmas.{iterated_len}
+use Rattle.strm_run.proofs.FeedLemmas.{taken_more, back_more}
+use Rattle.strm_run.proofs.feeding.Feeding.offer.Goals as goal
+
+pub loop-m-preserved-then-not-accepts : goal.loop-m-preserved-then-not-accepts
+loop-m-preserved-then-not-accepts g c =
+    let was = c.loop-m.invariant in
+    let next = c.in-Some.ensures.steps.0 in
+    let same = c.accepts.ensures.none c.if-not-accepts.true in
+    record {
+      left = iterated_len _ _ _ _ _ was.left next c.in-Some.ensures.steps.1;
+      rest = rw (same, append_assoc, ← next) was.rest;
+      few = rw same was.few;
+      kinds = of_others (λ (m : Msg). is_from_line m.kind ≡ true) _ _ _ next was.kinds;
+      part = rw same (part_less _ _ c.in-Some.m was.part);
+      all = rw same (back_more _ _ c.in-Some.m _ was.all);
+      number = rw same was.number;
+    }
+
+pub loop-m-preserved : goal.loop-m-preserved
+loop-m-preserved g c =
+    let was = c.loop-m.invariant in
+    let next = c.in-Some.ensures.steps.0 in
+    let more = c.accepts.ensures.accepted c.if-not-accepts.false in
+    record {
+      left = iterated_len _ _ _ _ _ was.left next c.in-Some.ensures.steps.1;
+      rest = rw (more, append_assoc, ← next) was.rest;
+      few = rw more was.few;
+      kinds = of_others (λ (m : Msg). is_from_line m.kind ≡ true) _ _ _ next was.kinds;
+      part = rw more (part_more _ _ c.in-Some.m was.part);
+      all = rw more (taken_more _ _ c.in-Some.m _ was.all);
+      number = rw more was.number;
+    }

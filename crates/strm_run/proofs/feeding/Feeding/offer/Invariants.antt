@@ -1,0 +1,18 @@
+use Rattle.std.proofs.Common.{◌≡◌, true, ◌+◌, ◌++◌, ◌<◌, ◌^◌, length, All}
+use Rattle.std.specs.Vec.Iter.{into_iter_items, into_iter_len}
+use Rattle.strm_msg.specs.Kind.{is_from_line}
+use Rattle.strm_run.specs.Scripts.{feed_of}
+use Rattle.strm_run.specs.Transcript.{IsPartOf}
+use Rattle.strm_run.proofs.feeding.Feeding.offer.Given as goal
+
+-- what was accepted is a part of the messages so far, and the others came back
+abbrev pub invariant-loop-m : goal.invariant-loop-m
+invariant-loop-m g l = record {
+  left : into_iter_len l.m-iterator ≡ length (into_iter_items l.m-iterator);
+  rest : l.yielded ++ into_iter_items l.m-iterator ≡ feed_of g.N.Plays.run.feeds l.feeder.number;
+  few : length (feed_of g.N.Plays.run.feeds l.feeder.number) < 2 ^ 63;
+  kinds : All (λ m. is_from_line m.kind ≡ true) (into_iter_items l.m-iterator);
+  part : IsPartOf l.feeder.accepted l.yielded;
+  all : length l.feeder.accepted + l.overrun ≡ length l.yielded;
+  number : l.feeder.number ≡ l.fn.self;
+}

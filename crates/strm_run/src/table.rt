@@ -1,0 +1,49 @@
+//! Columns turned into rows.
+ghost use Rattle.std.specs.Prelude.{◌≡◌, [], length, All, IfOk, OnOk};
+ghost use Rattle.strm_run.specs.Table.{IsAdded, IsTransposed};
+
+use std::alloc::Global;
+use strm_msg::NoMem;
+
+/// So many rows of nothing. Refused for want of memory alone.
+fn empty_rows<T: Drop>(alloc: Global, rows: usize) -> Result<Vec<Vec<T>>, NoMem>
+    ensures many { IfOk result (λ all. length all.items ≡ rows) }
+    ensures empty { IfOk result (λ all. All (λ row. row.items ≡ []) all.items) }
+{
+    let mut all = Vec::new(alloc);
+    for _ in 0..rows {
+        all.push(Vec::new(alloc))?;
+    }
+    Ok(all)
+}
+
+/// One element more for each row. Refused for want of memory alone.
+fn add<T: Drop>(rows: &mut Vec<Vec<T>>, column: Vec<T>) -> Result<(), NoMem>
+    requires { length column.items ≡ length rows.old.items }
+    ensures { OnOk result (IsAdded rows.old.items column.items rows.new.items) }
+{
+    let mut at: usize = 0;
+    for x in column {
+        rows[at].push(x)?;
+        at += 1;
+    }
+    Ok(())
+}
+
+/// The rows of columns that are all so long. Refused for want of memory alone.
+pub(crate) fn transposed<T: Drop>(
+    alloc: Global,
+    columns: Vec<Vec<T>>,
+    rows: usize,
+) -> Result<Vec<Vec<T>>, NoMem>
+    requires { All (λ column. length column.items ≡ rows) columns.items }
+    ensures { IfOk result (λ all. IsTransposed columns.items rows all.items) }
+{
+    let mut all = empty_rows(alloc, rows)?;
+    for column in columns {
+        let Ok(()) = add(&mut all, column) else {
+            return Err(NoMem);
+        };
+    }
+    Ok(all)
+}

@@ -1,5 +1,5 @@
 -- What a run is about, and what its streams, callers and feeders have to do with it.
-use Rattle.std.specs.Prelude.{◌≡◌, ℕ, ◌+◌, ◌<◌, List, [], All, drop, get_or, length}
+use Rattle.std.specs.Prelude.{◌≡◌, ℕ, ◌+◌, ◌<◌, List, [], ◌∷◌, All, drop, get_or, length}
 use Rattle.std.specs.Mem.{FitsInMemory}
 use denote.RattleType.{RattleType}
 use Rattle.strm_msg.specs.Message.{Msg}
@@ -7,6 +7,9 @@ use Rattle.strm_module.specs.declared.shape.Shape.{Shape}
 use Rattle.strm_module.specs.declared.vocabulary.Kinds.{Ghosts}
 use Rattle.strm_module.specs.contracts.instance.Instance as instance
 use Rattle.strm_shared.specs.contracts.call.Called as called
+use Rattle.strm_shared.specs.declared.call.Called.{Called}
+use Rattle.strm_shared.specs.declared.call.Called.TheVariants.{Done, NoRoom}
+use Rattle.strm_call.specs.declared.answer.Answer.{Answer}
 use Rattle.strm_shared.specs.declared.setup.Setup.{Setup}
 use Rattle.strm_shared.specs.Log.{SeatValue}
 use Rattle.strm_shared.specs.Ending.{FeedValue, SharedValue}
@@ -19,6 +22,11 @@ use Rattle.strm_run.specs.Transcript.{IsPartOf}
 -- what becomes of a call fits into memory, as each type does that a compiler takes: for modules and kinds of these types
 abbrev pub CallsFit : (M K : RattleType) → Ghosts K.Denot → Type 0
 CallsFit M K kinds = FitsInMemory (called.the_row (instance.the_row M K kinds))
+
+-- what a call that was made tells: its answer
+abbrev pub told_of : {P : Type 0} → Called P → List Answer
+told_of (Done answer back) = answer ∷ []
+told_of (NoRoom same) = []
 
 -- what a run is about: how its streams are made, the scripts of its callers, and what its lines are fed
 pub record RunValue (K : Type 0) : Type 0 where
@@ -58,11 +66,13 @@ pub record ArePlayed {K : Type 0} (run : RunValue K) (seats : List SeatValue) (a
 
 -- a feeder that has offered none of its feed
 pub record IsFeeding {K : Type 0} (run : RunValue K) (feeder : FeedValue) (messages : List Msg) : Type 0 where
+  pub there : feeder.number < length run.setups
   pub none : feeder.accepted ≡ []
   pub feed : messages ≡ feed_of run.feeds feeder.number
 
 -- a feeder that has offered each message of its feed once
 pub record HasOffered {K : Type 0} (run : RunValue K) (feed : FeedValue) (overrun : ℕ) : Type 0 where
+  pub there : feed.number < length run.setups
   pub part : IsPartOf feed.accepted (feed_of run.feeds feed.number)
   pub all : length feed.accepted + overrun ≡ length (feed_of run.feeds feed.number)
 

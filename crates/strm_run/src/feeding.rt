@@ -1,5 +1,5 @@
 //! A feeder that offers its feed.
-ghost use Rattle.std.specs.Prelude.{◌≡◌, true, false, [], ◌∷◌, ◌++◌, All};
+ghost use Rattle.std.specs.Prelude.{◌≡◌, ◌<◌, true, false, [], ◌∷◌, ◌++◌, length, All};
 ghost use Rattle.strm_msg.specs.Kind.{is_from_line};
 ghost use Rattle.strm_run.specs.Run.{IsFeeding, HasOffered};
 
@@ -78,7 +78,8 @@ impl<K, N: Plays<K>> Feeding<K, N> {
 
     /// The number of the stream.
     pub(crate) fn number(&self) -> u32
-        ensures { result ≡ self.now }
+        ensures number { result ≡ self.now }
+        ensures there { self.now < length N.run.setups }
     {
         self.feeder.number()
     }
@@ -111,6 +112,14 @@ impl<K, N: Plays<K>> Feeding<K, N> {
 }
 
 impl<K, N: Plays<K>> Offered<K, N> {
+    /// The number of the stream.
+    pub(crate) fn number(&self) -> u32
+        ensures number { result ≡ self.now.feed.number }
+        ensures there { self.now.feed.number < length N.run.setups }
+    {
+        self.end.number()
+    }
+
     /// What the feeder leaves, and how many messages came back.
     pub(crate) fn into_parts(self) -> (FeedEnd, u64)
         ensures feed { result.0 ≡ self.feed }

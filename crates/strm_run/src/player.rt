@@ -1,13 +1,14 @@
 //! A caller that plays its script.
-ghost use Rattle.std.specs.Prelude.{◌≡◌, ◌+◌, true, length, slice_get, OnOk, Some};
+ghost use Rattle.std.specs.Prelude.{◌≡◌, ◌+◌, ◌++◌, true, length, slice_get, OnOk, Some};
 ghost use Rattle.strm_head.specs.declared.history.Event.TheVariants.{Asked};
 ghost use Rattle.strm_run.specs.Scripts.{calls_on, script_of};
 ghost use Rattle.strm_shared.specs.Log.{is_done};
-ghost use Rattle.strm_run.specs.Run.{CallsFit, IsPlayer};
+ghost use Rattle.strm_run.specs.Run.{told_of, ArePlayed, CallsFit, IsPlayer};
 
 use crate::about::{Of, Plays};
 use crate::script::{Gate, ScriptCall};
 use crate::streams::Streams;
+use std::collections::VecDeque;
 use std::marker::{Model, PhantomData};
 use std::sync::Wait;
 use strm_head::Answer;
@@ -21,7 +22,7 @@ pub(crate) struct Player<M: ModuleOf, N: Plays<M::Kind>> {
     caller: u32,
     calls: Vec<ScriptCall<Instance<M>>>,
     seats: Vec<Seat>,
-    answers: Vec<Vec<Answer>>,
+    answers: Vec<VecDeque<Answer>>,
     of: PhantomData<N>,
 }
 
@@ -41,7 +42,7 @@ impl<M: ModuleOf, N: Plays<M::Kind>> Model for Player<M, N> {
 pub(crate) struct Played<K, N: Plays<K>> {
     caller: u32,
     seats: Vec<Seat>,
-    answers: Vec<Vec<Answer>>,
+    answers: Vec<VecDeque<Answer>>,
     of: PhantomData<(K, N)>,
 }
 
@@ -58,12 +59,13 @@ impl<K, N: Plays<K>> Model for Played<K, N> {
 
 /// Keeps the answer of a call that was made. The modules that came back are dropped, and so is a call
 /// that was not made.
-fn keep<M: ModuleOf>(answers: &mut Vec<Answer>, called: Called<Instance<M>>) -> Result<(), NoMem>
-    ensures { OnOk result (is_done called ≡ true) }
+fn keep<M: ModuleOf>(answers: &mut VecDeque<Answer>, called: Called<Instance<M>>) -> Result<(), NoMem>
+    ensures done { OnOk result (is_done called ≡ true) }
+    ensures told { OnOk result (answers.new.items ≡ answers.old.items ++ told_of called) }
 {
     match called {
         Called::Done { answer, back: _ } => {
-            let Ok(()) = answers.push(answer) else {
+            let Ok(()) = answers.push_back(answer) else {
                 return Err(NoMem);
             };
             Ok(())
@@ -77,7 +79,7 @@ fn call_on<M: ModuleOf, N: Plays<M::Kind>, R: Wait>(
     rt: &R,
     shared: &Shared<M, Of<N>>,
     seat: &mut Seat,
-    answers: &mut Vec<Answer>,
+    answers: &mut VecDeque<Answer>,
     call: Call<Instance<M>>,
 ) -> Result<(), NoMem>
     requires fits { CallsFit M.row M.Kind.row M.Kind.Kinds }
@@ -94,7 +96,7 @@ impl<M: ModuleOf, N: Plays<M::Kind>> Player<M, N> {
         caller: u32,
         calls: Vec<ScriptCall<Instance<M>>>,
         seats: Vec<Seat>,
-        answers: Vec<Vec<Answer>>,
+        answers: Vec<VecDeque<Answer>>,
     ) -> Player<M, N>
         requires { IsPlayer N.run caller calls.items seats.items (length answers.items) }
         ensures { result ≡ caller }
@@ -106,6 +108,13 @@ impl<M: ModuleOf, N: Plays<M::Kind>> Player<M, N> {
             answers,
             of: PhantomData,
         }
+    }
+
+    /// The number of the caller.
+    pub(crate) fn caller(&self) -> u32
+        ensures { result ≡ self.now }
+    {
+        self.caller
     }
 
     /// Plays the script to its end, or until memory is wanting.
@@ -146,5 +155,27 @@ impl<M: ModuleOf, N: Plays<M::Kind>> Player<M, N> {
             answers,
             of: PhantomData,
         })
+    }
+}
+
+impl<K, N: Plays<K>> Played<K, N> {
+    /// The number of the caller.
+    pub(crate) fn caller(&self) -> u32
+        ensures { result ≡ self.now }
+    {
+        self.caller
+    }
+
+    /// A seat on each stream, and what was answered there.
+    pub(crate) fn into_parts(self) -> (Vec<Seat>, Vec<VecDeque<Answer>>)
+        ensures { ArePlayed N.run result.0.items (length result.1.items) }
+    {
+        let Played {
+            caller: _,
+            seats,
+            answers,
+            of: _,
+        } = self;
+        (seats, answers)
     }
 }

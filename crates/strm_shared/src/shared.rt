@@ -176,6 +176,7 @@ impl<M: ModuleOf, N: Runs<M::Kind>> Shared<M, N> {
         ensures first { IfOk result (λ ended. (caller : ℕ) → AreFirstOf (N.calls self.number caller) (own caller ended.history.items)) }
         ensures arrived { IfOk result (λ ended. arrivals ended.history.items ++ ended.left.items ≡ accepted_of feed) }
         ensures fed { OnOk result (is_fed self.number self.setup feed ≡ true) }
+        ensures seated { OnOk result (AreSeats self.number self.seats seats.items) }
         ensures seats { IsErrOf result EndFault.Seats ↔ (AreSeats self.number self.seats seats.items → ⊥) }
     {
         let Shared {

@@ -15,6 +15,7 @@ loop-m-preserved-then-not-accepts g c =
     record {
       left = iterated_len _ _ _ _ _ was.left next c.in-Some.ensures.steps.1;
       rest = rw (same, append_assoc, ← next) was.rest;
+      there = rw same was.there;
       few = rw same was.few;
       kinds = of_others (λ (m : Msg). is_from_line m.kind ≡ true) _ _ _ next was.kinds;
       part = rw same (part_less _ _ c.in-Some.m was.part);
@@ -30,6 +31,7 @@ loop-m-preserved g c =
     record {
       left = iterated_len _ _ _ _ _ was.left next c.in-Some.ensures.steps.1;
       rest = rw (more, append_assoc, ← next) was.rest;
+      there = rw more was.there;
       few = rw more was.few;
       kinds = of_others (λ (m : Msg). is_from_line m.kind ≡ true) _ _ _ next was.kinds;
       part = rw more (part_more _ _ c.in-Some.m was.part);

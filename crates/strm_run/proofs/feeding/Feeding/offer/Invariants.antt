@@ -10,6 +10,7 @@ abbrev pub invariant-loop-m : goal.invariant-loop-m
 invariant-loop-m g l = record {
   left : into_iter_len l.m-iterator ≡ length (into_iter_items l.m-iterator);
   rest : l.yielded ++ into_iter_items l.m-iterator ≡ feed_of g.N.Plays.run.feeds l.feeder.number;
+  there : l.feeder.number < length g.N.Plays.run.setups;
   few : length (feed_of g.N.Plays.run.feeds l.feeder.number) < 2 ^ 63;
   kinds : All (λ m. is_from_line m.kind ≡ true) (into_iter_items l.m-iterator);
   part : IsPartOf l.feeder.accepted l.yielded;

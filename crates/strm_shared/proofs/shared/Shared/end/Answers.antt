@@ -30,6 +30,11 @@ returns-then-not-is_accepted-clause-seats g c =
     let are = rw c.as_slice.ensures.value at c.are_seats.ensures in
     rw (← c.self.view_is) ((λ is. absurd cc), (λ none. absurd (none (are.0 c.if-not-are_seats.false))))
 
+pub returns-clause-seated : goal.returns-clause-seated
+returns-clause-seated g c =
+    let are = rw c.as_slice.ensures.value at c.are_seats.ensures in
+    rw (← c.self.view_is) (are.0 c.if-not-are_seats.false)
+
 pub returns-clause-legal : goal.returns-clause-legal
 returns-clause-legal g c =
     let parts = c.into_parts-history.ensures in

@@ -34,7 +34,7 @@ added_more rows column so_far later at now was row x added within is place stood
     }
 
 -- what a list holds that is not empty
-first : {T : Type 0} (xs : List T) (i : ℕ) → i < length xs → T
+pub first : {T : Type 0} (xs : List T) (i : ℕ) → i < length xs → T
 first [] i below = absurd (omega arith)
 first (x ∷ xs) i below = x
 

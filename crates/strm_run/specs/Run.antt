@@ -1,7 +1,10 @@
 -- What a run is about, and what its streams, callers and feeders have to do with it.
-use Rattle.std.specs.Prelude.{◌≡◌, ℕ, ◌+◌, ◌<◌, List, [], ◌∷◌, All, drop, get_or, length}
+use Rattle.std.specs.Prelude.{◌≡◌, ℕ, ◌+◌, ◌<◌, ◌^◌, List, [], ◌∷◌, All, drop, get_or, length}
 use Rattle.std.specs.Mem.{FitsInMemory}
+use prog.Memory.{size}
+use mir.Syntax.{Ty}
 use denote.RattleType.{RattleType}
+use denote.Param.{layout}
 use Rattle.strm_msg.specs.Message.{Msg}
 use Rattle.strm_module.specs.declared.shape.Shape.{Shape}
 use Rattle.strm_module.specs.declared.vocabulary.Kinds.{Ghosts}
@@ -22,6 +25,14 @@ use Rattle.strm_run.specs.Transcript.{IsPartOf}
 -- what becomes of a call fits into memory, as each type does that a compiler takes: for modules and kinds of these types
 abbrev pub CallsFit : (M K : RattleType) → Ghosts K.Denot → Type 0
 CallsFit M K kinds = FitsInMemory (called.the_row (instance.the_row M K kinds))
+
+-- a value of this layout does; a fact that a proof passes on as it is
+unfoldable pub Fits : Ty → Type 0
+Fits of = size of < 2 ^ 63
+
+-- that of calls, passed on
+abbrev pub CallsDoFit : (M K : RattleType) → Ghosts K.Denot → Type 0
+CallsDoFit M K kinds = Fits (layout (called.the_row (instance.the_row M K kinds)))
 
 -- what a call that was made tells: its answer
 abbrev pub told_of : {P : Type 0} → Called P → List Answer

@@ -7,7 +7,9 @@ use Rattle.strm_chain.specs.Image.{has_end}
 use Rattle.strm_head.specs.Step.{is_line}
 use Rattle.strm_head.specs.declared.history.Event.{Event}
 use Rattle.strm_head.specs.declared.history.Event.TheVariants.{Asked}
+use Rattle.strm_msg.specs.Kind.{is_from_line}
 use Rattle.strm_shared.specs.declared.setup.Setup.{Setup}
+use Rattle.strm_shared.specs.Setup.{is_fit, is_ring}
 use Rattle.strm_run.specs.declared.script.ScriptCall.{ScriptCall}
 use Rattle.strm_run.specs.declared.script.Script.{Script}
 use Rattle.strm_run.specs.declared.script.Feed.{Feed}
@@ -48,6 +50,18 @@ pub record AreThere {P : Type 0} (setups : List Setup) (scripts : List (Script P
   pub calls : All (λ script. AreCallsThere setups script.calls.items) scripts
   pub lines : All (λ feed. line_is_there (slice_get setups feed.stream) ≡ true) feeds
   pub once : AllPairs (λ one other. one.stream ≡ other.stream → ⊥) feeds
+
+-- a stream can be made so: each low mark is below its high one, and the ring of a line holds 1 to 4096 messages
+abbrev pub is_setup : Setup → Bool
+is_setup setup = is_fit setup && is_ring setup
+
+-- each message of a feed is of a kind that comes from a line
+abbrev pub IsFromLine : Feed → Type 0
+IsFromLine feed = All (λ m. is_from_line m.kind ≡ true) feed.messages.items
+
+-- so is each of each feed
+abbrev pub AreFromLine : List Feed → Type 0
+AreFromLine feeds = All (λ feed. IsFromLine feed) feeds
 
 -- a run has 1 to 64 workers
 abbrev pub is_crew : ℕ → Bool

@@ -4,6 +4,7 @@ ghost use Rattle.std.specs.Fmt.{padded};
 ghost use Rattle.strm_run.specs.Fault.{number_of, text_of};
 
 use std::fmt;
+use strm_msg::NoMem;
 use thiserror::Error;
 
 /// Why a run gave no transcript.
@@ -59,5 +60,17 @@ impl fmt::Display for RunFault {
 
     fn fmt<W: fmt::Write>(&self, f: &mut fmt::Formatter<W>) -> fmt::Result {
         f.pad(self.text())
+    }
+}
+
+/// Want of memory is the third fault.
+impl From<NoMem> for RunFault {
+    ghost use Rattle.std.specs.Prelude.{◌≡◌};
+    ghost use Rattle.strm_run.specs.declared.fault.RunFault.TheVariants as Faults;
+
+    ghost from_gives = { λ _ fault. fault ≡ Faults.NoMem };
+
+    fn from(_: NoMem) -> Self {
+        RunFault::NoMem
     }
 }

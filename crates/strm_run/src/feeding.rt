@@ -84,6 +84,11 @@ impl<K, N: Plays<K>> Feeding<K, N> {
         self.feeder.number()
     }
 
+    /// Whether there is no message to offer.
+    pub(crate) fn is_empty(&self) -> bool {
+        self.messages.is_empty()
+    }
+
     /// Offers each message once, in order. One that comes back is dropped, and counted.
     pub(crate) fn offer<M: ModuleOf<Kind = K>, R: Wait>(
         self,

@@ -1,6 +1,6 @@
 //! Whether a run can be played: how many workers, and whether all is there that scripts and feeds name.
 ghost use Rattle.std.specs.Prelude.{◌≡◌, ◌↔◌, true, All, AllPairs, slice_get};
-ghost use Rattle.strm_run.specs.Scripts.{end_is_there, line_is_there, is_crew, AreCallsThere, AreThere};
+ghost use Rattle.strm_run.specs.Scripts.{end_is_there, line_is_there, is_crew, is_setup, AreCallsThere, AreFromLine, AreThere, IsFromLine};
 
 use crate::script::{Feed, Script, ScriptCall};
 use strm_chain::has_end;
@@ -9,6 +9,33 @@ use strm_shared::Setup;
 
 /// The most workers that a run has.
 pub const MOST_WORKERS: u32 = 64;
+
+/// Whether a run can be made of these streams: each low mark is below its high one, and the ring of each
+/// line holds 1 to 4096 messages.
+pub fn are_setups(setups: &[Setup]) -> bool
+    ensures { result ≡ true ↔ All (λ setup. is_setup setup ≡ true) setups.now }
+{
+    setups.iter().all(|setup| setup.is_fit() && setup.is_ring())
+}
+
+/// Whether each message of a feed is of a kind that comes from a line.
+fn is_from_line(feed: &Feed) -> bool
+    ensures { result ≡ true ↔ IsFromLine feed.now }
+{
+    feed.messages.iter().all(|m| m.from_line())
+}
+
+/// Whether each message of each feed is of a kind that comes from a line.
+pub fn are_from_line(feeds: &[Feed]) -> bool
+    ensures { result ≡ true ↔ AreFromLine feeds.now }
+{
+    for feed in feeds {
+        if !is_from_line(feed) {
+            return false;
+        }
+    }
+    true
+}
 
 /// Whether a run has 1 to `MOST_WORKERS` workers.
 pub(crate) fn is_crew(workers: u32) -> bool

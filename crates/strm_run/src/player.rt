@@ -3,7 +3,7 @@ ghost use Rattle.std.specs.Prelude.{◌≡◌, ◌+◌, ◌++◌, true, length, 
 ghost use Rattle.strm_head.specs.declared.history.Event.TheVariants.{Asked};
 ghost use Rattle.strm_run.specs.Scripts.{calls_on, script_of};
 ghost use Rattle.strm_shared.specs.Log.{is_done};
-ghost use Rattle.strm_run.specs.Run.{told_of, ArePlayed, CallsFit, IsPlayer};
+ghost use Rattle.strm_run.specs.Run.{told_of, ArePlayed, CallsDoFit, IsPlayer};
 
 use crate::about::{Of, Plays};
 use crate::script::{Gate, ScriptCall};
@@ -59,7 +59,10 @@ impl<K, N: Plays<K>> Model for Played<K, N> {
 
 /// Keeps the answer of a call that was made. The modules that came back are dropped, and so is a call
 /// that was not made.
-fn keep<M: ModuleOf>(answers: &mut VecDeque<Answer>, called: Called<Instance<M>>) -> Result<(), NoMem>
+fn keep<M: ModuleOf>(
+    answers: &mut VecDeque<Answer>,
+    called: Called<Instance<M>>,
+) -> Result<(), NoMem>
     ensures done { OnOk result (is_done called ≡ true) }
     ensures told { OnOk result (answers.new.items ≡ answers.old.items ++ told_of called) }
 {
@@ -82,7 +85,7 @@ fn call_on<M: ModuleOf, N: Plays<M::Kind>, R: Wait>(
     answers: &mut VecDeque<Answer>,
     call: Call<Instance<M>>,
 ) -> Result<(), NoMem>
-    requires fits { CallsFit M.row M.Kind.row M.Kind.Kinds }
+    requires fits { CallsDoFit M.row M.Kind.row M.Kind.Kinds }
     requires number { seat.old.number ≡ shared.now.number }
     requires next { slice_get (calls_on seat.old.number (script_of N.run.scripts seat.old.caller)) seat.old.calls ≡ Some (call.end, Asked call.request) }
     ensures { OnOk result (seat.new ≡ record seat.old { calls = seat.old.calls + 1 }) }
@@ -124,7 +127,7 @@ impl<M: ModuleOf, N: Plays<M::Kind>> Player<M, N> {
         streams: &Streams<M, N>,
         gate: &G,
     ) -> Result<Played<M::Kind, N>, NoMem>
-        requires { CallsFit M.row M.Kind.row M.Kind.Kinds }
+        requires { CallsDoFit M.row M.Kind.row M.Kind.Kinds }
     {
         let Player {
             caller,

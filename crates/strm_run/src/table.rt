@@ -6,7 +6,7 @@ use std::alloc::Global;
 use strm_msg::NoMem;
 
 /// So many rows of nothing. Refused for want of memory alone.
-fn empty_rows<T: Drop>(alloc: Global, rows: usize) -> Result<Vec<Vec<T>>, NoMem>
+pub(crate) fn empty_rows<T: Drop>(alloc: Global, rows: usize) -> Result<Vec<Vec<T>>, NoMem>
     ensures many { IfOk result (λ all. length all.items ≡ rows) }
     ensures empty { IfOk result (λ all. All (λ row. row.items ≡ []) all.items) }
 {

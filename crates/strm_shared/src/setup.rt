@@ -1,7 +1,7 @@
 //! How a shared stream is made.
 ghost use Rattle.std.specs.Prelude.{◌≡◌};
 ghost use Rattle.strm_head.specs.Step.{is_line};
-ghost use Rattle.strm_shared.specs.Setup.{is_ring};
+ghost use Rattle.strm_shared.specs.Setup.{is_fit, is_ring};
 
 use strm_head::Driver;
 
@@ -28,6 +28,13 @@ impl Setup {
         ensures { result ≡ is_line self.now.driver }
     {
         self.driver == Driver::Line
+    }
+
+    /// Whether each low mark is below its high one.
+    pub fn is_fit(&self) -> bool
+        ensures { result ≡ is_fit self.now }
+    {
+        self.head.1 < self.head.0 && self.drv.1 < self.drv.0
     }
 
     /// Whether the ring can be made: the stream is no line, or the ring holds 1 to 4096 messages.

@@ -1,0 +1,110 @@
+-- Feeds and feeders, one more at a time.
+use Rattle.std.proofs.Common.{◌≡◌, ℕ, suc, ◌+◌, ◌<◌, ◌≤◌, ◌==◌, Bool, true, false, Option, Some, None, List, [], ◌∷◌, ◌++◌, length, get_or, set, Vec, Global, All, if◌then◌else◌, refl, sym, ◌∙◌, ap, subst, arith}
+use Rattle.std.specs.Prelude.{AllPairs, slice_get}
+use Rattle.std.proofs.Math.Seq.{get_or-append_seam}
+use Rattle.std.proofs.lemmas.Bool.{eqb-true, eqb-false, eq-eqb, ne_eqb}
+use Rattle.std.proofs.lemmas.List.{length-append, length-set, get_or-set_same, get_or-set_other, get_or_append_left}
+use Rattle.strm_msg.specs.Message.{Msg}
+use Rattle.strm_head.specs.Step.{is_line}
+use Rattle.strm_shared.specs.declared.setup.Setup.{Setup}
+use Rattle.strm_shared.specs.Ending.{fresh_feed, FeedValue}
+use Rattle.strm_run.specs.declared.script.Feed.{Feed}
+use Rattle.strm_run.specs.Scripts.{feed_of, line_is_there}
+use Rattle.strm_run.specs.Run.{RunValue, IsFeeding}
+use Rattle.strm_run.specs.Opening.{callers_of, lines_below, AreFeeders, AreFeeds}
+use Rattle.strm_run.proofs.ReachedLemmas.{fails_more, passes_more, reached_is, reached_there}
+use Rattle.strm_run.proofs.TableLemmas.{first}
+use Rattle.strm_run.proofs.ThereLemmas.{line_at}
+
+-- a feed for another stream
+feed_other : (feeds : List Feed) (feed : Feed) (k : ℕ) → (feed.stream == k) ≡ false → feed_of (feeds ++ feed ∷ []) k ≡ feed_of feeds k
+feed_other [] feed k other = ap (λ (b : Bool). if b then feed.messages.items else []) other
+feed_other (first ∷ feeds) feed k other =
+    ap (λ (l : List Msg). if first.stream == k then first.messages.items else l) (feed_other feeds feed k other)
+
+-- and the first one for its own
+feed_same : (feeds : List Feed) (feed : Feed) → All (λ one. one.stream ≡ feed.stream → ⊥) feeds → feed_of (feeds ++ feed ∷ []) feed.stream ≡ feed.messages.items
+feed_same [] feed apart = ap (λ (b : Bool). if b then feed.messages.items else []) (eq-eqb feed.stream feed.stream refl)
+feed_same (first ∷ feeds) feed apart =
+    let differs : (first.stream == feed.stream) ≡ false = ne_eqb first.stream feed.stream (apart 0 first (omega arith)) in
+    ap (λ (b : Bool). if b then first.messages.items else feed_of (feeds ++ feed ∷ []) feed.stream) differs
+    ∙ feed_same feeds feed (λ k d below. apart (suc k) d (omega arith))
+
+-- no feed before one is for its stream
+pub none_before : (feeds before after : List Feed) (feed : Feed) → before ++ feed ∷ after ≡ feeds → AllPairs (λ one other. one.stream ≡ other.stream → ⊥) feeds → All (λ one. one.stream ≡ feed.stream → ⊥) before
+none_before feeds before after feed is once k d below same =
+    let pairs = subst (λ l. AllPairs (λ (one other : Feed). one.stream ≡ other.stream → ⊥) l) (sym is) once in
+    pairs k (length before) d below (omega (arith, length-append before (feed ∷ after))) (ap (λ (f : Feed). f.stream) (get_or_append_left before (feed ∷ after) d k below) ∙ same ∙ sym (ap (λ (f : Feed). f.stream) (get_or-append_seam before feed after d)))
+
+-- one more stream is fed
+module _ (feeds : List Feed) (feed : Feed) (streams : ℕ) (all : List (Vec Msg Global)) (fed : AreFeeds feeds streams all) (there : feed.stream < streams) (apart : All (λ one. one.stream ≡ feed.stream → ⊥) feeds) where
+  slot_there : feed.stream < length all
+  slot_there = subst (λ n. feed.stream < n) (sym fed.many) there
+
+  fed_at : (k : ℕ) (d : Vec Msg Global) (b : Bool) → (feed.stream == k) ≡ b → k < streams → (get_or (set all feed.stream feed.messages) k d).items ≡ feed_of (feeds ++ feed ∷ []) k
+  fed_at k d true same below =
+      let here : feed.stream ≡ k = eqb-true feed.stream k same in
+      subst (λ (n : ℕ). (get_or (set all feed.stream feed.messages) n d).items ≡ feed_of (feeds ++ feed ∷ []) n) here
+      (ap (λ (v : Vec Msg Global). v.items) (get_or-set_same all feed.stream feed.messages d slot_there) ∙ sym (feed_same feeds feed apart))
+  fed_at k d false other below =
+      ap (λ (v : Vec Msg Global). v.items) (get_or-set_other all feed.stream k feed.messages d (λ same. eqb-false feed.stream k other (sym same)))
+      ∙ fed.each k d below
+      ∙ sym (feed_other feeds feed k other)
+
+  pub fed_more : AreFeeds (feeds ++ feed ∷ []) streams (set all feed.stream feed.messages)
+  fed_more = record {
+    many = length-set all feed.stream feed.messages ∙ fed.many;
+    each = λ k d below. fed_at k d (feed.stream == k) refl below;
+  }
+
+-- a choice, by what was chosen
+some_if : {X : Type 0} (b : Bool) (x found : X) → (if b then Some x else None) ≡ Some found → (b ≡ true) × (found ≡ x)
+some_if true x found is = (refl, cc)
+some_if false x found is = absurd cc
+
+none_if : {X : Type 0} (b : Bool) (x : X) (found : Option X) → (if b then Some x else None) ≡ found → ((other : X) → found ≡ Some other → ⊥) → b ≡ false
+none_if true x found is none = absurd (none x (sym is))
+none_if false x found is none = refl
+
+-- the lines, as far as one stream more
+lines_more : (setups : List Setup) (at : ℕ) → line_is_there (slice_get setups at) ≡ true → lines_below setups (at + 1) ≡ lines_below setups at ++ at ∷ []
+lines_more setups at is =
+    let n : at + 1 ≡ suc at = omega arith in
+    ap (λ (m : ℕ). lines_below setups m) n ∙ passes_more (λ k. line_is_there (slice_get setups k)) (callers_of at) at is
+
+lines_same : (setups : List Setup) (at : ℕ) → line_is_there (slice_get setups at) ≡ false → lines_below setups (at + 1) ≡ lines_below setups at
+lines_same setups at is =
+    let n : at + 1 ≡ suc at = omega arith in
+    ap (λ (m : ℕ). lines_below setups m) n ∙ fails_more (λ k. line_is_there (slice_get setups k)) (callers_of at) at is
+
+-- a feeder, or none, that a loop over them has reached
+module _ {K : Type 0} (run : RunValue K) (feeders before after : List (Option FeedValue)) (feeder : Option FeedValue) (at : ℕ) (are : AreFeeders run feeders) (is : before ++ feeder ∷ after ≡ feeders) (place : at ≡ length before) where
+  setup_there : at < length run.setups
+  setup_there = subst (λ n. at < n) are.many (reached_there feeders before after feeder at is place)
+
+  setup : Setup
+  setup = first run.setups at setup_there
+
+  fresh : fresh_feed at (get_or run.setups at setup) ≡ feeder
+  fresh = sym (are.each at feeder setup setup_there) ∙ reached_is feeders before after feeder feeder at is place
+
+  -- one that is there is a line's
+  module _ (found : FeedValue) (there : feeder ≡ Some found) where
+    chosen : (is_line (get_or run.setups at setup).driver ≡ true) × (found ≡ record { number = at; accepted = [] })
+    chosen = some_if (is_line (get_or run.setups at setup).driver) (record { number = at; accepted = [] }) found (fresh ∙ there)
+
+    pub lines_found : (lines : List ℕ) → lines ≡ lines_below run.setups at → lines ++ found.number ∷ [] ≡ lines_below run.setups (at + 1)
+    lines_found lines was =
+        ap (λ (f : FeedValue). lines ++ f.number ∷ []) chosen.1 ∙ ap (λ (l : List ℕ). l ++ at ∷ []) was ∙ sym (lines_more run.setups at (line_at run.setups at setup setup_there ∙ chosen.0))
+
+    -- with what the line is fed
+    pub feeding_found : (feeds now : List (Vec Msg Global)) (messages : Vec Msg Global) → AreFeeds run.feeds (length run.setups) feeds → ((k : ℕ) (d : Vec Msg Global) → at ≤ k → get_or now k d ≡ get_or feeds k d) → messages ≡ get_or now at messages → IsFeeding run found messages.items
+    feeding_found feeds now messages fed behind stood =
+        let mine : messages.items ≡ feed_of run.feeds at =
+        ap (λ (v : Vec Msg Global). v.items) (stood ∙ behind at messages (omega arith)) ∙ fed.each at messages setup_there in
+        subst (λ (f : FeedValue). IsFeeding run f messages.items) (sym chosen.1) (record { there = setup_there; none = refl; feed = mine })
+
+  -- the other streams have none
+  pub lines_none : (lines : List ℕ) → ((found : FeedValue) → feeder ≡ Some found → ⊥) → lines ≡ lines_below run.setups at → lines ≡ lines_below run.setups (at + 1)
+  lines_none lines none was =
+      was ∙ sym (lines_same run.setups at (line_at run.setups at setup setup_there ∙ none_if (is_line (get_or run.setups at setup).driver) (record { number = at; accepted = [] }) feeder fresh none))

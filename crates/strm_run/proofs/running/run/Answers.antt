@@ -1,0 +1,35 @@
+use Rattle.std.proofs.Common.{◌∙◌, refl, sym}
+use Rattle.strm_run.specs.Run.{Fits}
+use Rattle.strm_run.proofs.RunLemmas.{any_setup, if_ok}
+use Rattle.strm_run.proofs.running.run.Goals as goal
+
+pub returns-then-not-are_there-clause-no_such : goal.returns-then-not-are_there-clause-no_such
+returns-then-not-are_there-clause-no_such g c =
+    let are = rw (c.as_slice.ensures.value, c.as_slice-2.ensures.value, c.as_slice-3.ensures.value) at c.are_there.ensures in
+    ((λ is. (sym c.is_crew.ensures ∙ c.if-not-is_crew.false, λ there. absurd (cc (are.1 there, c.if-not-are_there.true)))), (λ all. refl))
+
+pub run_named-requires-clause-fits : goal.run_named-requires-clause-fits
+unfolding Fits
+run_named-requires-clause-fits g c κs within = c.requires.fits
+
+pub run_named-requires-clause-there : goal.run_named-requires-clause-there
+run_named-requires-clause-there g c κs within =
+    let are = rw (c.as_slice.ensures.value, c.as_slice-2.ensures.value, c.as_slice-3.ensures.value) at c.are_there.ensures in
+    are.0 c.if-not-are_there.false
+
+pub returns-clause-no_such : goal.returns-clause-no_such
+returns-clause-no_such g c =
+    let are = rw (c.as_slice.ensures.value, c.as_slice-2.ensures.value, c.as_slice-3.ensures.value) at c.are_there.ensures in
+    ((λ is. absurd (cc (rw is at c.run_named.ensures.late))), (λ all. absurd (all.1 (are.0 c.if-not-are_there.false))))
+
+pub returns-clause-many : goal.returns-clause-many
+returns-clause-many g c = if_ok _ _ c.run_named.result (λ t logs. logs.many) c.run_named.ensures.logs
+
+pub returns-clause-legal : goal.returns-clause-legal
+returns-clause-legal g c = if_ok _ _ c.run_named.result (λ t logs k s d below. (logs.each k s d below).legal) c.run_named.ensures.logs
+
+pub returns-clause-calls : goal.returns-clause-calls
+returns-clause-calls g c = if_ok _ _ c.run_named.result (λ t logs k caller d below. (logs.each k any_setup d below).calls caller) c.run_named.ensures.logs
+
+pub returns-clause-arrivals : goal.returns-clause-arrivals
+returns-clause-arrivals g c = if_ok _ _ c.run_named.result (λ t logs k d below. (logs.each k any_setup d below).fed) c.run_named.ensures.logs

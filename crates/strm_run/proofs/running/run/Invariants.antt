@@ -1,0 +1,5 @@
+use Rattle.strm_run.proofs.running.run.Given as goal
+
+-- a run is about what it is given
+abbrev pub ghosts-run_named : goal.ghosts-run_named
+ghosts-run_named g a = record { run = record { setups = a.setups.items; scripts = a.scripts.items; feeds = a.feeds.items } }

@@ -1,0 +1,75 @@
+-- What a run leaves, and what its seats are then.
+use Rattle.std.specs.Prelude.{◌≡◌, ℕ, ◌<◌, false, Option, Some, None, option_map, List, [], All, get_or, length, map, Vec}
+use Rattle.std.specs.Global.{Global}
+use Rattle.strm_msg.specs.declared.words.End.TheVariants.{A, B}
+use Rattle.strm_module.specs.Kinds.{Meaning}
+use Rattle.strm_chain.specs.Image.{Image, end_of}
+use Rattle.strm_head.specs.Step.{is_line}
+use Rattle.strm_shared.specs.declared.setup.Setup.{Setup}
+use Rattle.strm_shared.specs.declared.entry.Entry.{Entry}
+use Rattle.strm_shared.specs.declared.fault.EndFault.{EndFault}
+use Rattle.strm_shared.specs.declared.fault.EndFault.TheVariants as EndFaults
+use Rattle.strm_shared.specs.History.{own, arrivals}
+use Rattle.strm_shared.specs.Log.{SeatValue}
+use Rattle.strm_shared.specs.Turns.{asked_of}
+use Rattle.strm_shared.specs.Ending.{FeedValue, SharedValue}
+use Rattle.strm_run.specs.declared.fault.RunFault.{RunFault}
+use Rattle.strm_run.specs.declared.fault.RunFault.TheVariants as RunFaults
+use Rattle.strm_run.specs.declared.transcript.StreamLog.{StreamLog}
+use Rattle.strm_run.specs.Scripts.{calls_on, script_of, feed_of}
+use Rattle.strm_run.specs.Run.{RunValue, OfferedValue, HasOffered, HasPlayed}
+use Rattle.strm_run.specs.Transcript.{IsLegal, IsFed, names_at}
+
+-- the seats of callers that have played their scripts, in order of the streams
+pub record AreSeatsPlayed {K : Type 0} (run : RunValue K) (seats : List (Vec SeatValue Global)) : Type 0 where
+  pub many : length seats ≡ length run.setups
+  pub each : (k : ℕ) (d : Vec SeatValue Global) → k < length run.setups → All (HasPlayed run k) (get_or seats k d).items
+
+-- a stream of a run
+pub record IsStream {K : Type 0} (run : RunValue K) (shared : SharedValue) : Type 0 where
+  pub there : shared.number < length run.setups
+  pub setup_is : (s : Setup) → get_or run.setups shared.number s ≡ shared.setup
+  pub callers : shared.seats ≡ length run.scripts
+
+-- no stream but a line is fed
+abbrev pub AreLinesFed : {K : Type 0} → RunValue K → Type 0
+AreLinesFed run = (k : ℕ) (s : Setup) → k < length run.setups → is_line (get_or run.setups k s).driver ≡ false → feed_of run.feeds k ≡ []
+
+-- how many messages came back from a feeder; none where there is none
+abbrev pub overrun_of : Option OfferedValue → ℕ
+overrun_of None = 0
+overrun_of (Some offered) = offered.overrun
+
+-- a feeder has offered its feed; where there is none, nothing came back
+abbrev pub IsOffered : {K : Type 0} → RunValue K → Option FeedValue → ℕ → Type 0
+IsOffered run None overrun = overrun ≡ 0
+IsOffered run (Some feed) overrun = HasOffered run feed overrun
+
+-- what the end of a stream that was refused is to the run
+abbrev pub fault_of : EndFault → RunFault
+fault_of EndFaults.Seats = RunFaults.Unfinished
+fault_of EndFaults.Unfinished = RunFaults.Unfinished
+fault_of EndFaults.NoMem = RunFaults.NoMem
+
+-- what is left of a stream that ended with this history
+pub record IsLogOf {K : Type 0} (history : List (Entry K)) (stream : Image K) (accepted overrun : ℕ) (log : StreamLog K) : Type 0 where
+  pub same : log.history.items ≡ history
+  pub a : log.a ≡ names_at (end_of stream A)
+  pub b : log.b ≡ names_at (end_of stream B)
+  pub accepted_is : log.accepted ≡ accepted
+  pub arrived : log.arrived ≡ length (arrivals history)
+  pub overrun_is : log.overrun ≡ overrun
+
+-- for kinds of any meaning
+module _ {K : Type 0} (means : Meaning K) where
+  -- what a run leaves of a stream: a legal history, in which each caller's calls are those of its script for the stream, in order
+  -- and no others, and whose arrivals are of its feed
+  pub record IsLog (run : RunValue K) (number : ℕ) (setup : Setup) (log : StreamLog K) : Type 0 where
+    pub legal : IsLegal means setup log
+    pub calls : (caller : ℕ) → map asked_of (own caller log.history.items) ≡ calls_on number (script_of run.scripts caller)
+    pub fed : IsFed (feed_of run.feeds number) log
+
+  -- what it leaves of all, in order
+  pub record AreLogs (run : RunValue K) (logs : List (StreamLog K)) : Type 0 where
+    pub many : length logs ≡ length run.setups
+    pub each : (k : ℕ) (s : Setup) (d : StreamLog K) → k < length run.setups → IsLog run k (get_or run.setups k s) (get_or logs k d)

@@ -1,0 +1,55 @@
+-- The streams of a run as they are made, who sits there, and who plays what.
+use Rattle.std.specs.Prelude.{◌≡◌, ℕ, zero, suc, ◌<◌, ◌==◌, ◌%◌, Option, List, [], ◌∷◌, ◌++◌, filter, get_or, length, slice_get, Vec}
+use Rattle.std.specs.Global.{Global}
+use Rattle.strm_msg.specs.Message.{Msg}
+use Rattle.strm_shared.specs.declared.setup.Setup.{Setup}
+use Rattle.strm_shared.specs.Log.{SeatValue}
+use Rattle.strm_shared.specs.Ending.{fresh_seats, fresh_feed, FeedValue, SharedValue}
+use Rattle.strm_run.specs.declared.script.Feed.{Feed}
+use Rattle.strm_run.specs.Scripts.{feed_of, line_is_there}
+use Rattle.strm_run.specs.Run.{RunValue, AreStreams}
+
+-- the seats on each stream, in order of the streams: one for each caller, that has made no call
+pub record AreSeatsOn {K : Type 0} (run : RunValue K) (seats : List (Vec SeatValue Global)) : Type 0 where
+  pub many : length seats ≡ length run.setups
+  pub each : (k : ℕ) (d : Vec SeatValue Global) → k < length run.setups → (get_or seats k d).items ≡ fresh_seats k (length run.scripts)
+
+-- the feeders, in order of the streams: one for each line, that had nothing accepted
+pub record AreFeeders {K : Type 0} (run : RunValue K) (feeders : List (Option FeedValue)) : Type 0 where
+  pub many : length feeders ≡ length run.setups
+  pub each : (k : ℕ) (d : Option FeedValue) (s : Setup) → k < length run.setups → get_or feeders k d ≡ fresh_feed k (get_or run.setups k s)
+
+-- the streams of a run that were just made, in order, each with a seat for each caller, and a feeder if it is a line
+pub record AreOpened {K : Type 0} (run : RunValue K) (streams : List SharedValue) (seats : List (Vec SeatValue Global)) (feeders : List (Option FeedValue)) : Type 0 where
+  pub streams_are : AreStreams run streams
+  pub seats_are : AreSeatsOn run seats
+  pub feeders_are : AreFeeders run feeders
+
+-- the seats of each caller, in order of the streams, that have made no call
+pub record AreSeated {K : Type 0} (run : RunValue K) (seats : List (Vec SeatValue Global)) : Type 0 where
+  pub many : length seats ≡ length run.scripts
+  pub long : (caller : ℕ) (d : Vec SeatValue Global) → caller < length run.scripts → length (get_or seats caller d).items ≡ length run.setups
+  pub each : (caller k : ℕ) (d : Vec SeatValue Global) (x : SeatValue) → caller < length run.scripts → k < length run.setups → get_or (get_or seats caller d).items k x ≡ record { number = k; caller = caller; calls = 0 }
+
+-- so many callers, in order
+abbrev pub callers_of : ℕ → List ℕ
+callers_of zero = []
+callers_of (suc n) = callers_of n ++ n ∷ []
+
+-- each worker has the callers whose number modulo the workers is its own, in order
+pub record AreDealt (callers : List ℕ) (workers : ℕ) (crews : List (Vec ℕ Global)) : Type 0 where
+  pub many : length crews ≡ workers
+  pub each : (worker : ℕ) (d : Vec ℕ Global) → worker < workers → (get_or crews worker d).items ≡ filter (λ caller. caller % workers == worker) callers
+
+-- what each stream is fed, in order of the streams
+pub record AreFeeds (feeds : List Feed) (streams : ℕ) (all : List (Vec Msg Global)) : Type 0 where
+  pub many : length all ≡ streams
+  pub each : (k : ℕ) (d : Vec Msg Global) → k < streams → (get_or all k d).items ≡ feed_of feeds k
+
+-- the numbers of the lines among the first streams, in order
+abbrev pub lines_below : List Setup → ℕ → List ℕ
+lines_below setups number = filter (λ k. line_is_there (slice_get setups k)) (callers_of number)
+
+-- the numbers of the lines, in order
+abbrev pub lines_of : List Setup → List ℕ
+lines_of setups = lines_below setups (length setups)

@@ -1,0 +1,76 @@
+//! The feeders of a run, each with its feed.
+ghost use Rattle.std.specs.Prelude.{◌≡◌, ◌<◌, true, [], length, All, AllPairs, IfOk};
+ghost use Rattle.strm_msg.specs.Kind.{is_from_line};
+ghost use Rattle.strm_run.specs.Opening.{lines_of, AreFeeds, AreFeeders};
+
+use crate::about::Plays;
+use crate::feeding::{Feeding, Offered};
+use crate::script::Feed;
+use crate::table::empty_rows;
+use std::alloc::Global;
+use std::mem;
+use strm_msg::{Message, NoMem};
+use strm_shared::Feeder;
+
+/// What each stream is fed, in order of the streams. Refused for want of memory alone.
+pub(crate) fn feeds_of(
+    alloc: Global,
+    feeds: Vec<Feed>,
+    streams: usize,
+) -> Result<Vec<Vec<Message>>, NoMem>
+    requires there { All (λ feed. feed.stream < streams) feeds.items }
+    requires once { AllPairs (λ one other. one.stream ≡ other.stream → ⊥) feeds.items }
+    ensures { IfOk result (λ all. AreFeeds feeds.items streams all.items) }
+{
+    let mut all = empty_rows(alloc, streams)?;
+    for feed in feeds {
+        let Feed { stream, messages } = feed;
+        all[stream as usize] = messages;
+    }
+    Ok(all)
+}
+
+/// A feeder for each line, in order of the streams, with what the line is fed. Refused for want of memory
+/// alone.
+pub(crate) fn feedings<K, N: Plays<K>>(
+    alloc: Global,
+    feeders: Vec<Option<Feeder>>,
+    mut feeds: Vec<Vec<Message>>,
+) -> Result<Vec<Feeding<K, N>>, NoMem>
+    requires feeders { AreFeeders N.run feeders.items }
+    requires feeds { AreFeeds N.run.feeds (length N.run.setups) feeds.items }
+    requires kinds { All (λ messages. All (λ m. is_from_line m.kind ≡ true) messages.items) feeds.items }
+    ensures { IfOk result (λ all. all.items ≡ lines_of N.run.setups) }
+{
+    let mut all = Vec::new(alloc);
+    let mut at: usize = 0;
+    for feeder in feeders {
+        if let Some(feeder) = feeder {
+            let messages = mem::replace(&mut feeds[at], Vec::new(alloc));
+            all.push(Feeding::new(feeder, messages))?;
+        }
+        at += 1;
+    }
+    Ok(all)
+}
+
+/// What each feeder leaves, in order of the streams; nothing for a stream that has none. Refused for want
+/// of memory alone.
+pub(crate) fn offered_on<K, N: Plays<K>>(
+    alloc: Global,
+    offered: Vec<Offered<K, N>>,
+    streams: usize,
+) -> Result<Vec<Option<Offered<K, N>>>, NoMem>
+    requires { length N.run.setups ≡ streams }
+    ensures { IfOk result (λ all. length all.items ≡ streams) }
+{
+    let mut all = Vec::new(alloc);
+    for _ in 0..streams {
+        all.push(None)?;
+    }
+    for one in offered {
+        let at = one.number() as usize;
+        all[at] = Some(one);
+    }
+    Ok(all)
+}

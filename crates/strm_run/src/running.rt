@@ -1,0 +1,95 @@
+//! A run.
+ghost use Rattle.std.specs.Prelude.{◌≡◌, ◌↔◌, ◌<◌, ◌^◌, ℕ, true, false, length, get_or, map, All, IfOk, IfErr, IsErrOf};
+ghost use Rattle.strm_shared.specs.History.{own};
+ghost use Rattle.strm_shared.specs.Turns.{asked_of};
+ghost use Rattle.strm_run.specs.Fault.{is_late};
+ghost use Rattle.strm_run.specs.Scripts.{calls_on, script_of, feed_of, is_crew, is_setup, AreFromLine, AreThere};
+ghost use Rattle.strm_run.specs.Run.{CallsDoFit, CallsFit};
+ghost use Rattle.strm_run.specs.Transcript.{IsFed, IsLegal};
+ghost use Rattle.strm_run.specs.Ending.{AreLogs};
+
+use crate::about::Plays;
+use crate::dealing::{deal, seated};
+use crate::ending::finish;
+use crate::fault::RunFault;
+use crate::feeds::{feedings, feeds_of};
+use crate::judge::{are_there, is_crew};
+use crate::opening::open;
+use crate::script::{Feed, Gate, Script};
+use crate::streams::Streams;
+use crate::table::transposed;
+use crate::threads::play_out;
+use crate::transcript::Transcript;
+use std::alloc::Global;
+use std::marker::Brand;
+use std::sync::Wait;
+use std::thread::Threads;
+use strm_module::{Instance, ModuleOf};
+use strm_shared::Setup;
+
+/// A run of which all is there, under its name.
+fn run_named<M: ModuleOf, N: Plays<M::Kind> + Send + Sync, R: Threads + Wait + Sync, G: Gate>(
+    rt: &R,
+    alloc: Global,
+    setups: Vec<Setup>,
+    scripts: Vec<Script<Instance<M>>>,
+    feeds: Vec<Feed>,
+    workers: u32,
+    gate: &G,
+) -> Result<Transcript<M::Kind>, RunFault>
+where
+    M::Kind: Send,
+    requires fits { CallsDoFit M.row M.Kind.row M.Kind.Kinds }
+    requires setups { N.run.setups ≡ setups.items }
+    requires scripts { N.run.scripts ≡ scripts.items }
+    requires feeds { N.run.feeds ≡ feeds.items }
+    requires few { (length setups.items < 2 ^ 32) × (length scripts.items < 2 ^ 32) }
+    requires setups_fit { All (λ setup. is_setup setup ≡ true) setups.items }
+    requires kinds { AreFromLine feeds.items }
+    requires crew { is_crew workers ≡ true }
+    requires there { AreThere setups.items scripts.items feeds.items }
+    ensures logs { IfOk result (λ transcript. AreLogs M.Kind.means N.run transcript.streams.items) }
+    ensures late { IfErr result (λ fault. is_late fault ≡ true) }
+{
+    let many = setups.len();
+    let callers = scripts.len();
+    let (all, seats, feeders) = open(alloc, setups.as_slice(), callers as u32)?;
+    let seats = transposed(alloc, seats, callers)?;
+    let feedings = feedings(alloc, feeders, feeds_of(alloc, feeds, many)?)?;
+    let crews = deal(alloc, seated(alloc, scripts, seats, many)?, workers)?;
+    let streams = Streams::<M, N>::new(all);
+    let (played, offered) = play_out(rt, alloc, &streams, crews, feedings, gate)?;
+    finish(alloc, streams, played, offered, many)
+}
+
+/// Plays scripts on streams that all callers share, by so many threads, and gives what is left.
+pub fn run<M: ModuleOf, R: Threads + Wait + Sync, G: Gate>(
+    rt: &R,
+    alloc: Global,
+    setups: Vec<Setup>,
+    scripts: Vec<Script<Instance<M>>>,
+    feeds: Vec<Feed>,
+    workers: u32,
+    gate: &G,
+) -> Result<Transcript<M::Kind>, RunFault>
+where
+    M::Kind: Send,
+    requires fits { CallsFit M.row M.Kind.row M.Kind.Kinds }
+    requires few { (length setups.items < 2 ^ 32) × (length scripts.items < 2 ^ 32) }
+    requires setups { All (λ setup. is_setup setup ≡ true) setups.items }
+    requires feeds { AreFromLine feeds.items }
+    ensures workers { IsErrOf result RunFault.Workers ↔ (is_crew workers ≡ false) }
+    ensures no_such { IsErrOf result RunFault.NoSuch ↔ ((is_crew workers ≡ true) × (AreThere setups.items scripts.items feeds.items → ⊥)) }
+    ensures many { IfOk result (λ transcript. length transcript.streams.items ≡ length setups.items) }
+    ensures legal { IfOk result (λ transcript. (k : ℕ) (setup : _) (log : _) → k < length setups.items → IsLegal M.Kind.means (get_or setups.items k setup) (get_or transcript.streams.items k log)) }
+    ensures calls { IfOk result (λ transcript. (k caller : ℕ) (log : _) → k < length setups.items → map asked_of (own caller (get_or transcript.streams.items k log).history.items) ≡ calls_on k (script_of scripts.items caller)) }
+    ensures arrivals { IfOk result (λ transcript. (k : ℕ) (log : _) → k < length setups.items → IsFed (feed_of feeds.items k) (get_or transcript.streams.items k log)) }
+{
+    if !is_crew(workers) {
+        return Err(RunFault::Workers);
+    }
+    if !are_there(setups.as_slice(), scripts.as_slice(), feeds.as_slice()) {
+        return Err(RunFault::NoSuch);
+    }
+    run_named::<M, Brand, R, G>(rt, alloc, setups, scripts, feeds, workers, gate)
+}

@@ -1,0 +1,139 @@
+//! The threads of a run.
+ghost use Rattle.std.specs.Prelude.{◌≡◌};
+ghost use Rattle.std.specs.Thread.{IsSend, IsSync};
+ghost use Rattle.strm_run.specs.Run.{CallsDoFit};
+
+use crate::about::Plays;
+use crate::feeding::{Feeding, Offered};
+use crate::player::{Played, Player};
+use crate::script::Gate;
+use crate::streams::Streams;
+use std::alloc::Global;
+use std::sync::Wait;
+use std::thread;
+use std::thread::Threads;
+use strm_module::ModuleOf;
+use strm_msg::NoMem;
+
+/// Plays the scripts of a worker, one after another.
+fn work<M: ModuleOf, N: Plays<M::Kind>, R: Wait, G: Gate>(
+    rt: &R,
+    alloc: Global,
+    streams: &Streams<M, N>,
+    crew: Vec<Player<M, N>>,
+    gate: &G,
+) -> Result<Vec<Played<M::Kind, N>>, NoMem>
+    requires { CallsDoFit M.row M.Kind.row M.Kind.Kinds }
+{
+    let mut all = Vec::new(alloc);
+    for player in crew {
+        all.push(player.play(rt, streams, gate)?)?;
+    }
+    Ok(all)
+}
+
+/// Starts a thread for each worker, and waits for all of them.
+fn play_all<M: ModuleOf, N: Plays<M::Kind> + Send + Sync, R: Threads + Wait + Sync, G: Gate>(
+    rt: &R,
+    alloc: Global,
+    streams: &Streams<M, N>,
+    crews: Vec<Vec<Player<M, N>>>,
+    gate: &G,
+) -> Result<Vec<Played<M::Kind, N>>, NoMem>
+where
+    M::Kind: Send,
+    requires { CallsDoFit M.row M.Kind.row M.Kind.Kinds }
+{
+    thread::scope(
+        thread::scope_env(),
+        rt,
+        |scope| -> Result<Vec<Played<M::Kind, N>>, NoMem>
+            requires { IsSync R.row × IsSync G.row × IsSend M.row × IsSend M.Kind.row × IsSend N.row × IsSync N.row × CallsDoFit M.row M.Kind.row M.Kind.Kinds }
+        {
+            let mut handles = Vec::new(alloc);
+            for crew in crews {
+                let Ok(handle) = scope.spawn(
+                    move || -> Result<Vec<Played<M::Kind, N>>, NoMem>
+                        requires { IsSend M.row × CallsDoFit M.row M.Kind.row M.Kind.Kinds }
+                    { work(rt, alloc, streams, crew, gate) },
+                ) else {
+                    return Err(NoMem);
+                };
+                let Ok(()) = handles.push(handle) else {
+                    return Err(NoMem);
+                };
+            }
+            let mut all = Vec::new(alloc);
+            for handle in handles {
+                let mut some = handle.join(rt)?;
+                let Ok(()) = all.append(&mut some) else {
+                    return Err(NoMem);
+                };
+            }
+            Ok(all)
+        },
+    )
+}
+
+/// Offers a feed to the stream that it is for.
+fn feed<M: ModuleOf, N: Plays<M::Kind>, R: Wait>(
+    rt: &R,
+    streams: &Streams<M, N>,
+    feeding: Feeding<M::Kind, N>,
+) -> Offered<M::Kind, N>
+    ensures { result.feed.number ≡ feeding }
+{
+    let number = feeding.number();
+    feeding.offer(rt, streams.at(number))
+}
+
+/// Starts a thread for each feed that has messages, and the workers, and waits for all of them.
+pub(crate) fn play_out<
+    M: ModuleOf,
+    N: Plays<M::Kind> + Send + Sync,
+    R: Threads + Wait + Sync,
+    G: Gate,
+>(
+    rt: &R,
+    alloc: Global,
+    streams: &Streams<M, N>,
+    crews: Vec<Vec<Player<M, N>>>,
+    feedings: Vec<Feeding<M::Kind, N>>,
+    gate: &G,
+) -> Result<(Vec<Played<M::Kind, N>>, Vec<Offered<M::Kind, N>>), NoMem>
+where
+    M::Kind: Send,
+    requires { CallsDoFit M.row M.Kind.row M.Kind.Kinds }
+{
+    thread::scope(
+        thread::scope_env(),
+        rt,
+        |scope| -> Result<(Vec<Played<M::Kind, N>>, Vec<Offered<M::Kind, N>>), NoMem>
+            requires { IsSync R.row × IsSync G.row × IsSend M.row × IsSend M.Kind.row × IsSend N.row × IsSync N.row × CallsDoFit M.row M.Kind.row M.Kind.Kinds }
+        {
+            let mut offered = Vec::new(alloc);
+            let mut handles = Vec::new(alloc);
+            for feeding in feedings {
+                if feeding.is_empty() {
+                    offered.push(feed(rt, streams, feeding))?;
+                    continue;
+                }
+                let Ok(handle) = scope.spawn(
+                    move || -> Offered<M::Kind, N>
+                        requires { IsSend M.row }
+                    { feed(rt, streams, feeding) },
+                ) else {
+                    return Err(NoMem);
+                };
+                let Ok(()) = handles.push(handle) else {
+                    return Err(NoMem);
+                };
+            }
+            let played = play_all(rt, alloc, streams, crews, gate)?;
+            for handle in handles {
+                offered.push(handle.join(rt))?;
+            }
+            Ok((played, offered))
+        },
+    )
+}

@@ -1,8 +1,8 @@
-//! Scripts that threads play on shared streams.
+//! Runs: scripts that threads play on shared streams, and what they leave.
 //!
-//! So far: what scripts and feeds may ask, callers and feeders that play theirs to the end, and what is
-//! left of a stream. What starts the threads, and compares what they tell with the histories, is not
-//! there yet.
+//! `run` is given how the streams are made, a script for each caller and a feed for each line that has
+//! one, and a number of workers. It gives a transcript, in which each stream's history is one that the
+//! sequential stream could have given, and has each caller's calls on it, in order.
 #![tactic(auto)]
 
 mod about;

@@ -62,7 +62,24 @@ where
     finish(alloc, streams, played, offered, many)
 }
 
-/// Plays scripts on streams that all callers share, by so many threads, and gives what is left.
+/// Plays scripts on streams that all callers share, and gives what is left of each stream.
+///
+/// Streams are numbered from 0 in the order of their setups, callers in that of their scripts. Caller `i`
+/// is played by worker `i` modulo `workers`, each a thread of its own, and the callers of a worker one
+/// after another. Each feed has a thread of its own, which is started with the workers and offers each
+/// message once. Round each call the gate is called. What comes back from a call is dropped after it,
+/// outside of the lock.
+///
+/// To be called with setups of which each can be made (`are_setups`), with messages that come from lines
+/// (`are_from_line`), with fewer than 2^32 of streams and of scripts, and with modules and kinds of which
+/// what becomes of a call fits into memory, as it does for each type that can be compiled. It returns when
+/// all threads have ended; a module or a gate that waits for ever keeps it.
+///
+/// Refused, in this order: with `Workers` exactly where there are not 1 to 64 workers; with `NoSuch`
+/// exactly where a call is on a stream or an end that is not there, or a feed is for no line or for one
+/// that has another; both before anything is made. Then with `NoMem` for want of memory or of a thread,
+/// with `Unfinished` where a stream did not end, and with `Unlike` where a caller was told another answer
+/// than the history has. Then all modules are dropped.
 pub fn run<M: ModuleOf, R: Threads + Wait + Sync, G: Gate>(
     rt: &R,
     alloc: Global,

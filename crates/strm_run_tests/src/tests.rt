@@ -21,6 +21,7 @@ mod feeds;
 mod long;
 mod order;
 mod streams;
+mod want;
 
 /// How often a gate or a module looks whether what it waits for has come.
 const TURNS: u32 = 10_000_000;

@@ -1,0 +1,4 @@
+pub mod LineLemmas
+pub mod ReadBackLemmas
+pub mod SpellingLemmas
+pub mod WriteLemmas

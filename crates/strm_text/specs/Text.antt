@@ -1,0 +1,75 @@
+-- The fields of a line, and what a field can say: a number, a name, bytes.
+use Rattle.std.specs.Prelude.{ℕ, ◌+◌, ◌-◌, ◌*◌, ◌==◌, ◌&&◌, nat_le, nat_lt, Bool, List, [], ◌∷◌, length, filter, replicate, Option, Some, None, option_and_then, if◌then◌else◌}
+use Rattle.std.specs.Option.{option_map}
+use Rattle.std.specs.List.{slice_split, list_all, before_first, after_first, position_or_len}
+use Rattle.strm_text.specs.Bytes.{is_blank, is_digit, is_of_name, is_itself, hex_of}
+
+infixl 10 ◌>>=◌
+abbrev pub ◌>>=◌ : {A B : Type 0} → Option A → (A → Option B) → Option B
+found >>= next = option_and_then next found
+
+-- what stands between blanks
+abbrev pub fields_of : List ℕ → List (List ℕ)
+fields_of line = filter (λ field. nat_lt 0 (length field)) (slice_split is_blank line)
+
+-- what stands before the first of a byte, and what behind it
+abbrev pub halves_of : ℕ → List ℕ → Option (List ℕ × List ℕ)
+halves_of byte text =
+    if nat_lt (position_or_len (λ other. other == byte) text) (length text) then Some (before_first (λ other. other == byte) text, after_first (λ other. other == byte) text)
+    else None
+
+-- the number that comes of `value` when these digits stand behind it
+abbrev pub number_from : ℕ → List ℕ → Option ℕ
+number_from value [] = Some value
+number_from value (digit ∷ digits) = if is_digit digit then number_from (value * 10 + (digit - 48)) digits else None
+
+-- 1 to 20 digits, whose number is `most` at most
+abbrev pub number_of : ℕ → List ℕ → Option ℕ
+number_of most text =
+    if nat_le 1 (length text) && nat_le (length text) 20 then (number_from 0 text >>= λ value. if nat_le value most then Some value else None)
+    else None
+
+-- 1 to `longest` digits, letters and `_`
+abbrev pub name_of : ℕ → List ℕ → Option (List ℕ)
+name_of longest text =
+    if nat_le 1 (length text) && nat_le (length text) longest && list_all is_of_name text then Some text else None
+
+-- the byte that two hexadecimal digits spell
+abbrev pub byte_of : ℕ → ℕ → Option ℕ
+byte_of high low = hex_of high >>= λ h. hex_of low >>= λ l. Some (h * 16 + l)
+
+-- the byte that stands at the front, spelt by itself or as `%hh`, and what follows it
+abbrev pub next_byte : List ℕ → Option (ℕ × List ℕ)
+next_byte [] = None
+next_byte (a ∷ []) = if is_itself a then Some (a, []) else None
+next_byte (a ∷ b ∷ []) = if is_itself a then Some (a, b ∷ []) else None
+next_byte (a ∷ b ∷ c ∷ rest) =
+    if is_itself a then Some (a, b ∷ c ∷ rest)
+    else (if a == 37 then (byte_of b c >>= λ byte. Some (byte, rest)) else None)
+
+-- the bytes that are spelt one after another
+abbrev pub bytes_of : List ℕ → Option (List ℕ)
+bytes_of [] = Some []
+bytes_of (a ∷ []) = if is_itself a then Some (a ∷ []) else None
+bytes_of (a ∷ b ∷ []) = if is_itself a then option_map (λ bytes. a ∷ bytes) (bytes_of (b ∷ [])) else None
+bytes_of (a ∷ b ∷ c ∷ rest) =
+    if is_itself a then option_map (λ bytes. a ∷ bytes) (bytes_of (b ∷ c ∷ rest))
+    else (if a == 37 then (byte_of b c >>= λ byte. option_map (λ bytes. byte ∷ bytes) (bytes_of rest)) else None)
+
+-- exactly two hexadecimal digits
+abbrev pub two_digits : List ℕ → Option ℕ
+two_digits (a ∷ b ∷ []) = byte_of a b
+two_digits _ = None
+
+-- `N:hh`: how often, 0 to 65535, and which byte
+abbrev pub times_of : List ℕ → Option (ℕ × ℕ)
+times_of text = halves_of 58 text >>= λ halves. number_of 65535 halves.0 >>= λ count. two_digits halves.1 >>= λ byte. Some (count, byte)
+
+-- so often that byte
+abbrev pub repeated_of : List ℕ → Option (List ℕ)
+repeated_of text = option_map (λ times. replicate times.0 times.1) (times_of text)
+
+-- a part: `=` and bytes, or `*` and one byte so many times
+abbrev pub part_of : List ℕ → Option (List ℕ)
+part_of [] = None
+part_of (mark ∷ text) = if mark == 61 then bytes_of text else (if mark == 42 then repeated_of text else None)

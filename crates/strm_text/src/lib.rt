@@ -1,0 +1,14 @@
+//! The text of scripts: lines, their fields, and what a field can say.
+#![tactic(auto)]
+
+mod lines;
+mod parts;
+mod spelling;
+#[cfg(test)]
+mod tests;
+mod words;
+
+pub use lines::{fields, first_line, is_allowed, split_once};
+pub use parts::part;
+pub use spelling::{parts_are_read_back, write_part};
+pub use words::{name, number};

@@ -1,0 +1,103 @@
+//! Parts: bytes that a field spells.
+ghost use Rattle.std.specs.Prelude.{◌≡◌, ◌<◌, length, IfOk, IfSome};
+ghost use Rattle.std.specs.Option.{option_map};
+ghost use Rattle.strm_text.specs.Bytes as bytes;
+ghost use Rattle.strm_text.specs.Text.{byte_of, bytes_of, next_byte, part_of, repeated_of, times_of};
+
+use crate::lines::split_once;
+use crate::words::number;
+use std::alloc::{AllocError, Global};
+
+/// The most often that a part repeats a byte.
+const MOST_TIMES: u64 = 65_535;
+
+/// Whether a byte stands for itself.
+pub(crate) fn is_itself(byte: u8) -> bool
+    ensures { result ≡ bytes.is_itself byte }
+{
+    byte.is_ascii_graphic() && byte != b'%'
+}
+
+/// What a hexadecimal digit counts, of either case.
+fn hex(byte: u8) -> Option<u8>
+    ensures { result ≡ bytes.hex_of byte }
+{
+    match byte {
+        b'0'..=b'9' => Some(byte - b'0'),
+        b'a'..=b'f' => Some(byte - b'a' + 10),
+        b'A'..=b'F' => Some(byte - b'A' + 10),
+        _ => None,
+    }
+}
+
+/// The byte that two hexadecimal digits spell.
+fn byte_of(high: u8, low: u8) -> Option<u8>
+    ensures { result ≡ byte_of high low }
+{
+    let high = hex(high)?;
+    let low = hex(low)?;
+    Some(high * 16 + low)
+}
+
+/// The byte that stands at the front, spelt by itself or as `%hh`, and what follows it.
+fn next_byte(text: &[u8]) -> Option<(u8, &[u8])>
+    ensures byte { option_map (λ found. (found.0, found.1.now)) result ≡ next_byte text.now }
+    ensures shorter { IfSome result (λ found. length found.1.now < length text.now) }
+{
+    match text {
+        [byte, rest @ ..] if is_itself(*byte) => Some((*byte, rest)),
+        [b'%', high, low, rest @ ..] => Some((byte_of(*high, *low)?, rest)),
+        _ => None,
+    }
+}
+
+/// The bytes that are spelt one after another; nothing where some are not. Refused for want of memory
+/// alone.
+fn spelt(alloc: Global, text: &[u8]) -> Result<Option<Vec<u8>>, AllocError>
+    ensures { IfOk result (λ found. option_map (λ all. all.items) found ≡ bytes_of text.now) }
+{
+    let mut all = Vec::new(alloc);
+    let mut rest = text;
+    while !rest.is_empty() {
+        let Some((byte, after)) = next_byte(rest) else {
+            return Ok(None);
+        };
+        all.push(byte)?;
+        rest = after;
+    }
+    Ok(Some(all))
+}
+
+/// How often which byte is meant by `N:hh`.
+fn times(text: &[u8]) -> Option<(u64, u8)>
+    ensures { result ≡ times_of text.now }
+{
+    let (count, digits) = split_once(text, b':')?;
+    let count = number(count, MOST_TIMES)?;
+    let [high, low] = digits else {
+        return None;
+    };
+    Some((count, byte_of(*high, *low)?))
+}
+
+/// So often the byte that `N:hh` says. Refused for want of memory alone.
+fn repeated(alloc: Global, text: &[u8]) -> Result<Option<Vec<u8>>, AllocError>
+    ensures { IfOk result (λ found. option_map (λ all. all.items) found ≡ repeated_of text.now) }
+{
+    let Some((count, byte)) = times(text) else {
+        return Ok(None);
+    };
+    Ok(Some(vec![in alloc; byte; count as usize]?))
+}
+
+/// The bytes that a part says: `=` and their spelling, or `*N:hh`; nothing where the text is no part.
+/// Refused for want of memory alone.
+pub fn part(alloc: Global, text: &[u8]) -> Result<Option<Vec<u8>>, AllocError>
+    ensures { IfOk result (λ found. option_map (λ all. all.items) found ≡ part_of text.now) }
+{
+    match text {
+        [b'=', rest @ ..] => spelt(alloc, rest),
+        [b'*', rest @ ..] => repeated(alloc, rest),
+        _ => Ok(None),
+    }
+}

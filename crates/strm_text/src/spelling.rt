@@ -1,0 +1,50 @@
+//! How bytes are spelt.
+ghost use Rattle.std.specs.Prelude.{◌≡◌, ◌<◌, OnOk};
+ghost use Rattle.std.specs.Io.KnownBytes.{Appends};
+ghost use Rattle.strm_text.specs.Spelling as spells;
+
+use crate::parts::is_itself;
+use std::io::{self, Write};
+
+/// The digit of a number below 16, of lower case.
+fn hex_digit(n: u8) -> u8
+    requires { n < 16 }
+    ensures { result ≡ spells.hex_digit n }
+{
+    if n < 10 { n + b'0' } else { n - 10 + b'a' }
+}
+
+/// Writes a byte by itself where it may be, else as `%hh`.
+fn write_byte<W: Write>(w: &mut W, byte: u8) -> io::Result<()>
+    ensures { OnOk result (Appends (W.contents w.old) (W.contents w.new) (spells.spelling_of byte)) }
+{
+    if is_itself(byte) {
+        return w.write_all(&[byte]);
+    }
+    w.write_all(&[b'%', hex_digit(byte / 16), hex_digit(byte % 16)])
+}
+
+/// Writes bytes one after another.
+fn write_bytes<W: Write>(w: &mut W, bytes: &[u8]) -> io::Result<()>
+    ensures { OnOk result (Appends (W.contents w.old) (W.contents w.new) (spells.spelling bytes.now)) }
+{
+    for byte in bytes {
+        write_byte(w, *byte)?;
+    }
+    Ok(())
+}
+
+/// Writes bytes as a part: `=`, and each byte by itself where it may be, else as `%hh` with digits of lower
+/// case.
+#[tactic(auto, using(crate::proofs::WriteLemmas::appends_then))]
+pub fn write_part<W: Write>(w: &mut W, bytes: &[u8]) -> io::Result<()>
+    ensures { OnOk result (Appends (W.contents w.old) (W.contents w.new) (spells.part_text bytes.now)) }
+{
+    w.write_all(b"=")?;
+    write_bytes(w, bytes)
+}
+
+/// What is written of bytes as a part is read as these bytes. Does nothing: it carries the law.
+pub fn parts_are_read_back()
+    ensures { spells.PartsAreReadBack }
+{}

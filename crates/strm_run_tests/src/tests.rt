@@ -15,12 +15,15 @@ use strm_run::{
 };
 use strm_shared::{Call, Entry, Setup, Who};
 
+mod beside;
 mod crews;
 mod faults;
 mod feeds;
+mod gates;
 mod long;
 mod order;
 mod streams;
+mod together;
 mod want;
 
 /// How often a gate or a module looks whether what it waits for has come.
@@ -69,6 +72,15 @@ fn write<M: ModuleOf>(
     let request = Request::Write {
         dat: bytes(rt, alloc, dat),
     };
+    ScriptCall {
+        stream,
+        call: Call { end, request },
+    }
+}
+
+/// A call by which a caller asks this at end A.
+fn ask<M: ModuleOf>(stream: u32, request: Request<Instance<M>>) -> ScriptCall<Instance<M>> {
+    let end = End::A;
     ScriptCall {
         stream,
         call: Call { end, request },

@@ -5,7 +5,7 @@ use super::{
 };
 
 /// A line whose lists are full at so many bytes.
-const fn line(high: u32) -> Setup {
+pub(super) const fn line(high: u32) -> Setup {
     Setup {
         driver: Driver::Line,
         head: (high, 4),
@@ -14,7 +14,7 @@ const fn line(high: u32) -> Setup {
     }
 }
 
-fn feed(rt: &impl Abort, alloc: Global, stream: u32, rows: &[&[u8]]) -> Feed {
+pub(super) fn feed(rt: &impl Abort, alloc: Global, stream: u32, rows: &[&[u8]]) -> Feed {
     let mut messages = vec![in alloc].expect(rt, "no memory");
     for dat in rows {
         let m = Message::of_data(alloc, 0, dat).expect(rt, "no memory");

@@ -95,6 +95,7 @@ impl<K, N: Plays<K>> Feeding<K, N> {
         rt: &R,
         shared: &Shared<M, Of<N>>,
     ) -> Offered<K, N>
+        requires { shared.now.number ≡ self }
         ensures { result.feed.number ≡ self }
     {
         let Feeding {

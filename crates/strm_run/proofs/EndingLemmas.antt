@@ -1,13 +1,11 @@
 -- Streams of a run, as they end.
-use Rattle.std.proofs.Common.{◌≡◌, ℕ, zero, suc, ◌+◌, ◌<◌, ◌≤◌, ◌==◌, not, Bool, true, false, Option, Some, None, Result, Ok, Err, List, [], ◌∷◌, ◌++◌, All, length, get_or, map, set, take, append-nil, IfOk, Vec, Global, refl, sym, ◌∙◌, ap, subst, arith, below_more}
+use Rattle.std.proofs.Common.{◌≡◌, ℕ, zero, suc, ◌+◌, ◌<◌, ◌≤◌, not, Bool, true, false, Option, Some, None, Result, Ok, Err, List, [], ◌∷◌, ◌++◌, All, length, get_or, map, set, append-nil, IfOk, Vec, Global, refl, sym, ◌∙◌, ap, subst, arith, below_more}
 use Rattle.std.specs.Prelude.{nat_lt, IsOkAnd, MatchResult}
 use Rattle.std.proofs.lemmas.Bool.{eqb-true, ltb-true, ltb-false}
 use Rattle.std.proofs.Math.Seq.{get_or-append_seam}
 use Rattle.std.proofs.lemmas.List.{take_all, length-set, length_push, get_or-set_other, get_or_append_left}
 use Rattle.strm_msg.specs.Message.{Msg}
 use Rattle.strm_module.specs.Kinds.{Meaning}
-use Rattle.strm_module.specs.declared.shape.Shape.{Shape}
-use Rattle.strm_chain.specs.Image.{Image}
 use Rattle.strm_head.specs.Step.{is_line}
 use Rattle.strm_shared.specs.declared.setup.Setup.{Setup}
 use Rattle.strm_shared.specs.declared.entry.Entry.{Entry}
@@ -24,7 +22,7 @@ use Rattle.strm_run.specs.declared.transcript.StreamLog.{StreamLog}
 use Rattle.strm_run.specs.Scripts.{calls_on, script_of, feed_of}
 use Rattle.strm_run.specs.Run.{RunValue, ArePlayed, AreStreams, HasPlayed}
 use Rattle.strm_run.specs.Table.{IsTransposed}
-use Rattle.strm_run.specs.Transcript.{IsFed, IsLegal, IsPartOf}
+use Rattle.strm_run.specs.Transcript.{IsFed, IsPartOf}
 use Rattle.strm_run.specs.Ending.{AreSeatsPlayed, AreLinesFed, AreLogs, IsLog, IsLogOf, IsOffered, IsStream, fault_of}
 use Rattle.strm_run.proofs.TableLemmas.{row_there}
 

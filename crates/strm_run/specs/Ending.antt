@@ -1,5 +1,5 @@
 -- What a run leaves, and what its seats are then.
-use Rattle.std.specs.Prelude.{◌≡◌, ℕ, ◌<◌, false, Option, Some, None, option_map, List, [], All, get_or, length, map, Vec}
+use Rattle.std.specs.Prelude.{◌≡◌, ℕ, ◌<◌, false, Option, Some, None, List, [], All, get_or, length, map, Vec}
 use Rattle.std.specs.Global.{Global}
 use Rattle.strm_msg.specs.declared.words.End.TheVariants.{A, B}
 use Rattle.strm_module.specs.Kinds.{Meaning}

@@ -1,11 +1,11 @@
 -- What is spelt is read as it was.
-use Rattle.std.proofs.Common.{◌≡◌, ℕ, suc, ◌+◌, ◌*◌, ◌-◌, ◌<◌, ◌/◌, ◌%◌, ◌==◌, ◌++◌, Bool, true, false, cond, ltb, ◌≤◌, List, [], ◌∷◌, length, All, Option, Some, None, refl, sym, ap, ◌∙◌, subst, arith, get_or}
+use Rattle.std.proofs.Common.{◌≡◌, ℕ, suc, ◌+◌, ◌*◌, ◌-◌, ◌<◌, ◌/◌, ◌%◌, ◌==◌, ◌++◌, Bool, true, false, cond, ltb, ◌≤◌, List, [], ◌∷◌, All, Option, Some, None, refl, ap, ◌∙◌, arith}
 use Rattle.std.specs.Option.{option_map}
 use Rattle.std.proofs.lemmas.Bool.{ltb-true, ltb-false}
 use Rattle.std.proofs.lemmas.Bool.Decides.{nat_tests}
 use Rattle.strm_text.specs.Bytes.{is_digit, is_itself, is_within, hex_of}
-use Rattle.strm_text.specs.Text.{◌>>=◌, next_byte, byte_of, bytes_of, part_of}
-use Rattle.strm_text.specs.Spelling.{hex_digit, spelling_of, spelling, part_text, PartsAreReadBack}
+use Rattle.strm_text.specs.Text.{◌>>=◌, next_byte, byte_of, bytes_of}
+use Rattle.strm_text.specs.Spelling.{hex_digit, spelling_of, spelling, PartsAreReadBack}
 use Rattle.strm_text.proofs.SpellingLemmas.{front, front_first, goes_on}
 
 -- a digit below ten

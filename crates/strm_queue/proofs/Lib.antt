@@ -1,4 +1,10 @@
-pub mod BandLemmas
+pub mod ChangeLemmas
+pub mod Flushing
+pub mod LaneLemmas
+pub mod LanesLemmas
+pub mod ListLemmas
 pub mod OrderLemmas
+pub mod PlaceLemmas
 pub mod RoomLemmas
+pub mod StandLemmas
 mod WorkedExamples

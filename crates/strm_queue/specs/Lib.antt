@@ -1,2 +1,3 @@
+pub mod Lanes
 pub mod Queue
 pub mod Room

@@ -1,9 +1,15 @@
 -- How many more messages of each rank a queue takes without memory.
-use Rattle.std.specs.Prelude.{ℕ, List, slice_index, replicate, min}
+use Rattle.std.specs.Prelude.{ℕ, List, map, slice_index, replicate, min}
+use Rattle.std.specs.List.{range_with_len}
+use Rattle.strm_queue.specs.Lanes.{Ranked, spare_of}
 
 -- the number for each of the ranks 0 to 256, where it is the same for all of them
 unfoldable pub same_room : ℕ → List ℕ
 same_room n = replicate 257 n
+
+-- the number for each of the ranks 0 to 256: what its lane has room for, and what is left to the queue at most
+unfoldable pub lane_room : ℕ → List Ranked → List ℕ
+lane_room left lanes = map (λ rank. min left (spare_of rank lanes)) (range_with_len 0 257)
 
 -- the number for a rank, where a rank above 256, which no message has, counts as 256
 abbrev pub room_for : List ℕ → ℕ → ℕ

@@ -5,6 +5,8 @@
 //! STREAMS, "Message Queues and Service Procedures" and "Flow Control").
 #![tactic(auto)]
 
+mod lane;
+mod lanes;
 mod marks;
 mod queue;
 #[cfg(test)]

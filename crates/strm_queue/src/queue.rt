@@ -1,85 +1,47 @@
 //! A queue with bands and water marks.
-ghost use Rattle.std.specs.Prelude.{◌≡◌, ◌↔◌, ◌+◌, ◌<◌, ◌≤◌, ◌∷◌, ◌&&◌, ◌==◌, ℕ, [], not, true, length, insert, IsTrue, IsOk, OnOk, IfErr, OnErr, MatchOption, option_copied, slice_get};
-ghost use Rattle.strm_queue.specs.Queue.{front_len, put_in, put_back_in, behind_last, is_ordered, is_flushed, is_of_band, flush_of, flush_band_of, held_of, is_full, is_slack, has_pcproto, has_band};
+ghost use Rattle.std.specs.Prelude.{◌≡◌, ◌↔◌, ◌+◌, ◌<◌, ◌≤◌, ◌∷◌, ℕ, [], true, length, IsTrue, IsOk, OnOk, IfErr, OnErr, MatchOption, option_copied, slice_get};
+ghost use Rattle.strm_queue.specs.Queue.{put_in, put_back_in, behind_last, is_ordered, flush_of, flush_band_of, held_of, is_full, is_slack, has_pcproto, has_band};
 ghost use Rattle.strm_msg.specs.Message.{rank_of};
 ghost use Rattle.strm_queue.specs.Room.{room_for};
 
+use crate::lane::Lane;
+use crate::lanes::{
+    HIGH, find, first, flush_all, flush_rank, message_at, put_before, put_behind, reserve_at,
+    take_first, weight_at,
+};
 use crate::marks::Marks;
 use std::alloc::Global;
 use std::marker::Model;
-use strm_msg::{Message, MsgKind, NoMem};
+use strm_msg::{Message, NoMem};
+
+/// The most messages that a queue holds, so that what they weigh together can be counted.
+const MOST: usize = 9_223_372_036_854_775_807;
 
 /// Messages in order of rank, greatest first, and first in first out within a rank.
+///
+/// Each rank in use has a lane with its messages and their weight, so that no call's cost grows
+/// with the number of messages, but for the flushes and what looks at the high messages.
+///
+/// A queue holds at most 2^63 - 1 messages, more than any memory has; where there are as many, a
+/// message more is refused as for want of memory.
 #[derive(Debug, Drop)]
 pub struct BandQueue {
     marks: Marks,
-    items: Vec<Message>,
+    lanes: Vec<Lane>,
+    len: usize,
 }
 
 impl Model for BandQueue {
-    ghost use Rattle.std.specs.Prelude.{◌≡◌, ◌-◌, true, vec_len, vec_capacity};
-    ghost use Rattle.strm_queue.specs.Queue.{Queue, is_ordered};
-    ghost use Rattle.strm_queue.specs.Room.{same_room};
+    ghost use Rattle.std.specs.Prelude.{◌-◌, ◌^◌};
+    ghost use Rattle.strm_queue.specs.Queue.{Queue};
+    ghost use Rattle.strm_queue.specs.Lanes.{messages_of, IsKept};
+    ghost use Rattle.strm_queue.specs.Room.{lane_room};
 
     ghost Value = { Queue };
 
-    ghost view = { λ q. record { marks = q.marks; messages = q.items.items; room = same_room (vec_capacity q.items - vec_len q.items) } };
+    ghost view = { λ q. record { marks = q.marks; messages = messages_of q.lanes.items; room = lane_room (2 ^ 63 - 1 - q.len) q.lanes.items } };
 
-    ghost invariant = { λ q. is_ordered q.items.items ≡ true };
-}
-
-/// How many messages at the front have at least this rank.
-fn place_behind(items: &[Message], least: u16) -> usize
-    ensures value { result ≡ front_len least items.now }
-    ensures within { result ≤ length items.now }
-{
-    for (i, m) in items.iter().enumerate() {
-        if m.rank() < least {
-            return i;
-        }
-    }
-    items.len()
-}
-
-/// Whether the message is of the band. High messages are of band 0, as their type keeps.
-fn is_of_band(m: &Message, band: u8) -> bool
-    ensures { result ≡ is_of_band band m.now }
-{
-    m.band == band
-}
-
-/// The weights of one band.
-fn weight_of_band(items: &Vec<Message>, band: u8) -> u128
-    ensures { result ≡ held_of items.now.items band }
-{
-    let mut sum: u128 = 0;
-    for m in items {
-        if is_of_band(m, band) {
-            sum += m.weight();
-        }
-    }
-    sum
-}
-
-/// Whether a flush removes messages of the kind.
-fn is_flushed(kind: MsgKind) -> bool
-    ensures { result ≡ is_flushed kind }
-{
-    matches!(kind, MsgKind::MData | MsgKind::MProto | MsgKind::MPcproto)
-}
-
-/// Whether a flush leaves the message.
-fn stays(m: &Message) -> bool
-    ensures { result ≡ not (is_flushed m.now.kind) }
-{
-    !is_flushed(m.kind)
-}
-
-/// Whether a flush of one band leaves the message.
-fn stays_in(m: &Message, band: u8) -> bool
-    ensures { result ≡ not (is_flushed m.now.kind && is_of_band band m.now) }
-{
-    !(is_flushed(m.kind) && is_of_band(m, band))
+    ghost invariant = { λ q. IsKept q.lanes.items q.len };
 }
 
 impl BandQueue {
@@ -90,7 +52,8 @@ impl BandQueue {
     {
         BandQueue {
             marks,
-            items: Vec::new(alloc),
+            lanes: Vec::new(alloc),
+            len: 0,
         }
     }
 
@@ -109,8 +72,12 @@ impl BandQueue {
         ensures spent { OnOk result ((other : ℕ) → room_for self.old.room other ≤ room_for self.new.room other + 1) }
         ensures unspent { OnErr result ((other : ℕ) → room_for self.old.room other ≤ room_for self.new.room other) }
     {
-        let at = place_behind(self.items.as_slice(), m.rank());
-        self.insert(at, m)
+        if self.len == MOST {
+            return Err(m);
+        }
+        put_behind(&mut self.lanes, m)?;
+        self.len += 1;
+        Ok(())
     }
 
     /// Puts a message before those of its rank (putbq(9F)), also where the queue is full.
@@ -126,26 +93,12 @@ impl BandQueue {
         ensures spent { OnOk result ((other : ℕ) → room_for self.old.room other ≤ room_for self.new.room other + 1) }
         ensures unspent { OnErr result ((other : ℕ) → room_for self.old.room other ≤ room_for self.new.room other) }
     {
-        let at = place_behind(self.items.as_slice(), m.rank() + 1);
-        self.insert(at, m)
-    }
-
-    /// Puts a message where it keeps the order.
-    fn insert(&mut self, at: usize, m: Message) -> Result<(), Message>
-        requires within { at ≤ length self.old.messages }
-        requires ordered { is_ordered (insert self.old.messages at m) ≡ true }
-        ensures ok { OnOk result (self.new.messages ≡ insert self.old.messages at m) }
-        ensures err { OnErr result (self.new.messages ≡ self.old.messages) }
-        ensures back { IfErr result (λ same. same ≡ m) }
-        ensures marks { self.new.marks ≡ self.old.marks }
-        ensures room { 0 < room_for self.old.room (rank_of m) → IsOk result }
-        ensures spent { OnOk result ((other : ℕ) → room_for self.old.room other ≤ room_for self.new.room other + 1) }
-        ensures unspent { OnErr result ((other : ℕ) → room_for self.old.room other ≤ room_for self.new.room other) }
-    {
-        match self.items.insert(at, m) {
-            Ok(()) => Ok(()),
-            Err(refused) => Err(refused.value),
+        if self.len == MOST {
+            return Err(m);
         }
+        put_before(&mut self.lanes, m)?;
+        self.len += 1;
+        Ok(())
     }
 
     /// Makes room, so that the next `put` or `put_back` of a message of this rank succeeds. A rank
@@ -159,8 +112,10 @@ impl BandQueue {
         ensures marks { self.new.marks ≡ self.old.marks }
         ensures messages { self.new.messages ≡ self.old.messages }
     {
-        self.items.reserve(1)?;
-        Ok(())
+        if self.len == MOST {
+            return Err(NoMem);
+        }
+        reserve_at(&mut self.lanes, rank.min(HIGH))
     }
 
     /// Takes the first message (getq(9F)). Takes no memory, and leaves what room there was.
@@ -169,24 +124,23 @@ impl BandQueue {
         ensures marks { self.new.marks ≡ self.old.marks }
         ensures room { (rank : ℕ) → room_for self.old.room rank ≤ room_for self.new.room rank }
     {
-        if self.items.is_empty() {
-            return None;
-        }
-        Some(self.items.remove(0))
+        let m = take_first(&mut self.lanes)?;
+        self.len -= 1;
+        Some(m)
     }
 
     /// The message that `get` would take.
     pub fn first(&self) -> Option<&Message>
         ensures { option_copied result ≡ slice_get self.now.messages 0 }
     {
-        self.items.first()
+        first(self.lanes.as_slice())
     }
 
     /// The message at a place, counted from 0 for the one that `get` would take.
     pub fn at(&self, i: usize) -> Option<&Message>
         ensures { option_copied result ≡ slice_get self.now.messages i }
     {
-        self.items.get(i)
+        message_at(self.lanes.as_slice(), i)
     }
 
     /// The number of messages. They are in order of rank.
@@ -194,14 +148,14 @@ impl BandQueue {
         ensures count { result ≡ length self.now.messages }
         ensures ordered { is_ordered self.now.messages ≡ true }
     {
-        self.items.len()
+        self.len
     }
 
     /// Whether there is no message.
     pub fn is_empty(&self) -> bool
         ensures { IsTrue result ↔ (self.now.messages ≡ []) }
     {
-        self.items.is_empty()
+        self.len == 0
     }
 
     /// Removes data and protocol messages (flushq(9F) with FLUSHDATA). Takes no memory, and leaves
@@ -211,7 +165,7 @@ impl BandQueue {
         ensures marks { self.new.marks ≡ self.old.marks }
         ensures room { (rank : ℕ) → room_for self.old.room rank ≤ room_for self.new.room rank }
     {
-        self.items.retain(|m| stays(m));
+        self.len -= flush_all(&mut self.lanes);
     }
 
     /// Removes the ordinary data and protocol messages of one band, and `MPcproto` where that is band
@@ -221,7 +175,10 @@ impl BandQueue {
         ensures marks { self.new.marks ≡ self.old.marks }
         ensures room { (rank : ℕ) → room_for self.old.room rank ≤ room_for self.new.room rank }
     {
-        self.items.retain(|m| stays_in(m, band));
+        self.len -= flush_rank(&mut self.lanes, u16::from(band));
+        if band == 0 {
+            self.len -= flush_rank(&mut self.lanes, HIGH);
+        }
     }
 
     /// What a band holds, in bytes: the weights of its ordinary messages, and for band 0 those of the
@@ -229,7 +186,12 @@ impl BandQueue {
     pub fn held(&self, band: u8) -> u128
         ensures { result ≡ held_of self.now.messages band }
     {
-        weight_of_band(&self.items, band)
+        let ordinary = weight_at(self.lanes.as_slice(), u16::from(band));
+        if band == 0 {
+            ordinary + weight_at(self.lanes.as_slice(), HIGH)
+        } else {
+            ordinary
+        }
     }
 
     /// Whether a band holds the high water mark or more, so that no more is to be put there.
@@ -253,9 +215,10 @@ impl BandQueue {
     pub fn has_pcproto(&self) -> bool
         ensures { result ≡ has_pcproto self.now.messages }
     {
-        self.items
-            .iter()
-            .any(|m| matches!(m.kind, MsgKind::MPcproto))
+        match find(self.lanes.as_slice(), HIGH) {
+            Some(at) => self.lanes[at].has_pcproto(),
+            None => false,
+        }
     }
 
     /// Whether an ordinary message of the band is there (streamio(7), I_CKBAND). High messages count
@@ -263,6 +226,9 @@ impl BandQueue {
     pub fn has_band(&self, band: u8) -> bool
         ensures { result ≡ has_band self.now.messages band }
     {
-        self.items.iter().any(|m| !m.is_high() && m.band == band)
+        match find(self.lanes.as_slice(), u16::from(band)) {
+            Some(at) => !self.lanes[at].is_empty(),
+            None => false,
+        }
     }
 }

@@ -254,3 +254,42 @@ fn an_empty_queue_takes_what_room_was_made_for(rt: HostRuntime) -> Result<(), Fa
     assert_holds(&rt, q, &[&h, &a]);
     Ok(())
 }
+
+// By hand: a message in each band, put with the lowest band first, and a high one. They come out with
+// the high one first and the greatest band next; a flush takes the one of its band alone.
+#[test]
+fn a_message_in_each_band(rt: HostRuntime) {
+    let alloc = rt.alloc();
+    let mut q = empty_queue(&rt, alloc);
+    for band in 0..=255_u8 {
+        put(&rt, &mut q, Message::of_data(alloc, band, b"x"));
+    }
+    put(&rt, &mut q, Message::of_pcproto(alloc, b"h", None));
+    assert_eq!(rt; q.len(), 257);
+    assert_eq!(rt; (q.held(0), q.held(255)), (2, 1));
+    q.flush_band(255);
+    assert_eq!(rt; q.len(), 256);
+    assert!(rt; q.get().expect(&rt, "a high message").is_high());
+    for band in (0..=254_u8).rev() {
+        assert_eq!(rt; q.get().expect(&rt, "a message").band, band);
+    }
+    assert!(rt; q.get().is_none());
+}
+
+// By hand: a band that ran empty is used again, beside one that has not.
+#[test]
+fn a_band_that_ran_empty_is_used_again(rt: HostRuntime) {
+    let alloc = rt.alloc();
+    let mut q = empty_queue(&rt, alloc);
+    put(&rt, &mut q, Message::of_data(alloc, 0, b"low"));
+    for round in 0..3_u8 {
+        put(&rt, &mut q, Message::of_data(alloc, 7, b"a"));
+        put(&rt, &mut q, Message::of_proto(alloc, 7, b"b", None));
+        assert_eq!(rt; (q.held(7), q.held(0)), (2, 3), "round {round}");
+        assert_eq!(rt; q.get().expect(&rt, "a message").band, 7);
+        assert_eq!(rt; q.held(7), 1);
+        q.flush_band(7);
+        assert_eq!(rt; (q.held(7), q.len()), (0, 1));
+    }
+    assert_eq!(rt; q.first().expect(&rt, "a message").band, 0);
+}

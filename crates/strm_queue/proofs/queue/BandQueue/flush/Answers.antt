@@ -1,23 +1,7 @@
-use Rattle.std.proofs.Common.{not, rules, refl, arith}
-use Rattle.std.proofs.lemmas.List.Elements.{filter_from_retain}
-use Rattle.strm_msg.specs.Message.{Msg}
-use Rattle.strm_queue.specs.Queue.{is_flushed}
-use Rattle.strm_queue.proofs.OrderLemmas.{is_ordered-filter}
-use Rattle.strm_queue.proofs.RoomLemmas.{room_for-same_room-le}
+use Rattle.std.proofs.Common.{arith}
+use Rattle.strm_queue.proofs.RoomLemmas.{room-kept}
 use Rattle.strm_queue.proofs.queue.BandQueue.flush.Goals as goal
-
-pub invariant_of-self : goal.invariant_of-self
-invariant_of-self c =
-    let test = λ (m : Msg). not (is_flushed m.kind) in
-    let filtered = filter_from_retain _ test (λ p x b q r. search rules) _ c.self.inside.items.items c.retain.new.self.items c.retain.ensures.filtered in
-    rw filtered (is_ordered-filter test c.self.inside.items.items c.self.invariant)
-
-pub returns-clause-messages : goal.returns-clause-messages
-returns-clause-messages c =
-    let test = λ (m : Msg). not (is_flushed m.kind) in
-    let filtered = filter_from_retain _ test (λ p x b q r. search rules) _ c.self.inside.items.items c.retain.new.self.items c.retain.ensures.filtered in
-    rw (← c.self.view_is, filtered) refl
 
 pub returns-clause-room : goal.returns-clause-room
 returns-clause-room c = λ rank.
-    rw (← c.self.view_is) (room_for-same_room-le _ _ rank (omega arith))
+    rw (← c.self.view_is) (room-kept _ _ _ _ (omega arith) c.flush_all.ensures.room rank)

@@ -1,18 +1,26 @@
-use Rattle.std.proofs.Common.{◌-◌, ◌<◌, arith}
-use Rattle.std.specs.Vec.{vec_capacity, vec_len}
-use Rattle.strm_queue.proofs.RoomLemmas.{room_for-same_room, room_for-same_room-le, room_for-same_room-some}
+use Rattle.std.proofs.Common.{◌-◌, ◌<◌, subst, sym, arith}
+use Rattle.strm_queue.specs.Lanes.{spare_of}
+use Rattle.strm_queue.proofs.RoomLemmas.{room-kept, room-some, room-made}
+use Rattle.strm_queue.proofs.ChangeLemmas.{on_ok}
 use Rattle.strm_queue.proofs.queue.BandQueue.make_room.Goals as goal
+
+pub returns-then-self-eq-MOST-clause-enough : goal.returns-then-self-eq-MOST-clause-enough
+returns-then-self-eq-MOST-clause-enough c = λ some.
+    let here = rw (← c.self.view_is) at some in
+    let left = room-some _ c.args.rank c.self.inside.lanes.items here in
+    absurd (omega (arith, left.0, c.if-self-eq-MOST.true))
 
 pub returns-clause-room : goal.returns-clause-room
 returns-clause-room c =
-    rw (room_for-same_room (vec_capacity c.reserve.new.self - vec_len c.reserve.new.self) c.args.rank) (omega (arith, c.in_ok-reserve.ensures.ok))
+    let some : 0 < 9223372036854775807 - c.self.inside.len = omega (arith, c.self.invariant.most, c.if-self-eq-MOST.false) in
+    on_ok c.reserve_at.result _ _ (λ spare. room-made _ c.args.rank c.min.result c.reserve_at.new.lanes.items c.min.ensures some spare) c.reserve_at.ensures.room
+
+pub returns-clause-enough : goal.returns-clause-enough
+returns-clause-enough c = λ some.
+    let here = rw (← c.self.view_is) at some in
+    let left = room-some _ c.args.rank c.self.inside.lanes.items here in
+    c.reserve_at.ensures.enough (subst (λ rank. 0 < spare_of rank c.self.inside.lanes.items) (sym c.min.ensures) left.1)
 
 pub returns-clause-kept : goal.returns-clause-kept
-returns-clause-kept c = λ other.
-    rw (← c.self.view_is) (room_for-same_room-le _ _ other (omega arith))
-
-pub returns-in_err-reserve-clause-enough : goal.returns-in_err-reserve-clause-enough
-returns-in_err-reserve-clause-enough c = λ room.
-    let here = rw (← c.self.view_is) at room in
-    let spare : 0 < vec_capacity c.self.inside.items - vec_len c.self.inside.items = room_for-same_room-some _ c.args.rank here in
-    absurd (omega (arith, c.in_err-reserve.ensures.full))
+returns-clause-kept c = λ rank.
+    rw (← c.self.view_is) (room-kept _ _ _ _ (omega arith) c.reserve_at.ensures.kept rank)

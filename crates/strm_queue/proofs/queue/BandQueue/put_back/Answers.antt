@@ -1,10 +1,26 @@
-use Rattle.std.proofs.Common.{◌≡◌, ◌+◌, arith, rules}
+use Rattle.std.proofs.Common.{arith}
+use Rattle.strm_queue.proofs.RoomLemmas.{room-kept, room-le, room-some}
+use Rattle.strm_queue.proofs.ChangeLemmas.{on_any_err}
 use Rattle.strm_msg.specs.Message.{rank_of}
-use Rattle.strm_queue.specs.Queue.{front_len}
-use Rattle.strm_queue.proofs.OrderLemmas.{is_ordered-insert}
 use Rattle.strm_queue.proofs.queue.BandQueue.put_back.Goals as goal
 
-pub insert-requires-clause-ordered : goal.insert-requires-clause-ordered
-insert-requires-clause-ordered c =
-    let at : c.place_behind-at.result ≡ front_len (rank_of c.args.m + 1) c.args.self.now.messages = search rules in
-    rw at (is_ordered-insert (rank_of c.args.m + 1) c.args.m c.args.self.now.messages (omega arith) (omega arith) (search rules))
+pub returns-then-self-eq-MOST-clause-room : goal.returns-then-self-eq-MOST-clause-room
+returns-then-self-eq-MOST-clause-room c = λ some.
+    let here = rw (← c.self.view_is) at some in
+    let left = room-some _ (rank_of c.args.m) c.self.inside.lanes.items here in
+    absurd (omega (arith, left.0, c.if-self-eq-MOST.true))
+
+pub returns-in_err-put_before-clause-room : goal.returns-in_err-put_before-clause-room
+returns-in_err-put_before-clause-room c = λ some.
+    let here = rw (← c.self.view_is) at some in
+    let left = room-some _ (rank_of c.args.m) c.self.inside.lanes.items here in
+    let is_ok = c.in_err-put_before.ensures.room left.1 in
+    cc
+
+pub returns-in_err-put_before-clause-unspent : goal.returns-in_err-put_before-clause-unspent
+returns-in_err-put_before-clause-unspent c =
+    on_any_err c.from_residual.result _ (λ rank. rw (← c.self.view_is) (room-kept _ _ _ _ (omega arith) c.in_err-put_before.ensures.unspent rank))
+
+pub returns-clause-spent : goal.returns-clause-spent
+returns-clause-spent c = λ rank.
+    rw (← c.self.view_is) (room-le 1 _ _ _ _ (omega arith) c.in_ok-put_before.ensures.spent rank)

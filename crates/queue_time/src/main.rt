@@ -1,0 +1,61 @@
+//! What a put and a get cost while messages wait in a queue.
+//!
+//! Without an argument it says how much it has put through; with `--time` also how long that took.
+#![tactic(auto)]
+
+use std::alloc::Global;
+use std::env;
+use std::time::Instant;
+use strm_msg::{Message, NoMem};
+use strm_queue::{BandQueue, Marks};
+
+/// How many messages wait, in turn.
+const WAITING: [u32; 3] = [10, 1_000, 100_000];
+
+/// How often a message is put and one is taken.
+const ROUNDS: u32 = 100_000;
+
+/// How many bands the messages have.
+const BANDS: u32 = 8;
+
+/// Puts a message of one byte, whose band hangs on its number.
+fn put(alloc: Global, queue: &mut BandQueue, number: u32) -> Result<(), NoMem> {
+    let band = (number % BANDS) as u8;
+    let m = Message::of_data(alloc, band, b"x")?;
+    queue.put(m).map_err(|_| NoMem)
+}
+
+/// A queue in which so many messages wait.
+fn filled(alloc: Global, waiting: u32) -> Result<BandQueue, NoMem> {
+    let mut queue = BandQueue::new(alloc, Marks::new(16, 4).unwrap());
+    for number in 0..waiting {
+        put(alloc, &mut queue, number)?;
+    }
+    Ok(queue)
+}
+
+/// Puts a message and takes one, over and over.
+fn turn(alloc: Global, queue: &mut BandQueue) -> Result<(), NoMem> {
+    for number in 0..ROUNDS {
+        put(alloc, queue, number)?;
+        queue.get();
+    }
+    Ok(())
+}
+
+fn main(rt: HostRuntime) -> anyhow::Result<()> {
+    let alloc: Global = rt.alloc();
+    let timed = env::args(&rt)?.any(|word| word.as_str() == "--time");
+    for waiting in WAITING {
+        let mut queue = filled(alloc, waiting)?;
+        let start = Instant::now(&rt)?;
+        turn(alloc, &mut queue)?;
+        let taken = start.elapsed(&rt)?;
+        print!(rt; "{waiting} wait: {ROUNDS} times a put and a get")?;
+        if timed {
+            print!(rt; ", {} ns each", taken.as_nanos() / u128::from(ROUNDS))?;
+        }
+        println!(rt; "")?;
+    }
+    Ok(())
+}

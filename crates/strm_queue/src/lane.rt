@@ -1,0 +1,194 @@
+//! The messages of one rank.
+ghost use Rattle.std.specs.Prelude.{◌≡◌, ◌==◌, ◌+◌, ◌*◌, ◌^◌, ◌<◌, ◌≤◌, ◌∷◌, ◌++◌, [], not, true, length, sum_by, IsOk, OnOk, OnErr, IfErr, MatchOption, option_copied, slice_get};
+ghost use Rattle.std.specs.List.{list_any, list_all};
+ghost use Rattle.strm_msg.specs.Message.{weight_of};
+ghost use Rattle.strm_queue.specs.Queue.{flush_of, is_flushed, has_pcproto};
+ghost use Rattle.strm_queue.specs.Lanes.{is_light};
+
+use std::alloc::Global;
+use std::collections::VecDeque;
+use std::marker::Model;
+use strm_msg::{Message, MsgKind, NoMem};
+
+/// The messages of one rank in order, and what they weigh together.
+///
+/// A lane that has run empty keeps its place and its memory for the messages to come.
+#[derive(Debug, Drop)]
+pub(crate) struct Lane {
+    rank: u16,
+    messages: VecDeque<Message>,
+    weight: u128,
+}
+
+impl Model for Lane {
+    ghost use Rattle.std.specs.Prelude.{◌≡◌, ◌-◌, true, sum_by};
+    ghost use Rattle.std.specs.List.{list_all};
+    ghost use Rattle.std.specs.VecDeque.{deque_len, deque_capacity};
+    ghost use Rattle.strm_msg.specs.Message.{weight_of};
+    ghost use Rattle.strm_queue.specs.Lanes.{Ranked, is_light};
+
+    ghost Value = { Ranked };
+
+    ghost view = { λ l. record { rank = l.rank; messages = l.messages.items; spare = deque_capacity l.messages - deque_len l.messages } };
+
+    ghost invariant = { λ l. (l.weight ≡ sum_by weight_of l.messages.items) × (list_all is_light l.messages.items ≡ true) };
+}
+
+/// Whether a flush removes messages of the kind.
+fn is_flushed(kind: MsgKind) -> bool
+    ensures { result ≡ is_flushed kind }
+{
+    matches!(kind, MsgKind::MData | MsgKind::MProto | MsgKind::MPcproto)
+}
+
+/// Whether a flush leaves the message.
+fn stays(m: &Message) -> bool
+    ensures { result ≡ not (is_flushed m.now.kind) }
+{
+    !is_flushed(m.kind)
+}
+
+/// What messages weigh together.
+fn weigh(messages: &VecDeque<Message>) -> u128
+    requires { list_all is_light messages.now.items ≡ true }
+    ensures { result ≡ sum_by weight_of messages.now.items }
+{
+    let mut sum: u128 = 0;
+    for m in messages {
+        sum += m.weight();
+    }
+    sum
+}
+
+impl Lane {
+    /// A lane without messages. Takes no memory.
+    pub(crate) fn new(alloc: Global, rank: u16) -> Self
+        ensures rank { result.rank ≡ rank }
+        ensures messages { result.messages ≡ [] }
+    {
+        Lane {
+            rank,
+            messages: VecDeque::new(alloc),
+            weight: 0,
+        }
+    }
+
+    pub(crate) fn rank(&self) -> u16
+        ensures { result ≡ self.now.rank }
+    {
+        self.rank
+    }
+
+    pub(crate) fn is_empty(&self) -> bool
+        ensures { result ≡ (length self.now.messages == 0) }
+    {
+        self.messages.is_empty()
+    }
+
+    /// The number of messages.
+    pub(crate) fn len(&self) -> usize
+        ensures { result ≡ length self.now.messages }
+    {
+        self.messages.len()
+    }
+
+    /// What the messages weigh together.
+    pub(crate) fn weight(&self) -> u128
+        ensures value { result ≡ sum_by weight_of self.now.messages }
+        ensures most { result ≤ length self.now.messages * 2 ^ 65 }
+    {
+        self.weight
+    }
+
+    /// The message at a place, counted from 0 for the first.
+    pub(crate) fn at(&self, i: usize) -> Option<&Message>
+        ensures { option_copied result ≡ slice_get self.now.messages i }
+    {
+        self.messages.get(i)
+    }
+
+    /// Makes room for one more message. Refused for want of memory alone.
+    pub(crate) fn reserve(&mut self) -> Result<(), NoMem>
+        ensures rank { self.new.rank ≡ self.old.rank }
+        ensures messages { self.new.messages ≡ self.old.messages }
+        ensures kept { self.old.spare ≤ self.new.spare }
+        ensures room { OnOk result (0 < self.new.spare) }
+        ensures enough { 0 < self.old.spare → IsOk result }
+    {
+        self.messages.reserve(1)?;
+        Ok(())
+    }
+
+    /// Puts a message behind the others. It comes back for want of memory alone.
+    pub(crate) fn push_back(&mut self, m: Message) -> Result<(), Message>
+        ensures rank { self.new.rank ≡ self.old.rank }
+        ensures ok { OnOk result (self.new.messages ≡ self.old.messages ++ m ∷ []) }
+        ensures err { OnErr result (self.new.messages ≡ self.old.messages) }
+        ensures back { IfErr result (λ same. same ≡ m) }
+        ensures room { 0 < self.old.spare → IsOk result }
+        ensures spent { OnOk result (self.old.spare ≤ self.new.spare + 1) }
+        ensures unspent { OnErr result (self.old.spare ≤ self.new.spare) }
+    {
+        let weight = self.weight + m.weight();
+        match self.messages.push_back(m) {
+            Ok(()) => {
+                self.weight = weight;
+                Ok(())
+            }
+            Err(refused) => Err(refused.value),
+        }
+    }
+
+    /// Puts a message before the others. It comes back for want of memory alone.
+    pub(crate) fn push_front(&mut self, m: Message) -> Result<(), Message>
+        ensures rank { self.new.rank ≡ self.old.rank }
+        ensures ok { OnOk result (self.new.messages ≡ m ∷ self.old.messages) }
+        ensures err { OnErr result (self.new.messages ≡ self.old.messages) }
+        ensures back { IfErr result (λ same. same ≡ m) }
+        ensures room { 0 < self.old.spare → IsOk result }
+        ensures spent { OnOk result (self.old.spare ≤ self.new.spare + 1) }
+        ensures unspent { OnErr result (self.old.spare ≤ self.new.spare) }
+    {
+        let weight = self.weight + m.weight();
+        match self.messages.push_front(m) {
+            Ok(()) => {
+                self.weight = weight;
+                Ok(())
+            }
+            Err(refused) => Err(refused.value),
+        }
+    }
+
+    /// Takes the first message. Its memory stays with the lane.
+    pub(crate) fn pop(&mut self) -> Option<Message>
+        ensures rank { self.new.rank ≡ self.old.rank }
+        ensures first { MatchOption result ((self.old.messages ≡ []) × (self.new.messages ≡ [])) (λ m. self.old.messages ≡ m ∷ self.new.messages) }
+        ensures room { self.old.spare ≤ self.new.spare }
+    {
+        let m = self.messages.pop_front()?;
+        self.weight -= m.weight();
+        Some(m)
+    }
+
+    /// Removes data and protocol messages, and answers how many. Their memory stays with the lane.
+    pub(crate) fn flush(&mut self) -> usize
+        ensures rank { self.new.rank ≡ self.old.rank }
+        ensures messages { self.new.messages ≡ flush_of self.old.messages }
+        ensures count { result + length self.new.messages ≡ length self.old.messages }
+        ensures room { self.old.spare ≤ self.new.spare }
+    {
+        let len = self.messages.len();
+        self.messages.retain(|m| stays(m));
+        self.weight = weigh(&self.messages);
+        len - self.messages.len()
+    }
+
+    /// Whether an `MPcproto` is there.
+    pub(crate) fn has_pcproto(&self) -> bool
+        ensures { result ≡ has_pcproto self.now.messages }
+    {
+        self.messages
+            .iter()
+            .any(|m| matches!(m.kind, MsgKind::MPcproto))
+    }
+}

@@ -1,0 +1,213 @@
+//! The lanes of a queue, greatest rank first.
+ghost use Rattle.std.specs.Prelude.{◌≡◌, ℕ, ◌+◌, ◌*◌, ◌^◌, ◌<◌, ◌≤◌, ◌↔◌, ◌&&◌, ◌∷◌, [], not, true, take, length, min, filter, sum_by, slice_index_or, slice_get, option_copied, IsTrue, IsOk, IfOk, OnOk, OnErr, IfErr, MatchOption};
+ghost use Rattle.strm_msg.specs.Message.{rank_of, weight_of};
+ghost use Rattle.strm_queue.specs.Queue.{put_in, put_back_in, flush_of, is_flushed};
+ghost use Rattle.strm_queue.specs.Lanes.{Ranked, stands_in, is_laned, messages_of, at_rank, spare_of, place_of, IsPlace};
+
+use crate::lane::Lane;
+use strm_msg::{Message, NoMem};
+
+/// The rank of the high messages.
+pub(crate) const HIGH: u16 = 256;
+
+/// The rank of the lane in which a message stands.
+pub(crate) fn rank_of(m: &Message) -> u16
+    ensures rank { result ≡ rank_of m.now }
+    ensures stands { stands_in result m.now ≡ true }
+    ensures most { result ≤ 256 }
+{
+    if m.is_high() { HIGH } else { u16::from(m.band) }
+}
+
+/// How many lanes stand before the place of a rank.
+fn place_of(lanes: &[Lane], rank: u16) -> usize
+    ensures value { result ≡ place_of rank lanes.now }
+    ensures within { result ≤ length lanes.now }
+{
+    for (i, lane) in lanes.iter().enumerate() {
+        if lane.rank() <= rank {
+            return i;
+        }
+    }
+    lanes.len()
+}
+
+/// Whether the lane of a rank stands there.
+fn stands_at(lanes: &[Lane], at: usize, rank: u16) -> bool
+    ensures { IsTrue result ↔ IsPlace rank at lanes.now }
+{
+    at < lanes.len() && lanes[at].rank() == rank
+}
+
+/// The place of the lane of a rank, if there is one.
+pub(crate) fn find(lanes: &[Lane], rank: u16) -> Option<usize>
+    requires { is_laned lanes.now ≡ true }
+    ensures { MatchOption result (at_rank rank lanes.now ≡ []) (λ at. IsPlace rank at lanes.now) }
+{
+    let at = place_of(lanes, rank);
+    if stands_at(lanes, at, rank) {
+        Some(at)
+    } else {
+        None
+    }
+}
+
+/// The place of the lane of a rank, which is made where there is none.
+///
+/// Refused for want of memory alone, and not where the lane is there.
+pub(crate) fn find_or_make(lanes: &mut Vec<Lane>, rank: u16) -> Result<usize, NoMem>
+    requires { is_laned lanes.old.items ≡ true }
+    ensures laned { is_laned lanes.new.items ≡ true }
+    ensures messages { messages_of lanes.new.items ≡ messages_of lanes.old.items }
+    ensures room { (other : ℕ) → spare_of other lanes.old.items ≤ spare_of other lanes.new.items }
+    ensures place { IfOk result (λ at. IsPlace rank at lanes.new.items) }
+    ensures enough { 0 < spare_of rank lanes.old.items → IsOk result }
+{
+    let at = place_of(lanes.as_slice(), rank);
+    if stands_at(lanes.as_slice(), at, rank) {
+        return Ok(at);
+    }
+    let alloc = *lanes.allocator();
+    lanes.insert(at, Lane::new(alloc, rank))?;
+    Ok(at)
+}
+
+/// Makes room for one more message of a rank.
+///
+/// Refused for want of memory alone, and not where the room is there.
+pub(crate) fn reserve_at(lanes: &mut Vec<Lane>, rank: u16) -> Result<(), NoMem>
+    requires { is_laned lanes.old.items ≡ true }
+    ensures laned { is_laned lanes.new.items ≡ true }
+    ensures messages { messages_of lanes.new.items ≡ messages_of lanes.old.items }
+    ensures kept { (other : ℕ) → spare_of other lanes.old.items ≤ spare_of other lanes.new.items }
+    ensures room { OnOk result (0 < spare_of rank lanes.new.items) }
+    ensures enough { 0 < spare_of rank lanes.old.items → IsOk result }
+{
+    let at = find_or_make(lanes, rank)?;
+    let lane = &mut lanes[at];
+    lane.reserve()
+}
+
+/// Puts a message behind those of its rank. It comes back for want of memory alone.
+pub(crate) fn put_behind(lanes: &mut Vec<Lane>, m: Message) -> Result<(), Message>
+    requires { is_laned lanes.old.items ≡ true }
+    ensures laned { is_laned lanes.new.items ≡ true }
+    ensures ok { OnOk result (messages_of lanes.new.items ≡ put_in (messages_of lanes.old.items) m) }
+    ensures err { OnErr result (messages_of lanes.new.items ≡ messages_of lanes.old.items) }
+    ensures back { IfErr result (λ same. same ≡ m) }
+    ensures room { 0 < spare_of (min (rank_of m) 256) lanes.old.items → IsOk result }
+    ensures spent { OnOk result ((other : ℕ) → spare_of other lanes.old.items ≤ spare_of other lanes.new.items + 1) }
+    ensures unspent { OnErr result ((other : ℕ) → spare_of other lanes.old.items ≤ spare_of other lanes.new.items) }
+{
+    let Ok(at) = find_or_make(lanes, rank_of(&m)) else {
+        return Err(m);
+    };
+    let lane = &mut lanes[at];
+    lane.push_back(m)
+}
+
+/// Puts a message before those of its rank. It comes back for want of memory alone.
+pub(crate) fn put_before(lanes: &mut Vec<Lane>, m: Message) -> Result<(), Message>
+    requires { is_laned lanes.old.items ≡ true }
+    ensures laned { is_laned lanes.new.items ≡ true }
+    ensures ok { OnOk result (messages_of lanes.new.items ≡ put_back_in (messages_of lanes.old.items) m) }
+    ensures err { OnErr result (messages_of lanes.new.items ≡ messages_of lanes.old.items) }
+    ensures back { IfErr result (λ same. same ≡ m) }
+    ensures room { 0 < spare_of (min (rank_of m) 256) lanes.old.items → IsOk result }
+    ensures spent { OnOk result ((other : ℕ) → spare_of other lanes.old.items ≤ spare_of other lanes.new.items + 1) }
+    ensures unspent { OnErr result ((other : ℕ) → spare_of other lanes.old.items ≤ spare_of other lanes.new.items) }
+{
+    let Ok(at) = find_or_make(lanes, rank_of(&m)) else {
+        return Err(m);
+    };
+    let lane = &mut lanes[at];
+    lane.push_front(m)
+}
+
+/// The place of the first lane that has a message.
+pub(crate) fn first_filled(lanes: &[Lane]) -> Option<usize>
+    ensures { MatchOption result (messages_of lanes.now ≡ []) (λ at. (at < length lanes.now) × (messages_of (take at lanes.now) ≡ []) × ((d : Ranked) → 0 < length (slice_index_or lanes.now at d).messages)) }
+{
+    for (i, lane) in lanes.iter().enumerate() {
+        if !lane.is_empty() {
+            return Some(i);
+        }
+    }
+    None
+}
+
+/// The first message.
+pub(crate) fn first(lanes: &[Lane]) -> Option<&Message>
+    ensures { option_copied result ≡ slice_get (messages_of lanes.now) 0 }
+{
+    let at = first_filled(lanes)?;
+    lanes[at].at(0)
+}
+
+/// Takes the first message. Its memory stays with its lane.
+pub(crate) fn take_first(lanes: &mut Vec<Lane>) -> Option<Message>
+    requires { is_laned lanes.old.items ≡ true }
+    ensures laned { is_laned lanes.new.items ≡ true }
+    ensures first { MatchOption result ((messages_of lanes.old.items ≡ []) × (messages_of lanes.new.items ≡ [])) (λ m. messages_of lanes.old.items ≡ m ∷ messages_of lanes.new.items) }
+    ensures room { (other : ℕ) → spare_of other lanes.old.items ≤ spare_of other lanes.new.items }
+{
+    let at = first_filled(lanes.as_slice())?;
+    let lane = &mut lanes[at];
+    lane.pop()
+}
+
+/// The message at a place, counted from 0 for the first.
+pub(crate) fn message_at(lanes: &[Lane], i: usize) -> Option<&Message>
+    ensures { option_copied result ≡ slice_get (messages_of lanes.now) i }
+{
+    let mut left = i;
+    for lane in lanes {
+        if left < lane.len() {
+            return lane.at(left);
+        }
+        left -= lane.len();
+    }
+    None
+}
+
+/// What the messages of a rank weigh together.
+pub(crate) fn weight_at(lanes: &[Lane], rank: u16) -> u128
+    requires { is_laned lanes.now ≡ true }
+    ensures value { result ≡ sum_by weight_of (at_rank rank lanes.now) }
+    ensures most { result ≤ length (at_rank rank lanes.now) * 2 ^ 65 }
+{
+    match find(lanes, rank) {
+        Some(at) => lanes[at].weight(),
+        None => 0,
+    }
+}
+
+/// Removes the data and protocol messages of a rank, and answers how many.
+pub(crate) fn flush_rank(lanes: &mut Vec<Lane>, rank: u16) -> usize
+    requires { is_laned lanes.old.items ≡ true }
+    ensures laned { is_laned lanes.new.items ≡ true }
+    ensures messages { messages_of lanes.new.items ≡ filter (λ m. not (is_flushed m.kind && stands_in rank m)) (messages_of lanes.old.items) }
+    ensures count { result + length (messages_of lanes.new.items) ≡ length (messages_of lanes.old.items) }
+    ensures room { (other : ℕ) → spare_of other lanes.old.items ≤ spare_of other lanes.new.items }
+{
+    match find(lanes.as_slice(), rank) {
+        Some(at) => lanes[at].flush(),
+        None => 0,
+    }
+}
+
+/// Removes the data and protocol messages of all ranks, and answers how many.
+pub(crate) fn flush_all(lanes: &mut Vec<Lane>) -> usize
+    requires laned { is_laned lanes.old.items ≡ true }
+    requires most { length (messages_of lanes.old.items) < 2 ^ 63 }
+    ensures laned { is_laned lanes.new.items ≡ true }
+    ensures messages { messages_of lanes.new.items ≡ flush_of (messages_of lanes.old.items) }
+    ensures count { result + length (messages_of lanes.new.items) ≡ length (messages_of lanes.old.items) }
+    ensures room { (other : ℕ) → spare_of other lanes.old.items ≤ spare_of other lanes.new.items }
+{
+    let mut removed = 0;
+    for i in 0..lanes.len() {
+        removed += lanes[i].flush();
+    }
+    removed
+}

@@ -1,0 +1,5 @@
+pub mod FieldLemmas
+pub mod LineLemmas
+pub mod SoundLemmas
+pub mod StepLemmas
+pub mod StreamLemmas

@@ -1,0 +1,273 @@
+-- Each line keeps what a run asks of a plan.
+use Rattle.std.proofs.Common.{◌≡◌, ◌≤◌, ◌<◌, ℕ, ◌+◌, ◌==◌, ◌&&◌, not, nat_lt, Bool, true, false, cond, List, [], ◌∷◌, ◌++◌, length, slice_index, codes, Option, Some, None, Result, Ok, Err, refl, sym, ap, arith}
+use Rattle.std.specs.List.{All, list_all}
+use Rattle.std.specs.Str.{bytes_eq}
+use Rattle.std.proofs.lemmas.Bool.{ltb-true}
+use Rattle.std.proofs.lemmas.List.{length-append}
+use Rattle.std.proofs.lemmas.List.Elements.{All-nil, All-push}
+use Rattle.strm_msg.specs.Message.{Msg}
+use Rattle.strm_msg.specs.Kind.{is_from_line}
+use Rattle.strm_qpair.specs.declared.driver.Driver.{Driver}
+use Rattle.strm_shared.specs.Setup.{is_fit, is_ring}
+use Rattle.strm_shared.specs.declared.setup.Setup.{Setup}
+use Rattle.strm_text.specs.Bytes.{is_allowed}
+use Rattle.strm_text.specs.Text.{fields_of}
+use Rattle.strm_verb.specs.Fault.{◌>>=◌, or_fault}
+use Rattle.strm_verb.specs.Arrival.{message_named, message_at}
+use Rattle.strm_verb.specs.Table.{verb_named, is_push}
+use Rattle.strm_verb.specs.declared.arrival.MessageWord.{MessageWord}
+use Rattle.strm_verb.specs.declared.fault.Cause.{Cause}
+use Rattle.strm_verb.specs.declared.fault.Cause.TheVariants as causes
+use Rattle.strm_verb.specs.declared.verb.Verb.{Verb}
+use Rattle.strm_plan.specs.Plan.{Call, Process, Fed, Streams, Partial, Place, Nowhere, In_process, In_feed}
+use Rattle.strm_plan.specs.Reading.{ended, ended_at, plan_of, fresh_name, driver_at, setup_arity, setup_at, setup_onto, declared_at, has_room, with_stream, stream_onto, process_name, with_process, process_onto, has_feed, with_feed, feed_onto, call_at, with_call, call_onto, with_message, message_onto, inner_onto, outside, word_onto, fields_onto, line_onto, modules_after, nothing_yet}
+use Rattle.strm_plan.specs.Targets.{stream_names, stream_at}
+use Rattle.strm_plan.specs.Sound.{AreSetups, AreFromLine, IsSound}
+use Rattle.strm_plan.specs.declared.draft.TheConstants.{MOST_STREAMS, MOST_PROCESSES, MOST_CALLS, MOST_MESSAGES, LONGEST_LINE}
+use Rattle.strm_plan.proofs.StepLemmas.{through, passed, either, same, found_in}
+use Rattle.strm_plan.proofs.FieldLemmas.{setup_fits, message_from_line}
+
+-- a process that goes on is one more than those that ended
+abbrev going : Place → ℕ
+going Nowhere = 0
+going (In_process process) = 1
+going (In_feed feed) = 0
+
+-- the messages of the feed that goes on come from a line
+abbrev AreGoing : Place → Type 0
+AreGoing Nowhere = Unit {0}
+AreGoing (In_process process) = Unit {0}
+AreGoing (In_feed feed) = All (λ m. is_from_line m.kind ≡ true) feed.messages
+
+-- a plan of which a run can be made when it ends here
+pub record IsKept (d : Partial) : Type 0 where
+  pub setups : AreSetups d.streams
+  pub few_streams : length d.streams ≤ MOST_STREAMS
+  pub few_processes : length d.processes + going d.place ≤ MOST_PROCESSES
+  pub lines : AreFromLine d.feeds
+  pub going_on : AreGoing d.place
+
+-- what a line keeps, which declares one module at most
+pub record Keeps (d e : Partial) : Type 0 where
+  pub kept : IsKept e
+  pub modules : e.modules ≤ d.modules + 1
+
+-- ---- what goes on ends
+
+ended_at_kept : (d : Partial) (place : Place) → IsKept (record d { place = place }) → IsKept (ended_at d place)
+ended_at_kept d Nowhere k = k
+ended_at_kept d (In_process process) k = record {
+  setups = k.setups;
+  few_streams = k.few_streams;
+  few_processes = omega (arith, k.few_processes, length-append d.processes (process ∷ []));
+  lines = k.lines;
+  going_on = tt;
+}
+ended_at_kept d (In_feed feed) k = record {
+  setups = k.setups;
+  few_streams = k.few_streams;
+  few_processes = k.few_processes;
+  lines = All-push (λ (f : Fed). All (λ m. is_from_line m.kind ≡ true) f.messages) d.feeds feed k.lines k.going_on;
+  going_on = tt;
+}
+
+ended_kept : (d : Partial) → IsKept d → IsKept (ended d)
+ended_kept d k = ended_at_kept d d.place k
+
+-- ending changes neither streams nor the number of modules, and leaves nothing that goes on
+ended_modules : (d : Partial) (place : Place) → (ended_at d place).modules ≡ d.modules
+ended_modules d Nowhere = refl
+ended_modules d (In_process process) = refl
+ended_modules d (In_feed feed) = refl
+
+ended_place : (d : Partial) (place : Place) → (ended_at d place).place ≡ Nowhere
+ended_place d Nowhere = refl
+ended_place d (In_process process) = refl
+ended_place d (In_feed feed) = refl
+
+-- so a plan that is kept is sound when it ends
+pub kept_sound : (d : Partial) → IsKept d → IsSound (plan_of d)
+kept_sound d k =
+    let e = ended_kept d k in
+    record { setups = e.setups; few_streams = e.few_streams; few_processes = omega (arith, e.few_processes); lines = e.lines }
+
+pub nothing_kept : IsKept nothing_yet
+nothing_kept = record {
+  setups = All-nil (λ (stream : List ℕ × Setup). (is_fit stream.1 ≡ true) × (is_ring stream.1 ≡ true));
+  few_streams = omega arith;
+  few_processes = omega arith;
+  lines = All-nil (λ (f : Fed). All (λ m. is_from_line m.kind ≡ true) f.messages);
+  going_on = tt;
+}
+
+-- ---- a stream
+
+abbrev named : List ℕ → Setup → List ℕ × Setup
+named name setup = (name, setup)
+
+with_stream_keeps : (d e : Partial) (name : List ℕ) (setup : Setup) → (is_fit setup ≡ true) × (is_ring setup ≡ true) → with_stream d (named name setup) ≡ Ok e → IsKept d → Keeps d e
+with_stream_keeps d e name setup fits is k =
+    passed (has_room d.streams) (Ok (record d { streams = d.streams ++ named name setup ∷ [] })) e causes.TooMany is (λ room is.
+    same (Keeps d) (record d { streams = d.streams ++ named name setup ∷ [] }) e is (record {
+      kept = record {
+        setups = All-push (λ (stream : List ℕ × Setup). (is_fit stream.1 ≡ true) × (is_ring stream.1 ≡ true)) d.streams (named name setup) k.setups fits;
+        few_streams = omega (arith, ltb-true (length d.streams) MOST_STREAMS room, length-append d.streams (named name setup ∷ []));
+        few_processes = k.few_processes;
+        lines = k.lines;
+        going_on = k.going_on;
+      };
+      modules = omega arith;
+    }))
+
+setup_keeps : (d e : Partial) (driver : Driver) (name : List ℕ) (texts : List (List ℕ)) → setup_onto d driver name texts ≡ Ok e → IsKept d → Keeps d e
+setup_keeps d e driver name texts is k =
+    through (declared_at d.streams driver name texts) (λ stream. with_stream d stream) e is (λ stream declared next.
+    through (fresh_name (stream_names d.streams) name) (λ chosen. setup_at driver texts >>= λ setup. Ok (named chosen setup)) stream declared (λ chosen _ declared.
+    through (setup_at driver texts) (λ setup. Ok (named chosen setup)) stream declared (λ setup read is.
+    same (λ (s : List ℕ × Setup). with_stream d s ≡ Ok e → Keeps d e) (named chosen setup) stream is (λ next. with_stream_keeps d e chosen setup (setup_fits driver texts setup read) next k) next)))
+
+stream_keeps : (d e : Partial) (texts : List (List ℕ)) → stream_onto d texts ≡ Ok e → IsKept d → Keeps d e
+unfolding stream_onto
+stream_keeps d e [] is k = absurd cc
+stream_keeps d e (name ∷ []) is k = absurd cc
+stream_keeps d e (name ∷ driver ∷ texts) is k =
+    through (driver_at driver) (λ kind. cond (length texts == setup_arity kind) (setup_onto d kind name texts) (Err causes.Fields)) e is (λ kind _ is.
+    passed (length texts == setup_arity kind) (setup_onto d kind name texts) e causes.Fields is (λ _ is. setup_keeps d e kind name texts is k))
+
+-- ---- a process
+
+abbrev new_process : List ℕ → Process
+new_process name = record { name = name; calls = [] }
+
+with_process_keeps : (d e : Partial) (name : List ℕ) → with_process d name ≡ Ok e → IsKept d → Keeps d e
+with_process_keeps d e name is k =
+    passed (nat_lt (length d.processes) MOST_PROCESSES) (Ok (record d { place = In_process (new_process name) })) e causes.TooMany is (λ room is.
+    same (Keeps d) (record d { place = In_process (new_process name) }) e is (record {
+      kept = record {
+        setups = k.setups;
+        few_streams = k.few_streams;
+        few_processes = omega (arith, ltb-true (length d.processes) MOST_PROCESSES room);
+        lines = k.lines;
+        going_on = tt;
+      };
+      modules = omega arith;
+    }))
+
+process_keeps : (d e : Partial) (texts : List (List ℕ)) → process_onto d texts ≡ Ok e → IsKept d → Keeps d e
+unfolding process_onto
+process_keeps d e [] is k = absurd cc
+process_keeps d e (name ∷ []) is k = through (process_name d.processes name) (λ chosen. with_process d chosen) e is (λ chosen _ is. with_process_keeps d e chosen is k)
+process_keeps d e (name ∷ more ∷ texts) is k = absurd cc
+
+-- ---- a feed
+
+abbrev new_feed : ℕ → Fed
+new_feed number = record { stream = number; messages = [] }
+
+from_line : Msg → Type 0
+from_line m = is_from_line m.kind ≡ true
+
+with_feed_keeps : (d e : Partial) (found : ℕ × Driver) → with_feed d found ≡ Ok e → IsKept d → Keeps d e
+with_feed_keeps d e found is k =
+    passed _ (Ok (record d { place = In_feed (new_feed found.0) })) e causes.OutOfPlace is (λ _ is.
+    same (Keeps d) (record d { place = In_feed (new_feed found.0) }) e is (record {
+      kept = record {
+        setups = k.setups;
+        few_streams = k.few_streams;
+        few_processes = omega (arith, k.few_processes);
+        lines = k.lines;
+        going_on = All-nil (λ (m : Msg). is_from_line m.kind ≡ true);
+      };
+      modules = omega arith;
+    }))
+
+feed_keeps : (d e : Partial) (texts : List (List ℕ)) → feed_onto d texts ≡ Ok e → IsKept d → Keeps d e
+unfolding feed_onto
+feed_keeps d e [] is k = absurd cc
+feed_keeps d e (name ∷ []) is k = through (or_fault causes.NoSuch (stream_at d.streams name)) (λ found. with_feed d found) e is (λ found _ is. with_feed_keeps d e found is k)
+feed_keeps d e (name ∷ more ∷ texts) is k = absurd cc
+
+-- ---- a call of a process
+
+one_module : (verb : Verb) (modules : ℕ) (b : Bool) → cond b (modules + 1) modules ≤ modules + 1
+one_module verb modules true = omega arith
+one_module verb modules false = omega arith
+
+abbrev called : Process → Call → Process
+called process call = record { name = process.name; calls = process.calls ++ call ∷ [] }
+
+call_keeps : (d e : Partial) (process : Process) (verb : Verb) (texts : List (List ℕ)) → call_onto d process verb texts ≡ Ok e → IsKept (record d { place = In_process process }) → Keeps d e
+unfolding call_onto
+call_keeps d e process verb texts is k =
+    through (call_at d.streams (d.modules + 1) verb texts) (λ call. with_call d process verb call) e is (λ call _ is.
+    passed (nat_lt (length process.calls) MOST_CALLS) (Ok (record d { modules = modules_after verb d.modules; place = In_process (called process call) })) e causes.TooMany is (λ _ is.
+    same (Keeps d) (record d { modules = modules_after verb d.modules; place = In_process (called process call) }) e is (record {
+      kept = record {
+        setups = k.setups;
+        few_streams = k.few_streams;
+        few_processes = k.few_processes;
+        lines = k.lines;
+        going_on = tt;
+      };
+      modules = one_module verb d.modules (is_push verb);
+    })))
+
+-- ---- a message of a feed
+
+abbrev fed : Fed → Msg → Fed
+fed feed m = record { stream = feed.stream; messages = feed.messages ++ m ∷ [] }
+
+message_keeps : (d e : Partial) (feed : Fed) (word : MessageWord) (texts : List (List ℕ)) → message_onto d feed word texts ≡ Ok e → IsKept (record d { place = In_feed feed }) → Keeps d e
+unfolding message_onto
+message_keeps d e feed word texts is k =
+    through (message_at word texts) (λ m. with_message d feed m) e is (λ m read is.
+    passed (nat_lt (length feed.messages) MOST_MESSAGES) (Ok (record d { place = In_feed (fed feed m) })) e causes.TooMany is (λ _ is.
+    same (Keeps d) (record d { place = In_feed (fed feed m) }) e is (record {
+      kept = record {
+        setups = k.setups;
+        few_streams = k.few_streams;
+        few_processes = k.few_processes;
+        lines = k.lines;
+        going_on = All-push (λ (m : Msg). is_from_line m.kind ≡ true) feed.messages m k.going_on (message_from_line word texts m read);
+      };
+      modules = omega arith;
+    })))
+
+-- ---- a line
+
+inner_keeps : (d e : Partial) (place : Place) (word : List ℕ) (texts : List (List ℕ)) → inner_onto d place word texts ≡ Ok e → IsKept (record d { place = place }) → Keeps d e
+inner_keeps d e Nowhere word texts is k = absurd cc
+inner_keeps d e (In_process process) word texts is k = through (or_fault (outside word) (verb_named word)) (λ verb. call_onto d process verb texts) e is (λ verb _ is. call_keeps d e process verb texts is k)
+inner_keeps d e (In_feed feed) word texts is k = through (or_fault (outside word) (message_named word)) (λ m. message_onto d feed m texts) e is (λ m _ is. message_keeps d e feed m texts is k)
+
+-- what a line keeps of what has ended, it keeps
+since_ended : (d e : Partial) → Keeps (ended d) e → Keeps d e
+since_ended d e keeps = record { kept = keeps.kept; modules = omega (arith, keeps.modules, ended_modules d d.place) }
+
+word_keeps : (d e : Partial) (word : List ℕ) (texts : List (List ℕ)) → word_onto d word texts ≡ Ok e → IsKept d → Keeps d e
+unfolding word_onto
+word_keeps d e word texts is k =
+    let after = ended_kept d k in
+    either (bytes_eq word (codes "stream")) (stream_onto (ended d) texts) _ e is (λ is. since_ended d e (stream_keeps (ended d) e texts is after)) (λ is.
+    either (bytes_eq word (codes "process")) (process_onto (ended d) texts) _ e is (λ is. since_ended d e (process_keeps (ended d) e texts is after)) (λ is.
+    either (bytes_eq word (codes "feed")) (feed_onto (ended d) texts) _ e is (λ is. since_ended d e (feed_keeps (ended d) e texts is after)) (λ is.
+    inner_keeps d e d.place word texts is k)))
+
+unchanged : (d e : Partial) → ◌≡◌ {A = Result Partial Cause} (Ok d) (Ok e) → IsKept d → Keeps d e
+unchanged d e is k = same (Keeps d) d e is (record { kept = k; modules = omega arith })
+
+fields_keep : (d e : Partial) (texts : List (List ℕ)) → fields_onto d texts ≡ Ok e → IsKept d → Keeps d e
+fields_keep d e [] is k = unchanged d e is k
+fields_keep d e (word ∷ texts) is k = word_keeps d e word texts is k
+
+-- a line that is short enough and no comment
+abbrev judged : Partial → List ℕ → Result Partial Cause
+judged d line = cond (list_all is_allowed line) (fields_onto d (fields_of line)) (Err causes.Byte)
+
+-- a line keeps a plan of which a run can be made
+pub line_keeps : (d e : Partial) (line : List ℕ) → line_onto d line ≡ Ok e → IsKept d → Keeps d e
+unfolding line_onto
+line_keeps d e line is k =
+    either (nat_lt LONGEST_LINE (length line)) (Err causes.TooLong) (cond (slice_index line 0 == 35) (Ok d) (judged d line)) e is (λ is. absurd cc) (λ is.
+    either (slice_index line 0 == 35) (Ok d) (judged d line) e is (λ is. unchanged d e is k) (λ is.
+    passed (list_all is_allowed line) (fields_onto d (fields_of line)) e causes.Byte is (λ _ is. fields_keep d e (fields_of line) is k)))

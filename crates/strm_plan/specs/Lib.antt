@@ -1,0 +1,7 @@
+pub mod Plan
+pub mod Targets
+pub mod Reading
+pub mod Spelling
+pub mod Sound
+pub mod Calls
+pub mod Fault

@@ -1,0 +1,95 @@
+-- What a script says: streams in order, processes with their calls, and feeds with their messages.
+use Rattle.std.specs.Prelude.{◌≡◌, ℕ, List, map}
+use Rattle.std.specs.List.{All}
+use Rattle.arrayvec.specs.ArrayVec.{ArrayVec}
+use Rattle.strm_msg.specs.Message.{Msg}
+use Rattle.strm_msg.specs.declared.words.End.{End}
+use Rattle.strm_shared.specs.declared.setup.Setup.{Setup}
+use Rattle.strm_verb.specs.Table.{Asked, asked_of}
+use Rattle.strm_plan.specs.declared.call.CallDecl.{CallDecl}
+use Rattle.strm_plan.specs.declared.plan.CallLine.{CallLine}
+use Rattle.strm_plan.specs.declared.plan.ProcessDecl.{ProcessDecl}
+use Rattle.strm_plan.specs.declared.plan.FeedDecl.{FeedDecl}
+use Rattle.strm_plan.specs.declared.plan.Plan.{Plan}
+use Rattle.strm_plan.specs.declared.draft.Current.{Current}
+use Rattle.strm_plan.specs.declared.draft.Draft.{Draft}
+
+-- a call: the number of its stream, the end, and what it asks for
+pub record Call : Type 0 where
+  pub stream : ℕ
+  pub end : End
+  pub asked : Asked
+
+-- a process: its name, and its calls in order
+pub record Process : Type 0 where
+  pub name : List ℕ
+  pub calls : List Call
+
+-- the messages that a line is offered
+pub record Fed : Type 0 where
+  pub stream : ℕ
+  pub messages : List Msg
+
+-- names and streams, in order of declaration
+abbrev pub Streams : Type 0
+Streams = List (List ℕ × Setup)
+
+-- what a script says
+pub record Whole : Type 0 where
+  pub streams : Streams
+  pub processes : List Process
+  pub feeds : List Fed
+
+-- to what the lines that come next belong
+pub data Place : Type 0 where
+  Nowhere : Place
+  In_process : (process : Process) → Place
+  In_feed : (feed : Fed) → Place
+
+-- a plan while it is read: what has ended, how many modules were declared, and what goes on
+pub record Partial : Type 0 where
+  pub streams : Streams
+  pub processes : List Process
+  pub feeds : List Fed
+  pub modules : ℕ
+  pub place : Place
+
+-- ---- the values of the code, without where they lie in memory
+
+-- a call
+abbrev pub call_view : CallLine → Call
+call_view line = record { stream = line.stream; end = line.call.end; asked = asked_of line.call.request }
+
+-- a process, its calls without their places in memory
+abbrev pub process_view : ProcessDecl → Process
+process_view process = record { name = process.name.items; calls = map call_view process.calls.items }
+
+-- what a line is fed with
+abbrev pub feed_view : FeedDecl → Fed
+feed_view feed = record { stream = feed.stream; messages = feed.messages.items }
+
+-- the streams, with the bytes of their names
+abbrev pub streams_view : List (ArrayVec ℕ × Setup) → Streams
+streams_view entries = map (λ entry. (entry.0.items, entry.1)) entries
+
+-- a plan
+abbrev pub plan_view : Plan → Whole
+plan_view plan =
+    record { streams = streams_view plan.streams.entries; processes = map process_view plan.processes.items; feeds = map feed_view plan.feeds.items }
+
+-- what goes on
+abbrev pub place_view : Current → Place
+place_view Current.Nowhere = Nowhere
+place_view (Current.Process process) = In_process (process_view process)
+place_view (Current.Feed feed) = In_feed (feed_view feed)
+
+-- a plan while it is read
+abbrev pub draft_view : Draft → Partial
+draft_view draft =
+    record {
+      streams = streams_view draft.streams.entries;
+      processes = map process_view draft.processes.items;
+      feeds = map feed_view draft.feeds.items;
+      modules = draft.modules;
+      place = place_view draft.current;
+    }

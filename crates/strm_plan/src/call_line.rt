@@ -1,0 +1,67 @@
+//! A call line: a verb, NAME:END, and the fields of the call.
+ghost use Rattle.std.specs.Prelude.{◌≡◌, ◌≤◌, ◌<◌, ◌^◌, length, map};
+ghost use Rattle.strm_plan.specs.Plan.{call_view, streams_view};
+ghost use Rattle.strm_plan.specs.Reading as reading;
+ghost use Rattle.strm_plan.specs.declared.draft.TheConstants.{MOST_STREAMS};
+ghost use Rattle.strm_verb.specs.Fault.{Gives};
+
+use crate::call::CallDecl;
+use crate::plan::{CallLine, Name};
+use crate::target::target_of;
+use indexmap::IndexMap;
+use std::alloc::Global;
+use strm_shared::Setup;
+use strm_verb::{Cause, ReadError, Verb, request_at};
+
+/// How many modules were declared when this call is.
+pub(crate) fn modules_after(verb: Verb, modules: u64) -> u64
+    requires { modules < 2 ^ 63 }
+    ensures { result ≡ reading.modules_after verb modules }
+{
+    match verb {
+        Verb::Push => modules + 1,
+        _ => modules,
+    }
+}
+
+/// A call with as many fields as it has.
+fn placed_call(
+    alloc: Global,
+    streams: &IndexMap<Name, Setup>,
+    serial: u64,
+    verb: Verb,
+    target: &[u8],
+    texts: &[&[u8]],
+) -> Result<CallLine, ReadError>
+    requires { length streams.now.entries ≤ MOST_STREAMS }
+    ensures { Gives call_view result (reading.placed_call (streams_view streams.now.entries) serial verb target.now (map (λ text. text.now) texts.now)) }
+{
+    let Some((stream, end)) = target_of(streams, target) else {
+        return Err(ReadError::Fault(Cause::NoSuch));
+    };
+    let request = request_at(alloc, serial, verb, texts)?;
+    let call = CallDecl { end, request };
+    Ok(CallLine { stream, call })
+}
+
+/// The call of this verb with these fields: NAME:END and what follows it.
+#[tactic(auto, unfolding(crate::specs::Reading::call_at))]
+pub(crate) fn call_at(
+    alloc: Global,
+    streams: &IndexMap<Name, Setup>,
+    serial: u64,
+    verb: Verb,
+    texts: &[&[u8]],
+) -> Result<CallLine, ReadError>
+    requires { length streams.now.entries ≤ MOST_STREAMS }
+    ensures { Gives call_view result (reading.call_at (streams_view streams.now.entries) serial verb (map (λ text. text.now) texts.now)) }
+{
+    let [target, texts @ ..] = texts else {
+        return Err(ReadError::Fault(Cause::Fields));
+    };
+    let arity = verb.arity(texts)?;
+    if texts.len() != arity {
+        return Err(ReadError::Fault(Cause::Fields));
+    }
+    placed_call(alloc, streams, serial, verb, target, texts)
+}

@@ -1,0 +1,340 @@
+//! A plan while it is read, and how it grows line by line.
+ghost use Rattle.std.specs.Prelude.{◌≡◌, ◌≤◌, ◌<◌, ◌^◌, Ok, length, map};
+ghost use Rattle.strm_plan.specs.Plan.{draft_view, feed_view, plan_view, process_view, streams_view};
+ghost use Rattle.strm_plan.specs.Plan.{In_feed, In_process};
+ghost use Rattle.strm_plan.specs.Reading as reading;
+ghost use Rattle.strm_verb.specs.Fault.{Gives};
+
+use crate::call_line::{call_at, modules_after};
+use crate::names::{add_stream, process_name, stream_name};
+use crate::plan::{FeedDecl, Name, Plan, ProcessDecl};
+use crate::setup::{arity, driver_at, setup_at};
+use crate::target::stream_at;
+use indexmap::IndexMap;
+use std::alloc::Global;
+use std::mem;
+use strm_head::Driver;
+use strm_shared::Setup;
+use strm_text::{fields, is_allowed};
+use strm_verb::{Cause, MessageWord, ReadError, Verb, message_at};
+
+/// The most streams of a plan.
+const MOST_STREAMS: usize = 64;
+
+/// The most processes of a plan.
+const MOST_PROCESSES: usize = 256;
+
+/// The most calls of a process.
+const MOST_CALLS: usize = 65_536;
+
+/// The most messages of a feed.
+const MOST_MESSAGES: usize = 65_536;
+
+/// The longest line, in bytes, without its LF and a CR before that.
+const LONGEST_LINE: usize = 16_384;
+
+/// To what the lines that come next belong.
+#[derive(Drop)]
+enum Current {
+    /// To nothing yet.
+    Nowhere,
+    /// To a process.
+    Process(ProcessDecl),
+    /// To a feed.
+    Feed(FeedDecl),
+}
+
+/// A plan while it is read: what has ended, how many modules were declared, and what goes on.
+#[derive(Drop)]
+pub(crate) struct Draft {
+    /// How each stream is made, by its name.
+    streams: IndexMap<Name, Setup>,
+    /// The processes that have ended.
+    processes: Vec<ProcessDecl>,
+    /// The feeds that have ended.
+    feeds: Vec<FeedDecl>,
+    /// How many modules were declared, by all processes.
+    modules: u64,
+    /// What goes on.
+    current: Current,
+}
+
+/// Whether there may be one stream more.
+fn has_room(streams: &IndexMap<Name, Setup>) -> bool
+    ensures { result ≡ reading.has_room (streams_view streams.now.entries) }
+{
+    streams.len() < MOST_STREAMS
+}
+
+/// Whether a line has a feed.
+fn has_feed(feeds: &[FeedDecl], number: u32) -> bool
+    ensures { result ≡ reading.has_feed (map feed_view feeds.now) number }
+{
+    feeds.iter().any(|feed| feed.stream == number)
+}
+
+/// What is wrong with a word that cannot stand there.
+fn outside(word: &[u8]) -> Cause
+    ensures { result ≡ reading.outside word.now }
+{
+    if Verb::named(word).is_some() || MessageWord::named(word).is_some() {
+        Cause::OutOfPlace
+    } else {
+        Cause::UnknownWord
+    }
+}
+
+impl Draft {
+    /// Nothing yet.
+    pub(crate) fn new(alloc: Global) -> Draft
+        ensures { draft_view result ≡ reading.nothing_yet }
+    {
+        Draft {
+            streams: IndexMap::new(alloc),
+            processes: Vec::new(alloc),
+            feeds: Vec::new(alloc),
+            modules: 0,
+            current: Current::Nowhere,
+        }
+    }
+
+    /// What goes on ends. Refused for want of memory alone.
+    fn close(&mut self) -> Result<(), ReadError>
+        ensures { Gives (λ _. draft_view self.new) result (Ok (reading.ended (draft_view self.old))) }
+    {
+        match mem::replace(&mut self.current, Current::Nowhere) {
+            Current::Nowhere => Ok(()),
+            Current::Process(process) => Ok(self.processes.push(process)?),
+            Current::Feed(feed) => Ok(self.feeds.push(feed)?),
+        }
+    }
+
+    /// A stream line, with the fields behind its driver.
+    fn add_setup(&mut self, driver: Driver, name: &[u8], texts: &[&[u8]]) -> Result<(), ReadError>
+        ensures { Gives (λ _. draft_view self.new) result (reading.setup_onto (draft_view self.old) driver name.now (map (λ text. text.now) texts.now)) }
+    {
+        let chosen = stream_name(&self.streams, name)?;
+        let setup = setup_at(driver, texts)?;
+        if !has_room(&self.streams) {
+            return Err(ReadError::Fault(Cause::TooMany));
+        }
+        add_stream(&mut self.streams, chosen, setup)
+    }
+
+    /// NAME DRIVER H D, and RING for a line. The driver is judged before the number of fields.
+    #[tactic(auto, unfolding(crate::specs::Reading::stream_onto))]
+    fn stream_line(&mut self, texts: &[&[u8]]) -> Result<(), ReadError>
+        ensures { Gives (λ _. draft_view self.new) result (reading.stream_onto (draft_view self.old) (map (λ text. text.now) texts.now)) }
+    {
+        let [name, driver, texts @ ..] = texts else {
+            return Err(ReadError::Fault(Cause::Fields));
+        };
+        let driver = driver_at(driver)?;
+        if texts.len() != arity(driver) {
+            return Err(ReadError::Fault(Cause::Fields));
+        }
+        self.add_setup(driver, name, texts)
+    }
+
+    /// NAME of a process, which goes on from here.
+    #[tactic(auto, unfolding(crate::specs::Reading::process_onto))]
+    fn process_line(&mut self, alloc: Global, texts: &[&[u8]]) -> Result<(), ReadError>
+        ensures { Gives (λ _. draft_view self.new) result (reading.process_onto (draft_view self.old) (map (λ text. text.now) texts.now)) }
+    {
+        let [name] = texts else {
+            return Err(ReadError::Fault(Cause::Fields));
+        };
+        let name = process_name(&self.processes, name)?;
+        if self.processes.len() >= MOST_PROCESSES {
+            return Err(ReadError::Fault(Cause::TooMany));
+        }
+        let calls = Vec::new(alloc);
+        self.current = Current::Process(ProcessDecl { name, calls });
+        Ok(())
+    }
+
+    /// NAME of a line, whose feed goes on from here.
+    #[tactic(auto, unfolding(crate::specs::Reading::feed_onto))]
+    fn feed_line(&mut self, alloc: Global, texts: &[&[u8]]) -> Result<(), ReadError>
+        requires { length self.old.streams.entries ≤ MOST_STREAMS }
+        ensures { Gives (λ _. draft_view self.new) result (reading.feed_onto (draft_view self.old) (map (λ text. text.now) texts.now)) }
+    {
+        let [name] = texts else {
+            return Err(ReadError::Fault(Cause::Fields));
+        };
+        let Some((stream, driver)) = stream_at(&self.streams, name) else {
+            return Err(ReadError::Fault(Cause::NoSuch));
+        };
+        if driver != Driver::Line || has_feed(&self.feeds, stream) {
+            return Err(ReadError::Fault(Cause::OutOfPlace));
+        }
+        let messages = Vec::new(alloc);
+        self.current = Current::Feed(FeedDecl { stream, messages });
+        Ok(())
+    }
+
+    /// A call of a process, which goes on.
+    #[tactic(auto, unfolding(crate::specs::Reading::call_onto))]
+    fn call_line(
+        &mut self,
+        alloc: Global,
+        mut process: ProcessDecl,
+        verb: Verb,
+        texts: &[&[u8]],
+    ) -> Result<(), ReadError>
+        requires few { length self.old.streams.entries ≤ MOST_STREAMS }
+        requires modules { self.old.modules < 2 ^ 63 }
+        ensures { Gives (λ _. draft_view self.new) result (reading.call_onto (draft_view self.old) (process_view process) verb (map (λ text. text.now) texts.now)) }
+    {
+        let call = call_at(alloc, &self.streams, self.modules + 1, verb, texts)?;
+        if process.calls.len() >= MOST_CALLS {
+            return Err(ReadError::Fault(Cause::TooMany));
+        }
+        process.calls.push(call)?;
+        self.modules = modules_after(verb, self.modules);
+        self.current = Current::Process(process);
+        Ok(())
+    }
+
+    /// A message of a feed, which goes on.
+    #[tactic(auto, unfolding(crate::specs::Reading::message_onto))]
+    fn message_line(
+        &mut self,
+        alloc: Global,
+        mut feed: FeedDecl,
+        word: MessageWord,
+        texts: &[&[u8]],
+    ) -> Result<(), ReadError>
+        ensures { Gives (λ _. draft_view self.new) result (reading.message_onto (draft_view self.old) (feed_view feed) word (map (λ text. text.now) texts.now)) }
+    {
+        let message = message_at(alloc, word, texts)?;
+        if feed.messages.len() >= MOST_MESSAGES {
+            return Err(ReadError::Fault(Cause::TooMany));
+        }
+        feed.messages.push(message)?;
+        self.current = Current::Feed(feed);
+        Ok(())
+    }
+
+    /// A line of a process, by its word.
+    fn process_word(
+        &mut self,
+        alloc: Global,
+        process: ProcessDecl,
+        word: &[u8],
+        texts: &[&[u8]],
+    ) -> Result<(), ReadError>
+        requires few { length self.old.streams.entries ≤ MOST_STREAMS }
+        requires modules { self.old.modules < 2 ^ 63 }
+        ensures { Gives (λ _. draft_view self.new) result (reading.inner_onto (draft_view self.old) (In_process (process_view process)) word.now (map (λ text. text.now) texts.now)) }
+    {
+        match Verb::named(word) {
+            Some(verb) => self.call_line(alloc, process, verb, texts),
+            None => Err(ReadError::Fault(outside(word))),
+        }
+    }
+
+    /// A line of a feed, by its word.
+    fn feed_word(
+        &mut self,
+        alloc: Global,
+        feed: FeedDecl,
+        word: &[u8],
+        texts: &[&[u8]],
+    ) -> Result<(), ReadError>
+        ensures { Gives (λ _. draft_view self.new) result (reading.inner_onto (draft_view self.old) (In_feed (feed_view feed)) word.now (map (λ text. text.now) texts.now)) }
+    {
+        match MessageWord::named(word) {
+            Some(word) => self.message_line(alloc, feed, word, texts),
+            None => Err(ReadError::Fault(outside(word))),
+        }
+    }
+
+    /// A line of what goes on, by its word.
+    #[tactic(auto, unfolding(crate::specs::Reading::call_onto, crate::specs::Reading::message_onto))]
+    fn inner_line(&mut self, alloc: Global, word: &[u8], texts: &[&[u8]]) -> Result<(), ReadError>
+        requires few { length self.old.streams.entries ≤ MOST_STREAMS }
+        requires modules { self.old.modules < 2 ^ 63 }
+        ensures { Gives (λ _. draft_view self.new) result (reading.inner_onto (draft_view self.old) (draft_view self.old).place word.now (map (λ text. text.now) texts.now)) }
+    {
+        match mem::replace(&mut self.current, Current::Nowhere) {
+            Current::Nowhere => Err(ReadError::Fault(outside(word))),
+            Current::Process(process) => self.process_word(alloc, process, word, texts),
+            Current::Feed(feed) => self.feed_word(alloc, feed, word, texts),
+        }
+    }
+
+    /// A line, by its word.
+    #[tactic(auto, unfolding(crate::specs::Reading::word_onto))]
+    fn word_line(&mut self, alloc: Global, word: &[u8], texts: &[&[u8]]) -> Result<(), ReadError>
+        requires few { length self.old.streams.entries ≤ MOST_STREAMS }
+        requires modules { self.old.modules < 2 ^ 63 }
+        ensures { Gives (λ _. draft_view self.new) result (reading.word_onto (draft_view self.old) word.now (map (λ text. text.now) texts.now)) }
+    {
+        if word == b"stream".as_slice() {
+            self.close()?;
+            return self.stream_line(texts);
+        }
+        if word == b"process".as_slice() {
+            self.close()?;
+            return self.process_line(alloc, texts);
+        }
+        if word == b"feed".as_slice() {
+            self.close()?;
+            return self.feed_line(alloc, texts);
+        }
+        self.inner_line(alloc, word, texts)
+    }
+
+    /// A line, by its fields. One without fields says nothing.
+    fn fields_line(&mut self, alloc: Global, texts: &[&[u8]]) -> Result<(), ReadError>
+        requires few { length self.old.streams.entries ≤ MOST_STREAMS }
+        requires modules { self.old.modules < 2 ^ 63 }
+        ensures { Gives (λ _. draft_view self.new) result (reading.fields_onto (draft_view self.old) (map (λ text. text.now) texts.now)) }
+    {
+        match texts {
+            [] => Ok(()),
+            [word, texts @ ..] => self.word_line(alloc, word, texts),
+        }
+    }
+
+    /// What a line says is added. Its length is judged first, and a comment, which begins with `#`, for
+    /// nothing else.
+    #[tactic(auto, unfolding(crate::specs::Reading::line_onto))]
+    pub(crate) fn line(&mut self, alloc: Global, line: &[u8]) -> Result<(), ReadError>
+        requires few { length self.old.streams.entries ≤ MOST_STREAMS }
+        requires modules { self.old.modules < 2 ^ 63 }
+        ensures { Gives (λ _. draft_view self.new) result (reading.line_onto (draft_view self.old) line.now) }
+    {
+        if line.len() > LONGEST_LINE {
+            return Err(ReadError::Fault(Cause::TooLong));
+        }
+        if line.first() == Some(&b'#') {
+            return Ok(());
+        }
+        if !is_allowed(line) {
+            return Err(ReadError::Fault(Cause::Byte));
+        }
+        let texts = fields(alloc, line)?;
+        self.fields_line(alloc, &texts)
+    }
+
+    /// The plan that the lines make. Refused for want of memory alone.
+    pub(crate) fn finish(mut self) -> Result<Plan, ReadError>
+        ensures { Gives plan_view result (Ok (reading.plan_of (draft_view self))) }
+    {
+        self.close()?;
+        let Draft {
+            streams,
+            processes,
+            feeds,
+            modules: _,
+            current: _,
+        } = self;
+        Ok(Plan {
+            streams,
+            processes,
+            feeds,
+        })
+    }
+}

@@ -1,0 +1,21 @@
+//! A script, read into a plan: how streams are made, which calls each process makes on them, and what lines
+//! are fed with.
+#![tactic(auto)]
+
+mod call;
+mod call_line;
+mod draft;
+mod fault;
+mod names;
+mod parsing;
+mod plan;
+mod setup;
+mod target;
+#[cfg(test)]
+mod tests;
+
+pub use call::CallDecl;
+pub use fault::ScriptFault;
+pub use parsing::{LONGEST_SCRIPT, parse};
+pub use plan::{CallLine, FeedDecl, Name, Plan, ProcessDecl};
+pub use strm_verb::{Cause, PushDecl};

@@ -1,0 +1,69 @@
+//! Names that are given once.
+ghost use Rattle.std.specs.Prelude.{◌≡◌, ◌++◌, ◌∷◌, [], false, map, IfOk, Ok};
+ghost use Rattle.std.specs.List.{list_any};
+ghost use Rattle.std.specs.Str.{bytes_eq};
+ghost use Rattle.strm_plan.specs.Plan.{process_view, streams_view};
+ghost use Rattle.strm_plan.specs.Reading as reading;
+ghost use Rattle.strm_plan.specs.Targets.{stream_names};
+ghost use Rattle.strm_verb.specs.Fault.{Gives};
+
+use crate::plan::{LONGEST, Name, ProcessDecl};
+use indexmap::IndexMap;
+use strm_shared::Setup;
+use strm_text::name;
+use strm_verb::{Cause, ReadError};
+
+/// Whether a stream has this name.
+fn has_stream(streams: &IndexMap<Name, Setup>, chosen: &Name) -> bool
+    ensures { result ≡ list_any (bytes_eq chosen.now.items) (stream_names (streams_view streams.now.entries)) }
+{
+    streams.contains_key(chosen)
+}
+
+/// Whether a process has this name.
+fn has_process(processes: &[ProcessDecl], chosen: &Name) -> bool
+    ensures { result ≡ list_any (bytes_eq chosen.now.items) (map (λ process. process.name) (map process_view processes.now)) }
+{
+    processes.iter().any(|process| *chosen == process.name)
+}
+
+/// The name of a stream to come. Refused where the text is no name, or a stream has it.
+pub(crate) fn stream_name(streams: &IndexMap<Name, Setup>, text: &[u8]) -> Result<Name, ReadError>
+    ensures unused { IfOk result (λ name. list_any (bytes_eq name.items) (stream_names (streams_view streams.now.entries)) ≡ false) }
+    ensures name { Gives (λ name. name.items) result (reading.fresh_name (stream_names (streams_view streams.now.entries)) text.now) }
+{
+    let Some(chosen) = name::<LONGEST>(text) else {
+        return Err(ReadError::Fault(Cause::Name));
+    };
+    if has_stream(streams, &chosen) {
+        return Err(ReadError::Fault(Cause::Name));
+    }
+    Ok(chosen)
+}
+
+/// The name of a process to come. Refused where the text is no name, a process has it, or it is `line`,
+/// which stands for arrivals in a transcript.
+pub(crate) fn process_name(processes: &[ProcessDecl], text: &[u8]) -> Result<Name, ReadError>
+    ensures { Gives (λ name. name.items) result (reading.process_name (map process_view processes.now) text.now) }
+{
+    let Some(chosen) = name::<LONGEST>(text) else {
+        return Err(ReadError::Fault(Cause::Name));
+    };
+    if has_process(processes, &chosen) || chosen.as_slice() == b"line".as_slice() {
+        return Err(ReadError::Fault(Cause::Name));
+    }
+    Ok(chosen)
+}
+
+/// A stream of a new name goes last. Refused for want of memory alone.
+pub(crate) fn add_stream(
+    streams: &mut IndexMap<Name, Setup>,
+    chosen: Name,
+    setup: Setup,
+) -> Result<(), ReadError>
+    requires { list_any (bytes_eq chosen.items) (stream_names (streams_view streams.old.entries)) ≡ false }
+    ensures { Gives (λ _. streams_view streams.new.entries) result (Ok (streams_view streams.old.entries ++ (chosen.items, setup) ∷ [])) }
+{
+    streams.insert(chosen, setup)?;
+    Ok(())
+}

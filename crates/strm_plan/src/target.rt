@@ -1,0 +1,52 @@
+//! NAME:END, the stream and its end that a call goes to.
+ghost use Rattle.std.specs.Prelude.{◌≡◌, ◌≤◌, length};
+ghost use Rattle.strm_plan.specs.Plan.{streams_view};
+ghost use Rattle.strm_plan.specs.Targets as targets;
+ghost use Rattle.strm_plan.specs.declared.draft.TheConstants.{MOST_STREAMS};
+
+use crate::plan::{LONGEST, Name};
+use indexmap::IndexMap;
+use strm_head::Driver;
+use strm_msg::End;
+use strm_shared::Setup;
+use strm_text::{name, split_once};
+
+/// The end that a word names: `a`, or `b` of a loop stream; nothing for another word.
+fn end_of(driver: Driver, text: &[u8]) -> Option<End>
+    ensures { result ≡ targets.end_of driver text.now }
+{
+    match (driver, text) {
+        (Driver::Loop, b"b") => Some(End::B),
+        (_, b"a") => Some(End::A),
+        _ => None,
+    }
+}
+
+/// The number of the stream of this name, and its driver; nothing where there is none.
+fn stream_of(streams: &IndexMap<Name, Setup>, wanted: &Name) -> Option<(u32, Driver)>
+    requires { length streams.now.entries ≤ MOST_STREAMS }
+    ensures { result ≡ targets.stream_of (streams_view streams.now.entries) wanted.now.items }
+{
+    let (number, _, setup) = streams.get_full(wanted)?;
+    Some((number as u32, setup.driver))
+}
+
+/// The number of the stream that a field names, and its driver; nothing where it names none.
+pub(crate) fn stream_at(streams: &IndexMap<Name, Setup>, text: &[u8]) -> Option<(u32, Driver)>
+    requires { length streams.now.entries ≤ MOST_STREAMS }
+    ensures { result ≡ targets.stream_at (streams_view streams.now.entries) text.now }
+{
+    let wanted = name::<LONGEST>(text)?;
+    stream_of(streams, &wanted)
+}
+
+/// The number of the stream and the end that NAME:END names; nothing where it names none.
+pub(crate) fn target_of(streams: &IndexMap<Name, Setup>, text: &[u8]) -> Option<(u32, End)>
+    requires { length streams.now.entries ≤ MOST_STREAMS }
+    ensures { result ≡ targets.target_of (streams_view streams.now.entries) text.now }
+{
+    let (name, end) = split_once(text, b':')?;
+    let (number, driver) = stream_at(streams, name)?;
+    let end = end_of(driver, end)?;
+    Some((number, end))
+}

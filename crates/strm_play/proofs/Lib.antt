@@ -1,0 +1,2 @@
+pub mod MoreLemmas
+pub mod PlanLemmas

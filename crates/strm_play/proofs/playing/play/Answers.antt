@@ -1,0 +1,47 @@
+use Rattle.std.proofs.Common.{◌≡◌, [], length, get_or, rules, arith, ap, ◌∙◌, Ok}
+use Rattle.strm_plan.specs.Plan.{plan_view}
+use Rattle.strm_plan.specs.Reading.{spelt}
+use Rattle.strm_plan.specs.declared.plan.Plan.{Plan}
+use Rattle.strm_run.specs.Scripts.{calls_on}
+use Rattle.strm_play.proofs.PlanLemmas.{setups_meet, feeds_meet, few_setups, few_scripts, script_calls, fed_of_plan}
+use Rattle.strm_play.proofs.playing.play.Goals as goal
+
+pub returns-in_err-plan-2-clause-fault : goal.returns-in_err-plan-2-clause-fault
+returns-in_err-plan-2-clause-fault g c =
+    let read : (plan : Plan) × (spelt c.args.bytes.now ≡ Ok (plan_view plan)) = (c.in_ok-plan.plan, c.in_ok-plan.ensures.spells) in
+    search rules
+
+pub run-requires-clause-few : goal.run-requires-clause-few
+run-requires-clause-few g c κs within = (
+  few_setups 64 _ c.in_ok-plan.plan.streams.entries c.in_ok-plan-2.ensures.setups c.in_ok-plan.ensures.sound.few_streams (omega arith),
+  few_scripts 256 _ c.in_ok-plan.plan.processes.items c.in_ok-plan-2.ensures.scripts c.in_ok-plan.ensures.sound.few_processes (omega arith),
+)
+
+pub run-requires-clause-setups : goal.run-requires-clause-setups
+run-requires-clause-setups g c κs within =
+    rw c.in_ok-plan-2.ensures.setups (setups_meet c.in_ok-plan.plan.streams.entries c.in_ok-plan.ensures.sound.setups)
+
+pub run-requires-clause-feeds : goal.run-requires-clause-feeds
+run-requires-clause-feeds g c κs within =
+    feeds_meet _ c.in_ok-plan.plan.feeds.items c.in_ok-plan-2.ensures.feeds c.in_ok-plan.ensures.sound.lines
+
+pub returns-in_err-transcript-clause-fault : goal.returns-in_err-transcript-clause-fault
+returns-in_err-transcript-clause-fault g c =
+    let read : (plan : Plan) × (spelt c.args.bytes.now ≡ Ok (plan_view plan)) = (c.in_ok-plan.plan, c.in_ok-plan.ensures.spells) in
+    search rules
+
+pub returns-clause-played : goal.returns-clause-played
+returns-clause-played g c =
+    let handed = c.in_ok-plan-2.ensures in
+    let ran = c.in_ok-transcript.ensures in
+    let as_many = ap (λ l. length l) handed.setups in
+    record {
+      plan = c.in_ok-plan.plan;
+      spells = c.in_ok-plan.ensures.spells;
+      streams = handed.streams;
+      names = handed.names;
+      many = ran.many ∙ as_many;
+      legal = λ k setup log under. rw (← handed.setups) (ran.legal k setup log (rw as_many under));
+      calls = λ k caller log under. ran.calls k caller log (rw as_many under) ∙ ap (λ calls. calls_on k calls) (script_calls _ caller ∙ ap (λ all. get_or all caller []) handed.scripts);
+      arrivals = λ k log under. fed_of_plan _ _ c.in_ok-plan.plan.feeds.items k handed.feeds (ran.arrivals k log (rw as_many under));
+    }

@@ -1,0 +1,60 @@
+//! Why a script was not played.
+use std::fmt;
+use strm_msg::NoMem;
+use strm_plan::ScriptFault;
+use strm_run::RunFault;
+use thiserror::Error;
+
+/// Why a script was not played.
+#[derive(Clone, Copy, Debug, PartialEq, Eq, Error)]
+pub enum PlayFault {
+    /// It is no script.
+    Script(ScriptFault),
+    /// It was read, and its run gave no transcript.
+    Run(RunFault),
+}
+
+/// Printed as `line N: C TEXT`, or as `run fault N TEXT`.
+impl fmt::Display for PlayFault {
+    fn fmt<W: fmt::Write>(&self, f: &mut fmt::Formatter<W>) -> fmt::Result {
+        match self {
+            PlayFault::Script(fault) => write!(f, "{fault}"),
+            PlayFault::Run(fault) => write!(f, "run fault {} {}", fault.number(), fault.text()),
+        }
+    }
+}
+
+impl From<ScriptFault> for PlayFault {
+    ghost use Rattle.std.specs.Prelude.{◌≡◌};
+    ghost use Rattle.strm_play.specs.declared.fault.PlayFault.TheVariants as Faults;
+
+    ghost from_gives = { λ fault made. made ≡ Faults.Script fault };
+
+    fn from(fault: ScriptFault) -> Self {
+        PlayFault::Script(fault)
+    }
+}
+
+impl From<RunFault> for PlayFault {
+    ghost use Rattle.std.specs.Prelude.{◌≡◌};
+    ghost use Rattle.strm_play.specs.declared.fault.PlayFault.TheVariants as Faults;
+
+    ghost from_gives = { λ fault made. made ≡ Faults.Run fault };
+
+    fn from(fault: RunFault) -> Self {
+        PlayFault::Run(fault)
+    }
+}
+
+/// Want of memory between reading and running is the run's.
+impl From<NoMem> for PlayFault {
+    ghost use Rattle.std.specs.Prelude.{◌≡◌};
+    ghost use Rattle.strm_run.specs.declared.fault.RunFault.{RunFault};
+    ghost use Rattle.strm_play.specs.declared.fault.PlayFault.TheVariants as Faults;
+
+    ghost from_gives = { λ _ made. made ≡ Faults.Run RunFault.NoMem };
+
+    fn from(_: NoMem) -> Self {
+        PlayFault::Run(RunFault::NoMem)
+    }
+}

@@ -1,0 +1,122 @@
+//! What a run is given of a plan.
+ghost use Rattle.std.specs.Prelude.{◌≡◌, ◌++◌, ◌∷◌, [], map, IfOk};
+ghost use Rattle.strm_play.specs.Playing.{setups_of, played_call, played_line, calls_of_processes, calls_of_scripts, fed, played_fed, names_of};
+
+use indexmap::IndexMap;
+use std::alloc::Global;
+use strm_module::{Instance, Plain};
+use strm_msg::NoMem;
+use strm_plan::{CallDecl, CallLine, FeedDecl, Name, Plan, ProcessDecl};
+use strm_run::{Feed, Script, ScriptCall};
+use strm_shared::{Call, Setup};
+
+/// The modules of scripts: each acts by its shape alone.
+pub type Module = Instance<Plain>;
+
+/// What a run is given, and the plan without it.
+#[derive(Drop)]
+pub struct Handed {
+    /// The plan, whose processes have their names and no calls, and which has no feeds.
+    pub plan: Plan,
+    /// How each stream is made, in order of declaration.
+    pub setups: Vec<Setup>,
+    /// The calls of each process, in order. Each push has the module that was declared.
+    pub scripts: Vec<Script<Module>>,
+    /// The feeds.
+    pub feeds: Vec<Feed>,
+}
+
+/// How each stream is made, in order of declaration.
+fn setups(alloc: Global, streams: &IndexMap<Name, Setup>) -> Result<Vec<Setup>, NoMem>
+    ensures { IfOk result (λ all. all.items ≡ map (λ entry. entry.1) streams.now.entries) }
+{
+    let all = streams.values().copied().collect(alloc)?;
+    Ok(all)
+}
+
+/// A call, with the module that it declares if it is a push. Refused for want of memory alone.
+fn call(alloc: Global, call: CallDecl) -> Result<Call<Module>, NoMem>
+    ensures { IfOk result (λ made. made ≡ played_call call) }
+{
+    let Some(shape) = call.push() else {
+        return Ok(call.plain());
+    };
+    let module = Instance::new(shape.copy(alloc)?, Plain);
+    Ok(call.with_module(module))
+}
+
+/// The calls of a process, in order. Refused for want of memory alone.
+fn script(alloc: Global, lines: Vec<CallLine>) -> Result<Script<Module>, NoMem>
+    ensures { IfOk result (λ made. made.calls.items ≡ map played_line lines.items) }
+{
+    let mut calls = Vec::with_capacity(alloc, lines.len())?;
+    for line in lines {
+        let CallLine { stream, call: decl } = line;
+        let call = call(alloc, decl)?;
+        calls.push(ScriptCall { stream, call })?;
+    }
+    Ok(Script { calls })
+}
+
+/// The calls of each process, and the processes without them. Refused for want of memory alone.
+fn scripts(
+    alloc: Global,
+    processes: Vec<ProcessDecl>,
+) -> Result<(Vec<ProcessDecl>, Vec<Script<Module>>), NoMem>
+    ensures names { IfOk result (λ both. names_of both.0.items ≡ names_of processes.items) }
+    ensures calls { IfOk result (λ both. calls_of_scripts both.1.items ≡ calls_of_processes processes.items) }
+{
+    let mut named = Vec::with_capacity(alloc, processes.len())?;
+    let mut all = Vec::with_capacity(alloc, processes.len())?;
+    for process in processes {
+        let ProcessDecl { name, calls } = process;
+        all.push(script(alloc, calls)?)?;
+        let calls = Vec::new(alloc);
+        named.push(ProcessDecl { name, calls })?;
+    }
+    Ok((named, all))
+}
+
+/// The feeds, for a run. Refused for want of memory alone.
+fn feeds(alloc: Global, decls: Vec<FeedDecl>) -> Result<Vec<Feed>, NoMem>
+    ensures { IfOk result (λ all. map played_fed all.items ≡ map fed decls.items) }
+{
+    let mut all = Vec::with_capacity(alloc, decls.len())?;
+    for decl in decls {
+        let FeedDecl { stream, messages } = decl;
+        all.push(Feed { stream, messages })?;
+    }
+    Ok(all)
+}
+
+/// What a run is given of a plan: how each stream is made, each process's calls and each feed. What is
+/// left of the plan are the names of its streams and processes, by which a transcript is printed.
+///
+/// Refused for want of memory alone.
+pub fn hand_over(alloc: Global, plan: Plan) -> Result<Handed, NoMem>
+    ensures streams { IfOk result (λ handed. handed.plan.streams ≡ plan.streams) }
+    ensures names { IfOk result (λ handed. names_of handed.plan.processes.items ≡ names_of plan.processes.items) }
+    ensures setups { IfOk result (λ handed. handed.setups.items ≡ setups_of plan) }
+    ensures scripts { IfOk result (λ handed. calls_of_scripts handed.scripts.items ≡ calls_of_processes plan.processes.items) }
+    ensures feeds { IfOk result (λ handed. map played_fed handed.feeds.items ≡ map fed plan.feeds.items) }
+{
+    let Plan {
+        streams,
+        processes,
+        feeds: decls,
+    } = plan;
+    let setups = setups(alloc, &streams)?;
+    let (processes, scripts) = scripts(alloc, processes)?;
+    let feeds = feeds(alloc, decls)?;
+    let plan = Plan {
+        streams,
+        processes,
+        feeds: Vec::new(alloc),
+    };
+    Ok(Handed {
+        plan,
+        setups,
+        scripts,
+        feeds,
+    })
+}

@@ -1,0 +1,6 @@
+//! Worked examples, from scripts to transcripts, by the public calls alone. What is expected is worked out
+//! by hand from the rules.
+#![tactic(auto)]
+
+#[cfg(test)]
+mod tests;

@@ -1,0 +1,9 @@
+use Rattle.std.proofs.Common.{take, map}
+use Rattle.std.specs.Io.KnownBytes.{Appends}
+use Rattle.strm_plan.specs.Plan.{process_view}
+use Rattle.strm_script.specs.Lines.{entries_text}
+use Rattle.strm_script.proofs.entry.put_entries.Given as goal
+
+-- the steps so far are written
+abbrev pub invariant-loop-entry : goal.invariant-loop-entry
+invariant-loop-entry g l = Appends (g.W.Write.contents l.fn.w) (g.W.Write.contents l.w) (entries_text (map process_view l.processes) l.stream (take l.entry-index l.entries))

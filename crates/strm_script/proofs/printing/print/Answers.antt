@@ -1,0 +1,16 @@
+use Rattle.std.proofs.Common.{◌≡◌, ◌∙◌, ap, refl, sym, length, map, slice_get, Some, List}
+use Rattle.std.proofs.lemmas.Option.{slice_get_read}
+use Rattle.strm_module.specs.declared.kind.Kind.{Kind}
+use Rattle.strm_run.specs.declared.transcript.StreamLog.{StreamLog}
+use Rattle.strm_plan.specs.Plan.{process_view, streams_view}
+use Rattle.strm_script.proofs.LineLemmas.{one_more_written}
+use Rattle.strm_script.proofs.printing.print.Goals as goal
+
+pub loop-number-preserved : goal.loop-number-preserved
+loop-number-preserved g c =
+    let log = c.log-item.result in
+    let number = c.loop-number.number in
+    let seen = c.deref-log-items.result.now in
+    let found : slice_get seen number ≡ Some log = slice_get_read seen (length seen) number log refl c.loop-number-test.true c.log-item.is in
+    let is : slice_get c.args.transcript.now.streams.items number ≡ Some log = rw c.deref-log-items.ensures.value at found in
+    one_more_written _ _ _ (map process_view c.args.plan.now.processes.items) (streams_view c.args.plan.now.streams.entries) c.args.transcript.now.streams.items number log is c.loop-number.invariant c.in_ok-put_numbered.ensures

@@ -1,0 +1,102 @@
+-- How the fields of calls, of modules and of messages are printed. The words and the fields of a call are those by which a
+-- script is read.
+use Rattle.std.specs.Prelude.{ℕ, ◌==◌, not, List, [], ◌∷◌, ◌++◌, map, filter, slice_index, Option, Some, None, codes}
+use Rattle.std.specs.List.{flat_map, range_with_len}
+use Rattle.std.specs.Fmt.{decimal}
+use Rattle.strm_msg.specs.Message.{Msg}
+use Rattle.strm_msg.specs.Text.{name_of}
+use Rattle.strm_msg.specs.declared.kind.MsgKind.{MsgKind}
+use Rattle.strm_msg.specs.declared.kind.MsgKind.TheVariants.{MData, MProto, MPcproto, MFlush, MHangup, MError}
+use Rattle.strm_queue.specs.Queue.{WaterMarks}
+use Rattle.strm_module.specs.declared.kind.Kind.{Kind}
+use Rattle.strm_module.specs.declared.shape.Shape.{Shape}
+use Rattle.strm_text.specs.Spelling.{part_text}
+use Rattle.strm_verb.specs.Words.{flush_word}
+use Rattle.strm_verb.specs.Field.{Field, Bytes, Number, Pair, Word, part_field}
+use Rattle.strm_verb.specs.Push.{kind_word}
+use Rattle.strm_verb.specs.Table.{Asked, Told, Pushed}
+use Rattle.strm_verb.specs.Arrival.{message_word}
+use Rattle.strm_verb.specs.declared.push.KindWord.{KindWord}
+use Rattle.strm_verb.specs.declared.arrival.MessageWord.{MessageWord}
+use Rattle.strm_verb.specs.declared.verb.Verb.{Verb}
+
+abbrev pub text_of : Field → List ℕ
+text_of (Bytes bytes) = part_text bytes
+text_of (Number n) = decimal n
+text_of (Pair high low) = decimal high ++ 47 ∷ decimal low
+text_of (Word word) = word
+
+-- each behind a space
+abbrev pub spaced : List Field → List ℕ
+spaced fields = flat_map (λ field. 32 ∷ text_of field) fields
+
+-- ---- modules
+
+abbrev pub word_of_kind : Kind → KindWord
+word_of_kind Kind.Pass = KindWord.Pass
+word_of_kind (Kind.Table map) = KindWord.Table
+word_of_kind Kind.CrNl = KindWord.CrNl
+word_of_kind (Kind.Line partial) = KindWord.Line
+word_of_kind (Kind.Count n) = KindWord.Count
+word_of_kind (Kind.Band b) = KindWord.Band
+word_of_kind Kind.Tee = KindWord.Tee
+word_of_kind Kind.Mute = KindWord.Mute
+
+-- all bytes, ascending
+unfoldable pub all_bytes : List ℕ
+all_bytes = range_with_len 0 256
+
+-- the bytes that a table changes, ascending
+abbrev pub changed : List ℕ → List ℕ
+changed table = filter (λ byte. not (slice_index table byte == byte)) all_bytes
+
+-- what the table makes of them
+abbrev pub images : List ℕ → List ℕ
+images table = map (slice_index table) (changed table)
+
+-- what a kind has behind the marks
+abbrev pub own_fields : Kind → List Field
+own_fields (Kind.Table table) = Bytes (changed table) ∷ Bytes (images table) ∷ []
+own_fields (Kind.Band b) = Number b ∷ []
+own_fields kind = []
+
+-- the marks of a side, or `-` where the module has no queue there
+abbrev pub side_field : Option WaterMarks → Field
+side_field None = Word (codes "-")
+side_field (Some marks) = Pair marks.hi marks.lo
+
+-- KIND NAME RD WR, and what the kind has
+abbrev pub push_fields : Shape Kind → List Field
+push_fields shape =
+    Word (kind_word (word_of_kind shape.kind)) ∷ Word shape.name.items ∷ side_field shape.rd ∷ side_field shape.wr ∷ own_fields shape.kind
+
+-- ---- calls
+
+abbrev pub verb_of : Asked → Verb
+verb_of (Told verb fields) = verb
+verb_of (Pushed shape) = Verb.Push
+
+-- the fields behind NAME:END
+abbrev pub fields_of : Asked → List Field
+fields_of (Told verb fields) = fields
+fields_of (Pushed shape) = push_fields shape
+
+-- ---- messages that came in
+
+-- of a flush of all bands, or of one, which alone has a word of its own
+abbrev pub flush_fields : Option ℕ → List ℕ → List Field
+flush_fields None flags = Word (message_word MessageWord.Flush) ∷ Word flags ∷ []
+flush_fields (Some band) flags = Word (codes "flushband") ∷ Number band ∷ Word flags ∷ []
+
+abbrev pub message_fields_by : MsgKind → Msg → List Field
+message_fields_by MData m = Word (message_word MessageWord.Data) ∷ Number m.band ∷ part_field m.dat ∷ []
+message_fields_by MProto m = Word (message_word MessageWord.Proto) ∷ Number m.band ∷ part_field m.ctl ∷ part_field m.dat ∷ []
+message_fields_by MPcproto m = Word (message_word MessageWord.Pcproto) ∷ part_field m.ctl ∷ part_field m.dat ∷ []
+message_fields_by (MFlush r w band) m = flush_fields band (flush_word r w)
+message_fields_by MHangup m = Word (message_word MessageWord.Hangup) ∷ []
+message_fields_by (MError errno) m = Word (message_word MessageWord.Error) ∷ Word (name_of errno) ∷ []
+message_fields_by kind m = []
+
+-- a message as a feed has it; nothing of a kind that comes from no line
+abbrev pub message_fields : Msg → List Field
+message_fields m = message_fields_by m.kind m

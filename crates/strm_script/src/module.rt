@@ -1,0 +1,93 @@
+//! Modules that are pushed.
+ghost use Rattle.std.specs.Prelude.{◌≡◌, ◌∷◌, [], OnOk};
+ghost use Rattle.std.specs.Io.KnownBytes.{Appends};
+ghost use Rattle.strm_script.specs.Fields as text;
+
+use crate::field::{put_number, put_pair, put_part, put_word};
+use arrayvec::ArrayVec;
+use std::io::{self, Write};
+use strm_module::{Kind, Shape};
+use strm_queue::Marks;
+use strm_verb::KindWord;
+
+/// The word of a kind.
+fn word_of(kind: &Kind) -> KindWord
+    ensures { result ≡ text.word_of_kind kind.now }
+{
+    match kind {
+        Kind::Pass => KindWord::Pass,
+        Kind::Table { .. } => KindWord::Table,
+        Kind::CrNl => KindWord::CrNl,
+        Kind::Line { .. } => KindWord::Line,
+        Kind::Count { .. } => KindWord::Count,
+        Kind::Band { .. } => KindWord::Band,
+        Kind::Tee => KindWord::Tee,
+        Kind::Mute => KindWord::Mute,
+    }
+}
+
+/// The bytes that a table changes, ascending.
+#[tactic(auto, using(crate::proofs::TableLemmas::one_changed, crate::proofs::TableLemmas::one_kept))]
+fn changed(table: &[u8; 256]) -> ArrayVec<u8, 256>
+    ensures { result.items ≡ text.changed table.now }
+{
+    let mut all = ArrayVec::new();
+    for at in 0..256 {
+        if table[at] != at as u8 {
+            all.push(at as u8);
+        }
+    }
+    all
+}
+
+/// What a table makes of the bytes that it changes.
+#[tactic(auto, using(crate::proofs::TableLemmas::one_image, crate::proofs::TableLemmas::one_image_kept))]
+fn images(table: &[u8; 256]) -> ArrayVec<u8, 256>
+    ensures { result.items ≡ text.images table.now }
+{
+    let mut all = ArrayVec::new();
+    for at in 0..256 {
+        if table[at] != at as u8 {
+            all.push(table[at]);
+        }
+    }
+    all
+}
+
+/// Writes what a kind has behind the marks.
+#[tactic(auto, using(strm_text::proofs::WriteLemmas::appends_then))]
+fn put_own<W: Write>(w: &mut W, kind: &Kind) -> io::Result<()>
+    ensures { OnOk result (Appends (W.contents w.old) (W.contents w.new) (text.spaced (text.own_fields kind.now))) }
+{
+    match kind {
+        Kind::Table { map } => {
+            put_part(w, changed(map).as_slice())?;
+            put_part(w, images(map).as_slice())
+        }
+        Kind::Band { b } => put_number(w, u64::from(*b)),
+        Kind::Pass | Kind::CrNl | Kind::Line { .. } | Kind::Count { .. } | Kind::Tee | Kind::Mute =>
+            Ok(()),
+    }
+}
+
+/// Writes the marks of a side, or `-` where the module has no queue there.
+fn put_side<W: Write>(w: &mut W, side: Option<Marks>) -> io::Result<()>
+    ensures { OnOk result (Appends (W.contents w.old) (W.contents w.new) (text.spaced (text.side_field side ∷ []))) }
+{
+    match side {
+        None => put_word(w, b"-"),
+        Some(marks) => put_pair(w, marks.hi, marks.lo),
+    }
+}
+
+/// Writes a module: its kind, its name, the marks of its sides, and what the kind has.
+#[tactic(auto, using(strm_text::proofs::WriteLemmas::appends_then))]
+pub(crate) fn put_module<W: Write>(w: &mut W, shape: &Shape) -> io::Result<()>
+    ensures { OnOk result (Appends (W.contents w.old) (W.contents w.new) (text.spaced (text.push_fields shape.now))) }
+{
+    put_word(w, word_of(&shape.kind).word())?;
+    put_word(w, shape.name.as_slice())?;
+    put_side(w, shape.rd)?;
+    put_side(w, shape.wr)?;
+    put_own(w, &shape.kind)
+}

@@ -1,0 +1,47 @@
+//! What a run leaves, as text.
+ghost use Rattle.std.specs.Prelude.{OnOk, map};
+ghost use Rattle.std.specs.Io.KnownBytes.{Appends};
+ghost use Rattle.strm_plan.specs.Plan.{plan_view, process_view, streams_view};
+ghost use Rattle.strm_script.specs.Lines.{numbered_text, transcript_text};
+
+use crate::stream::put_stream;
+use std::io::{self, Write};
+use strm_module::Kind;
+use strm_plan::Plan;
+use strm_run::{StreamLog, Transcript};
+
+/// Writes the lines of the stream of this number; nothing where the plan has none.
+fn put_numbered<W: Write>(
+    w: &mut W,
+    plan: &Plan,
+    number: usize,
+    log: &StreamLog<Kind>,
+) -> io::Result<()>
+    ensures { OnOk result (Appends (W.contents w.old) (W.contents w.new) (numbered_text (plan_view plan.now) number log.now)) }
+{
+    match plan.streams.get_index(number) {
+        Some((name, setup)) => {
+            put_stream(w, plan.processes.as_slice(), name.as_slice(), setup, log)
+        }
+        None => Ok(()),
+    }
+}
+
+/// Prints a transcript of a plan's run to a writer: stream after stream, each with the name by which the
+/// plan declares it.
+///
+/// Of a stream come its name, each step in order with who made it and what was answered, end A, end B
+/// where it is a loop, and how many messages of its feed were accepted, came in and were handed back
+/// where it is a line. Streams without a log, and logs without a stream, are not printed.
+///
+/// Refused where the writer is, and with its error, after what could be written; for nothing else. Takes
+/// no memory.
+#[tactic(auto, using(crate::proofs::LineLemmas::one_more_written, crate::proofs::LineLemmas::none_written))]
+pub fn print<W: Write>(transcript: &Transcript<Kind>, plan: &Plan, w: &mut W) -> io::Result<()>
+    ensures text { OnOk result (Appends (W.contents w.old) (W.contents w.new) (transcript_text (plan_view plan.now) transcript.now.streams.items)) }
+{
+    for (number, log) in transcript.streams.iter().enumerate() {
+        put_numbered(w, plan, number, log)?;
+    }
+    Ok(())
+}

@@ -1,0 +1,166 @@
+//! What a call was answered.
+ghost use Rattle.std.specs.Prelude.{◌≡◌, OnOk};
+ghost use Rattle.std.specs.Io.KnownBytes.{Appends};
+ghost use Rattle.strm_script.specs.Fields.{spaced};
+ghost use Rattle.strm_script.specs.Lines.{answer_text};
+ghost use Rattle.strm_script.specs.Replies as text;
+
+use crate::field::{put_names, put_number, put_part, put_part_or_none, put_word};
+use std::io::{self, Write};
+use strm_call::{Acknowledged, Answer, More, Peeked, Received, Reply};
+use strm_verb::{mode_word, priority_word, prot_word};
+
+/// The word of which parts stay.
+fn more_word(more: More) -> &'static [u8]
+    ensures { result.now ≡ text.more_word more }
+{
+    match more {
+        More::Nothing => b"0",
+        More::Ctl => b"ctl",
+        More::Data => b"data",
+        More::Both => b"both",
+    }
+}
+
+/// The word of whether something holds.
+fn holds_word(holds: bool) -> &'static [u8]
+    ensures { result.now ≡ text.holds_word holds }
+{
+    if holds { b"1" } else { b"0" }
+}
+
+/// Writes the band of what getpmsg took, or that it was of high priority.
+#[tactic(auto, using(strm_text::proofs::WriteLemmas::appends_then))]
+fn put_received<W: Write>(w: &mut W, flag: Received) -> io::Result<()>
+    ensures { OnOk result (Appends (W.contents w.old) (W.contents w.new) (spaced (text.received_fields flag))) }
+{
+    match flag {
+        Received::Band { band } => {
+            put_word(w, b"band")?;
+            put_number(w, band)
+        }
+        Received::Hipri => put_word(w, b"hipri"),
+    }
+}
+
+/// Writes what a peek has seen, or that there was nothing to see.
+#[tactic(auto, using(strm_text::proofs::WriteLemmas::appends_then))]
+fn put_peeked<W: Write>(w: &mut W, found: &Option<Peeked>) -> io::Result<()>
+    ensures { OnOk result (Appends (W.contents w.old) (W.contents w.new) (spaced (text.peeked_fields found.now))) }
+{
+    match found {
+        None => put_word(w, b"none"),
+        Some(seen) => {
+            put_part_or_none(w, &seen.ctl)?;
+            put_part_or_none(w, &seen.dat)?;
+            put_word(w, priority_word(seen.flag))
+        }
+    }
+}
+
+/// Writes what became of an ioctl.
+#[tactic(auto, using(strm_text::proofs::WriteLemmas::appends_then))]
+fn put_acknowledged<W: Write>(w: &mut W, answer: &Acknowledged) -> io::Result<()>
+    ensures { OnOk result (Appends (W.contents w.old) (W.contents w.new) (spaced (text.acknowledged_fields answer.now))) }
+{
+    match answer {
+        Acknowledged::Ack { rval, dat } => {
+            put_number(w, *rval)?;
+            put_part_or_none(w, dat)
+        }
+        Acknowledged::Nak { errno } => {
+            put_word(w, b"nak")?;
+            put_word(w, errno.name().as_bytes())
+        }
+        Acknowledged::Timeout => put_word(w, b"ETIME"),
+    }
+}
+
+/// Writes what a call that is done gives back.
+#[tactic(auto, using(strm_text::proofs::WriteLemmas::appends_then))]
+fn put_reply<W: Write>(w: &mut W, reply: &Reply) -> io::Result<()>
+    ensures { OnOk result (Appends (W.contents w.old) (W.contents w.new) (spaced (text.reply_fields reply.now))) }
+{
+    match reply {
+        Reply::Putmsg
+        | Reply::Putpmsg
+        | Reply::Push
+        | Reply::SetRead
+        | Reply::Flush
+        | Reply::FlushBand
+        | Reply::Line => put_word(w, b"0"),
+        Reply::Getmsg {
+            ctl,
+            dat,
+            flag,
+            more,
+        } => {
+            put_part_or_none(w, ctl)?;
+            put_part_or_none(w, dat)?;
+            put_word(w, priority_word(*flag))?;
+            put_word(w, more_word(*more))
+        }
+        Reply::Getpmsg {
+            ctl,
+            dat,
+            flag,
+            more,
+        } => {
+            put_part_or_none(w, ctl)?;
+            put_part_or_none(w, dat)?;
+            put_received(w, *flag)?;
+            put_word(w, more_word(*more))
+        }
+        Reply::Read { dat } => put_part(w, dat.as_slice()),
+        Reply::Write { len } => put_number(w, *len),
+        Reply::Nread { messages, bytes } => {
+            put_number(w, *messages)?;
+            put_number(w, *bytes)
+        }
+        Reply::Peek { found } => put_peeked(w, found),
+        Reply::GetRead { mode, prot } => {
+            put_word(w, mode_word(*mode))?;
+            put_word(w, prot_word(*prot))
+        }
+        Reply::Canput { can } => put_word(w, holds_word(*can)),
+        Reply::Ckband { waits } => put_word(w, holds_word(*waits)),
+        Reply::Getband { band } => put_number(w, *band),
+        Reply::Pop { name } => {
+            put_word(w, b"popped")?;
+            put_word(w, name.as_slice())
+        }
+        Reply::Look { name } => put_word(w, name.as_slice()),
+        Reply::List { names } => put_names(w, names.as_slice()),
+        Reply::Find { found } => put_word(w, holds_word(*found)),
+        Reply::Str { answer } => put_acknowledged(w, answer),
+        Reply::Close { names } => {
+            put_word(w, b"closed")?;
+            put_names(w, names.as_slice())
+        }
+    }
+}
+
+/// Writes a reply, the name of the errno of a refusal, or that the stream broke.
+#[tactic(auto, using(strm_text::proofs::WriteLemmas::appends_then))]
+fn put_said<W: Write>(w: &mut W, answer: &Answer) -> io::Result<()>
+    ensures { OnOk result (Appends (W.contents w.old) (W.contents w.new) (spaced (text.answer_fields answer.now))) }
+{
+    match answer {
+        Answer::Done(reply) => put_reply(w, reply),
+        Answer::Refused(refusal) => put_word(w, refusal.errno().name().as_bytes()),
+        Answer::Broke => {
+            put_word(w, b"ENOSR")?;
+            put_word(w, b"broke")
+        }
+    }
+}
+
+/// Writes ` : `, an answer, and the end of the line.
+#[tactic(auto, using(strm_text::proofs::WriteLemmas::appends_then), unfolding(crate::specs::Lines::answer_text))]
+pub(crate) fn put_answer<W: Write>(w: &mut W, answer: &Answer) -> io::Result<()>
+    ensures { OnOk result (Appends (W.contents w.old) (W.contents w.new) (answer_text answer.now)) }
+{
+    put_word(w, b":")?;
+    put_said(w, answer)?;
+    w.write_all(b"\n")
+}

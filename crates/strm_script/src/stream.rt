@@ -1,0 +1,119 @@
+//! The lines of a stream.
+ghost use Rattle.std.specs.Prelude.{◌≡◌, ◌∷◌, ◌++◌, [], OnOk, codes, map};
+ghost use Rattle.std.specs.Io.KnownBytes.{Appends};
+ghost use Rattle.strm_plan.specs.Plan.{process_view};
+ghost use Rattle.strm_verb.specs.Field.{Number, Word};
+ghost use Rattle.strm_script.specs.Fields.{spaced};
+ghost use Rattle.strm_script.specs.Lines as text;
+
+use crate::entry::{end_word, put_entries};
+use crate::field::{put_names, put_number, put_word};
+use arrayvec::ArrayVec;
+use std::io::{self, Write};
+use strm_call::Name;
+use strm_head::{Driver, MOST_MODULES};
+use strm_module::Kind;
+use strm_msg::End;
+use strm_plan::ProcessDecl;
+use strm_run::StreamLog;
+use strm_shared::Setup;
+
+/// Writes an end: open, with the names of its modules, topmost first, or closed.
+#[tactic(auto, using(strm_text::proofs::WriteLemmas::appends_then), unfolding(crate::specs::Lines::end_text))]
+fn put_end<W: Write>(
+    w: &mut W,
+    end: End,
+    names: &Option<ArrayVec<Name, MOST_MODULES>>,
+) -> io::Result<()>
+    ensures { OnOk result (Appends (W.contents w.old) (W.contents w.new) (text.end_text end names.now)) }
+{
+    match names {
+        None => {
+            w.write_all(b"closed")?;
+            put_word(w, end_word(end))?;
+            w.write_all(b"\n")
+        }
+        Some(names) => {
+            w.write_all(b"open")?;
+            put_word(w, end_word(end))?;
+            put_names(w, names.as_slice())?;
+            w.write_all(b"\n")
+        }
+    }
+}
+
+/// Writes end B, which a loop alone has.
+fn put_far_end<W: Write>(
+    w: &mut W,
+    driver: Driver,
+    names: &Option<ArrayVec<Name, MOST_MODULES>>,
+) -> io::Result<()>
+    ensures { OnOk result (Appends (W.contents w.old) (W.contents w.new) (text.far_end_text driver names.now)) }
+{
+    match driver {
+        Driver::Loop => put_end(w, End::B, names),
+        Driver::Echo | Driver::Line => Ok(()),
+    }
+}
+
+/// Writes how many messages something became of.
+#[tactic(auto, using(strm_text::proofs::WriteLemmas::appends_then))]
+fn put_count<W: Write>(w: &mut W, word: &[u8], n: u64) -> io::Result<()>
+    ensures { OnOk result (Appends (W.contents w.old) (W.contents w.new) (spaced (Word word.now ∷ Number n ∷ []))) }
+{
+    put_word(w, word)?;
+    put_number(w, n)
+}
+
+/// Writes how many messages of a feed were accepted, came in, and were handed back.
+#[tactic(auto, using(strm_text::proofs::WriteLemmas::appends_then), unfolding(crate::specs::Lines::counts_text))]
+fn put_counts<W: Write>(w: &mut W, log: &StreamLog<Kind>) -> io::Result<()>
+    ensures { OnOk result (Appends (W.contents w.old) (W.contents w.new) (text.counts_text log.now)) }
+{
+    put_count(w, b"accepted", log.accepted)?;
+    put_count(w, b"arrived", log.arrived)?;
+    put_count(w, b"overrun", log.overrun)
+}
+
+/// Writes what became of the messages of a feed, which a line alone has.
+#[tactic(auto, using(strm_text::proofs::WriteLemmas::appends_then), unfolding(crate::specs::Lines::feed_text))]
+fn put_feed<W: Write>(w: &mut W, driver: Driver, log: &StreamLog<Kind>) -> io::Result<()>
+    ensures { OnOk result (Appends (W.contents w.old) (W.contents w.new) (text.feed_text driver log.now)) }
+{
+    match driver {
+        Driver::Line => {
+            w.write_all(b"feed")?;
+            put_counts(w, log)?;
+            w.write_all(b"\n")
+        }
+        Driver::Echo | Driver::Loop => Ok(()),
+    }
+}
+
+/// Writes the line with a stream's name.
+#[tactic(auto, using(strm_text::proofs::WriteLemmas::appends_then))]
+fn put_heading<W: Write>(w: &mut W, name: &[u8]) -> io::Result<()>
+    ensures { OnOk result (Appends (W.contents w.old) (W.contents w.new) (codes "stream" ++ spaced (Word name.now ∷ []) ++ (10 ∷ []))) }
+{
+    w.write_all(b"stream")?;
+    put_word(w, name)?;
+    w.write_all(b"\n")
+}
+
+/// Writes the lines of a stream: its name, its steps, its ends, and what became of its feed.
+#[tactic(auto, using(strm_text::proofs::WriteLemmas::appends_then), unfolding(crate::specs::Lines::stream_text))]
+pub(crate) fn put_stream<W: Write>(
+    w: &mut W,
+    processes: &[ProcessDecl],
+    name: &[u8],
+    setup: &Setup,
+    log: &StreamLog<Kind>,
+) -> io::Result<()>
+    ensures { OnOk result (Appends (W.contents w.old) (W.contents w.new) (text.stream_text (map process_view processes.now) name.now setup.now log.now)) }
+{
+    put_heading(w, name)?;
+    put_entries(w, processes, name, log.history.as_slice())?;
+    put_end(w, End::A, &log.a)?;
+    put_far_end(w, setup.driver, &log.b)?;
+    put_feed(w, setup.driver, log)
+}

@@ -1,0 +1,85 @@
+-- The messages of a feed, whose parts are no greater than those that a call may send.
+use Rattle.std.specs.Prelude.{ℕ, ◌==◌, Bool, true, false, List, [], ◌∷◌, Option, None, Result, Ok, Err, codes, if◌then◌else◌}
+use Rattle.std.specs.Str.{bytes_eq}
+use Rattle.std.specs.List.{find}
+use Rattle.strm_msg.specs.Message.{Msg, bare, data_msg, proto_msg, pcproto_msg}
+use Rattle.strm_msg.specs.declared.kind.MsgKind.TheVariants.{MFlush, MHangup, MError}
+use Rattle.strm_call.specs.declared.request.TheConstants.{MAX_CONTROL, MAX_DATA}
+use Rattle.strm_verb.specs.Fault.{◌>>=◌}
+use Rattle.strm_verb.specs.Words.{flush_word}
+use Rattle.strm_verb.specs.Field.{number_at, part_upto, optional_upto, errno_at}
+use Rattle.strm_verb.specs.declared.fault.Cause.{Cause}
+use Rattle.strm_verb.specs.declared.fault.Cause.TheVariants as causes
+use Rattle.strm_verb.specs.declared.arrival.MessageWord.{MessageWord}
+
+-- the word of a message
+abbrev pub message_word : MessageWord → List ℕ
+message_word MessageWord.Data = codes "data"
+message_word MessageWord.Proto = codes "proto"
+message_word MessageWord.Pcproto = codes "pcproto"
+message_word MessageWord.Flush = codes "flush"
+message_word MessageWord.Hangup = codes "hangup"
+message_word MessageWord.Error = codes "error"
+
+abbrev pub all_messages : List MessageWord
+all_messages = MessageWord.Data ∷ MessageWord.Proto ∷ MessageWord.Pcproto ∷ MessageWord.Flush ∷ MessageWord.Hangup ∷ MessageWord.Error ∷ []
+
+-- the message that a word names
+abbrev pub message_named : List ℕ → Option MessageWord
+message_named text = find (λ word. bytes_eq (message_word word) text) all_messages
+
+-- the sides that a flush is for, read and write
+abbrev pub flush_at : List ℕ → Result (Bool × Bool) Cause
+flush_at text =
+    if bytes_eq text (flush_word true true) then Ok (true, true)
+    else (if bytes_eq text (flush_word true false) then Ok (true, false)
+    else (if bytes_eq text (flush_word false true) then Ok (false, true)
+    else (if bytes_eq text (flush_word false false) then Ok (false, false) else Err causes.UnknownWord)))
+
+-- BAND PART
+abbrev pub data_at : List (List ℕ) → Result Msg Cause
+data_at (band ∷ dat ∷ []) = do
+  b ← number_at 255 band
+  bytes ← part_upto MAX_DATA dat
+  Ok (data_msg b bytes)
+data_at texts = Err causes.Fields
+
+-- BAND PART DAT
+abbrev pub proto_at : List (List ℕ) → Result Msg Cause
+proto_at (band ∷ ctl ∷ dat ∷ []) = do
+  b ← number_at 255 band
+  control ← part_upto MAX_CONTROL ctl
+  bytes ← optional_upto MAX_DATA dat
+  Ok (proto_msg b control bytes)
+proto_at texts = Err causes.Fields
+
+-- PART DAT
+abbrev pub pcproto_at : List (List ℕ) → Result Msg Cause
+pcproto_at (ctl ∷ dat ∷ []) = do
+  control ← part_upto MAX_CONTROL ctl
+  bytes ← optional_upto MAX_DATA dat
+  Ok (pcproto_msg control bytes)
+pcproto_at texts = Err causes.Fields
+
+-- FLAGS
+abbrev pub flush_msg_at : List (List ℕ) → Result Msg Cause
+flush_msg_at (flags ∷ []) = flush_at flags >>= λ sides. Ok (bare (MFlush sides.0 sides.1 None))
+flush_msg_at texts = Err causes.Fields
+
+abbrev pub hangup_at : List (List ℕ) → Result Msg Cause
+hangup_at [] = Ok (bare MHangup)
+hangup_at (text ∷ texts) = Err causes.Fields
+
+-- ERRNO
+abbrev pub error_at : List (List ℕ) → Result Msg Cause
+error_at (text ∷ []) = errno_at text >>= λ errno. Ok (bare (MError errno))
+error_at texts = Err causes.Fields
+
+-- the message that this word with these fields says
+abbrev pub message_at : MessageWord → List (List ℕ) → Result Msg Cause
+message_at MessageWord.Data texts = data_at texts
+message_at MessageWord.Proto texts = proto_at texts
+message_at MessageWord.Pcproto texts = pcproto_at texts
+message_at MessageWord.Flush texts = flush_msg_at texts
+message_at MessageWord.Hangup texts = hangup_at texts
+message_at MessageWord.Error texts = error_at texts

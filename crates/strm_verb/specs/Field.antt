@@ -1,0 +1,110 @@
+-- What a field may be, and what it says.
+use Rattle.std.specs.Prelude.{ℕ, ◌==◌, nat_lt, nat_le, List, [], ◌∷◌, length, Option, Some, None, Result, Ok, Err, codes, if◌then◌else◌}
+use Rattle.std.specs.Str.{bytes_eq}
+use Rattle.std.specs.List.{list_any, find}
+use Rattle.strm_msg.specs.Text.{name_of}
+use Rattle.strm_msg.specs.declared.errno.Errno.{Errno}
+use Rattle.strm_queue.specs.Queue.{WaterMarks}
+use Rattle.strm_text.specs.Text.{number_of, part_of, halves_of}
+use Rattle.strm_verb.specs.Fault.{◌>>=◌, or_fault}
+use Rattle.strm_verb.specs.Words.{all_errnos}
+use Rattle.strm_verb.specs.declared.fault.Cause.{Cause}
+use Rattle.strm_verb.specs.declared.fault.Cause.TheVariants as causes
+
+-- what a field may be
+pub data Form : Type 0 where
+  -- a part
+  Whole : Form
+  -- a part, or `-` for none
+  Optional : Form
+  -- a number of bytes up to 65535, or `-1` for none
+  Maximum : Form
+  -- a number up to a limit
+  Upto : (most : ℕ) → Form
+  -- one of these words
+  Choice : (words : List (List ℕ)) → Form
+
+-- what a field says
+pub data Field : Type 0 where
+  Bytes : (bytes : List ℕ) → Field
+  Number : (n : ℕ) → Field
+  Pair : (high low : ℕ) → Field
+  Word : (word : List ℕ) → Field
+
+-- a part that may be missing
+abbrev pub part_field : Option (List ℕ) → Field
+part_field None = Word (codes "-")
+part_field (Some bytes) = Bytes bytes
+
+-- a maximum that may be missing
+abbrev pub maximum_field : Option ℕ → Field
+maximum_field None = Word (codes "-1")
+maximum_field (Some n) = Number n
+
+-- ---- reading
+
+abbrev pub number_at : ℕ → List ℕ → Result ℕ Cause
+number_at most text = or_fault causes.Number (number_of most text)
+
+abbrev pub part_at : List ℕ → Result (List ℕ) Cause
+part_at text = or_fault causes.Part (part_of text)
+
+abbrev pub optional_at : List ℕ → Result (Option (List ℕ)) Cause
+optional_at text = if bytes_eq text (codes "-") then Ok None else (part_at text >>= λ bytes. Ok (Some bytes))
+
+-- a maximum that is missing is the two bytes `-1`, and nothing else
+abbrev pub maximum_at : List ℕ → Result (Option ℕ) Cause
+maximum_at text = if bytes_eq text (codes "-1") then Ok None else (number_at 65535 text >>= λ n. Ok (Some n))
+
+abbrev pub choice_at : List (List ℕ) → List ℕ → Result (List ℕ) Cause
+choice_at words text = if list_any (bytes_eq text) words then Ok text else Err causes.UnknownWord
+
+-- what a field of some form says
+abbrev pub field_at : Form → List ℕ → Result Field Cause
+field_at Whole text = part_at text >>= λ bytes. Ok (Bytes bytes)
+field_at Optional text = optional_at text >>= λ part. Ok (part_field part)
+field_at Maximum text = maximum_at text >>= λ most. Ok (maximum_field most)
+field_at (Upto most) text = number_at most text >>= λ n. Ok (Number n)
+field_at (Choice words) text = choice_at words text >>= λ word. Ok (Word word)
+
+-- what fields say, from left to right
+abbrev pub each_at : List Form → List (List ℕ) → Result (List Field) Cause
+each_at [] texts = Ok []
+each_at (form ∷ forms) [] = Err causes.Fields
+each_at (form ∷ forms) (text ∷ texts) = do
+  field ← field_at form text
+  others ← each_at forms texts
+  Ok (field ∷ others)
+
+-- their number is judged before the first of them
+abbrev pub fields_at : List Form → List (List ℕ) → Result (List Field) Cause
+fields_at forms texts = if length texts == length forms then each_at forms texts else Err causes.Fields
+
+-- ---- fields of lines that are no calls, and of pushes
+
+-- HI/LO, the low mark below the high one
+abbrev pub marks_at : List ℕ → Result (ℕ × ℕ) Cause
+marks_at text = do
+  halves ← or_fault causes.Number (halves_of 47 text)
+  high ← number_at 4294967295 halves.0
+  low ← number_at 4294967295 halves.1
+  if nat_lt low high then Ok (high, low) else Err causes.Marks
+
+-- marks as a pair, the high one first
+abbrev pub pair_of : WaterMarks → ℕ × ℕ
+pair_of marks = (marks.hi, marks.lo)
+
+-- the marks of a side of a module, or `-` where it has no queue there
+abbrev pub side_at : List ℕ → Result (Option WaterMarks) Cause
+side_at text = if bytes_eq text (codes "-") then Ok None else (marks_at text >>= λ marks. Ok (Some (record { hi = marks.0; lo = marks.1 })))
+
+-- a part of some bytes at most
+unfoldable pub part_upto : ℕ → List ℕ → Result (List ℕ) Cause
+part_upto most text = part_at text >>= λ bytes. if nat_le (length bytes) most then Ok bytes else Err causes.Part
+
+-- one that may be missing
+abbrev pub optional_upto : ℕ → List ℕ → Result (Option (List ℕ)) Cause
+optional_upto most text = if bytes_eq text (codes "-") then Ok None else (part_upto most text >>= λ bytes. Ok (Some bytes))
+
+abbrev pub errno_at : List ℕ → Result Errno Cause
+errno_at text = or_fault causes.UnknownWord (find (λ errno. bytes_eq (name_of errno) text) all_errnos)

@@ -1,0 +1,6 @@
+pub mod Fault
+pub mod Words
+pub mod Field
+pub mod Push
+pub mod Table
+pub mod Arrival

@@ -1,0 +1,100 @@
+-- A push: the kind of the module, and the fields that follow from it.
+use Rattle.std.specs.Prelude.{ℕ, ◌+◌, ◌==◌, ◌&&◌, Bool, true, not, List, [], ◌∷◌, length, map, get_or, Result, Ok, Err, Option, codes, if◌then◌else◌}
+use Rattle.std.specs.Str.{bytes_eq}
+use Rattle.std.specs.List.{list_any, find, position_or_len, range_with_len}
+use Rattle.strm_module.specs.declared.kind.Kind.{Kind}
+use Rattle.strm_module.specs.declared.shape.Shape.{Shape}
+use Rattle.strm_module.specs.declared.shape.TheConstants.{LONGEST_NAME}
+use Rattle.strm_text.specs.Text.{name_of}
+use Rattle.strm_verb.specs.Fault.{◌>>=◌, or_fault}
+use Rattle.strm_verb.specs.Field.{number_at, part_at, side_at}
+use Rattle.strm_verb.specs.declared.fault.Cause.{Cause}
+use Rattle.strm_verb.specs.declared.fault.Cause.TheVariants as causes
+use Rattle.strm_verb.specs.declared.push.KindWord.{KindWord}
+use Rattle.strm_verb.specs.declared.push.KindWord.TheVariants as words
+
+-- the word of a kind
+abbrev pub kind_word : KindWord → List ℕ
+kind_word words.Pass = codes "pass"
+kind_word words.Table = codes "table"
+kind_word words.CrNl = codes "crnl"
+kind_word words.Line = codes "line"
+kind_word words.Count = codes "count"
+kind_word words.Band = codes "band"
+kind_word words.Tee = codes "tee"
+kind_word words.Mute = codes "mute"
+
+abbrev pub all_kinds : List KindWord
+all_kinds = words.Pass ∷ words.Table ∷ words.CrNl ∷ words.Line ∷ words.Count ∷ words.Band ∷ words.Tee ∷ words.Mute ∷ []
+
+-- the kind that a word names
+abbrev pub kind_named : List ℕ → Option KindWord
+kind_named text = find (λ word. bytes_eq (kind_word word) text) all_kinds
+
+-- how many fields a kind has for itself
+abbrev pub own_fields : KindWord → ℕ
+own_fields words.Table = 2
+own_fields words.Band = 1
+own_fields word = 0
+
+-- how many fields follow NAME:END in a push: KIND, NAME, RD, WR, and those of the kind
+abbrev pub push_arity : List (List ℕ) → Result ℕ Cause
+push_arity [] = Err causes.Fields
+push_arity (kind ∷ texts) = or_fault causes.UnknownWord (kind_named kind) >>= λ word. Ok (own_fields word + 4)
+
+-- each byte stands there once
+abbrev pub are_distinct : List ℕ → Bool
+are_distinct [] = true
+are_distinct (byte ∷ bytes) = not (list_any (λ other. other == byte) bytes) && are_distinct bytes
+
+-- a table can map these bytes to those
+abbrev pub is_mapping : List ℕ → List ℕ → Bool
+is_mapping from to = (length from == length to) && are_distinct from
+
+-- what a table makes of a byte: the one in the same place, or where there is no such place the byte itself
+abbrev pub image_of : List ℕ → List ℕ → ℕ → ℕ
+image_of from to byte = get_or to (position_or_len (λ other. other == byte) from) byte
+
+-- the table of all bytes
+unfoldable pub table_of : List ℕ → List ℕ → List ℕ
+table_of from to = map (image_of from to) (range_with_len 0 256)
+
+-- FROM and TO
+abbrev pub table_at : List (List ℕ) → Result Kind Cause
+table_at (from ∷ to ∷ []) = do
+  one ← part_at from
+  other ← part_at to
+  if is_mapping one other then Ok (Kind.Table (table_of one other)) else Err causes.Part
+table_at texts = Err causes.Fields
+
+-- BAND
+abbrev pub band_at : List (List ℕ) → Result Kind Cause
+band_at (text ∷ []) = number_at 255 text >>= λ band. Ok (Kind.Band band)
+band_at texts = Err causes.Fields
+
+-- a kind without fields of its own
+abbrev pub alone : Kind → List (List ℕ) → Result Kind Cause
+alone kind [] = Ok kind
+alone kind (text ∷ texts) = Err causes.Fields
+
+-- the kind with which a module begins
+abbrev pub kind_at : KindWord → List (List ℕ) → Result Kind Cause
+kind_at words.Pass texts = alone Kind.Pass texts
+kind_at words.Table texts = table_at texts
+kind_at words.CrNl texts = alone Kind.CrNl texts
+kind_at words.Line texts = alone (Kind.Line []) texts
+kind_at words.Count texts = alone (Kind.Count 0) texts
+kind_at words.Band texts = band_at texts
+kind_at words.Tee texts = alone Kind.Tee texts
+kind_at words.Mute texts = alone Kind.Mute texts
+
+-- the module that KIND NAME RD WR and the kind's own fields say, with this serial
+abbrev pub shape_at : ℕ → List (List ℕ) → Result (Shape Kind) Cause
+shape_at serial (kind ∷ name ∷ rd ∷ wr ∷ texts) = do
+  word ← or_fault causes.UnknownWord (kind_named kind)
+  chosen ← or_fault causes.Name (name_of LONGEST_NAME name)
+  read ← side_at rd
+  write ← side_at wr
+  begins ← kind_at word texts
+  Ok (record { serial = serial; name = record { items = chosen }; rd = read; wr = write; kind = begins })
+shape_at serial texts = Err causes.Fields

@@ -1,0 +1,110 @@
+-- The calls of a script: the word of each, and its fields. Reading and printing go by this one table.
+use Rattle.std.specs.Prelude.{ℕ, Bool, true, false, List, [], ◌∷◌, length, Option, Result, Ok, Err, codes, if◌then◌else◌}
+use Rattle.std.specs.Str.{bytes_eq}
+use Rattle.std.specs.List.{find}
+use Rattle.strm_module.specs.declared.kind.Kind.{Kind}
+use Rattle.strm_module.specs.declared.shape.Shape.{Shape}
+use Rattle.strm_call.specs.declared.request.Request.{Request}
+use Rattle.strm_verb.specs.Fault.{◌>>=◌}
+use Rattle.strm_verb.specs.Words.{priority_word, priority_words, put_word, put_words, wanted_word, wanted_words, get_word, get_words, mode_word, mode_words, prot_word, prot_words, flush_word, flush_words}
+use Rattle.strm_verb.specs.Field.{Form, Whole, Optional, Maximum, Upto, Choice, Field, Bytes, Number, Word, part_field, maximum_field, fields_at}
+use Rattle.strm_verb.specs.Push.{push_arity, shape_at}
+use Rattle.strm_verb.specs.declared.fault.Cause.{Cause}
+use Rattle.strm_verb.specs.declared.verb.Verb.{Verb}
+
+-- the word of a call
+abbrev pub word_of : Verb → List ℕ
+word_of Verb.Putmsg = codes "putmsg"
+word_of Verb.Putpmsg = codes "putpmsg"
+word_of Verb.Getmsg = codes "getmsg"
+word_of Verb.Getpmsg = codes "getpmsg"
+word_of Verb.Read = codes "read"
+word_of Verb.Write = codes "write"
+word_of Verb.Push = codes "push"
+word_of Verb.Pop = codes "pop"
+word_of Verb.Look = codes "look"
+word_of Verb.List = codes "list"
+word_of Verb.Find = codes "find"
+word_of Verb.Str = codes "str"
+word_of Verb.Flush = codes "flush"
+word_of Verb.FlushBand = codes "flushband"
+word_of Verb.Nread = codes "nread"
+word_of Verb.Peek = codes "peek"
+word_of Verb.SetRead = codes "setread"
+word_of Verb.GetRead = codes "getread"
+word_of Verb.Canput = codes "canput"
+word_of Verb.Ckband = codes "ckband"
+word_of Verb.Getband = codes "getband"
+word_of Verb.Close = codes "close"
+
+abbrev pub all_verbs : List Verb
+all_verbs = Verb.Putmsg ∷ Verb.Putpmsg ∷ Verb.Getmsg ∷ Verb.Getpmsg ∷ Verb.Read ∷ Verb.Write ∷ Verb.Push ∷ Verb.Pop ∷ Verb.Look ∷ Verb.List ∷ Verb.Find ∷ Verb.Str ∷ Verb.Flush ∷ Verb.FlushBand ∷ Verb.Nread ∷ Verb.Peek ∷ Verb.SetRead ∷ Verb.GetRead ∷ Verb.Canput ∷ Verb.Ckband ∷ Verb.Getband ∷ Verb.Close ∷ []
+
+-- the call that a word names
+abbrev pub verb_named : List ℕ → Option Verb
+verb_named text = find (λ verb. bytes_eq (word_of verb) text) all_verbs
+
+-- the fields of a call behind NAME:END, from left to right. Those of a push hang on the kind of its module, and stand in Push
+abbrev pub forms_of : Verb → List Form
+forms_of Verb.Putmsg = Optional ∷ Optional ∷ Choice priority_words ∷ []
+forms_of Verb.Putpmsg = Optional ∷ Optional ∷ Upto 255 ∷ Choice put_words ∷ []
+forms_of Verb.Getmsg = Maximum ∷ Maximum ∷ Choice wanted_words ∷ []
+forms_of Verb.Getpmsg = Maximum ∷ Maximum ∷ Upto 255 ∷ Choice get_words ∷ []
+forms_of Verb.Read = Upto 65535 ∷ []
+forms_of Verb.Write = Whole ∷ []
+forms_of Verb.Find = Whole ∷ []
+forms_of Verb.Str = Upto 4294967295 ∷ Optional ∷ []
+forms_of Verb.Flush = Choice flush_words ∷ []
+forms_of Verb.FlushBand = Upto 255 ∷ Choice flush_words ∷ []
+forms_of Verb.Peek = Maximum ∷ Maximum ∷ Choice wanted_words ∷ []
+forms_of Verb.SetRead = Choice mode_words ∷ Choice prot_words ∷ []
+forms_of Verb.Canput = Upto 255 ∷ []
+forms_of Verb.Ckband = Upto 255 ∷ []
+forms_of verb = []
+
+abbrev pub is_push : Verb → Bool
+is_push Verb.Push = true
+is_push verb = false
+
+-- what a call asks for: a verb with what its fields say, or a module to be pushed
+pub data Asked : Type 0 where
+  Told : (verb : Verb) → (fields : List Field) → Asked
+  Pushed : (shape : Shape Kind) → Asked
+
+abbrev pub asked_of : Request (Shape Kind) → Asked
+asked_of (Request.Putmsg ctl dat flag) = Told Verb.Putmsg (part_field ctl ∷ part_field dat ∷ Word (priority_word flag) ∷ [])
+asked_of (Request.Putpmsg ctl dat band flag) = Told Verb.Putpmsg (part_field ctl ∷ part_field dat ∷ Number band ∷ Word (put_word flag) ∷ [])
+asked_of (Request.Getmsg maxctl maxdat flag) = Told Verb.Getmsg (maximum_field maxctl ∷ maximum_field maxdat ∷ Word (wanted_word flag) ∷ [])
+asked_of (Request.Getpmsg maxctl maxdat band flag) = Told Verb.Getpmsg (maximum_field maxctl ∷ maximum_field maxdat ∷ Number band ∷ Word (get_word flag) ∷ [])
+asked_of (Request.Read max) = Told Verb.Read (Number max ∷ [])
+asked_of (Request.Write dat) = Told Verb.Write (Bytes dat ∷ [])
+asked_of (Request.Push shape) = Pushed shape
+asked_of Request.Pop = Told Verb.Pop []
+asked_of Request.Look = Told Verb.Look []
+asked_of Request.List = Told Verb.List []
+asked_of (Request.Find name) = Told Verb.Find (Bytes name ∷ [])
+asked_of (Request.Str cmd dat) = Told Verb.Str (Number cmd ∷ part_field dat ∷ [])
+asked_of (Request.Flush r w) = Told Verb.Flush (Word (flush_word r w) ∷ [])
+asked_of (Request.FlushBand band r w) = Told Verb.FlushBand (Number band ∷ Word (flush_word r w) ∷ [])
+asked_of Request.Nread = Told Verb.Nread []
+asked_of (Request.Peek maxctl maxdat flag) = Told Verb.Peek (maximum_field maxctl ∷ maximum_field maxdat ∷ Word (wanted_word flag) ∷ [])
+asked_of (Request.SetRead mode prot) = Told Verb.SetRead (Word (mode_word mode) ∷ Word (prot_word prot) ∷ [])
+asked_of Request.GetRead = Told Verb.GetRead []
+asked_of (Request.Canput band) = Told Verb.Canput (Number band ∷ [])
+asked_of (Request.Ckband band) = Told Verb.Ckband (Number band ∷ [])
+asked_of Request.Getband = Told Verb.Getband []
+asked_of Request.Close = Told Verb.Close []
+
+-- what a call asks for that has no fields
+abbrev pub plain_at : Asked → List (List ℕ) → Result Asked Cause
+plain_at asked texts = fields_at [] texts >>= λ fields. Ok asked
+
+-- how many fields follow NAME:END
+abbrev pub arity_at : Verb → List (List ℕ) → Result ℕ Cause
+arity_at verb texts = if is_push verb then push_arity texts else Ok (length (forms_of verb))
+
+-- what a call of this verb with these fields asks for; the module of a push gets this serial
+abbrev pub request_at : ℕ → Verb → List (List ℕ) → Result Asked Cause
+request_at serial verb texts =
+    if is_push verb then (shape_at serial texts >>= λ shape. Ok (Pushed shape))
+    else (fields_at (forms_of verb) texts >>= λ fields. Ok (Told verb fields))

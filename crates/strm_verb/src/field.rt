@@ -1,0 +1,152 @@
+//! What a field says: numbers, parts, marks.
+ghost use Rattle.std.specs.Prelude.{◌≡◌, ◌≤◌, IfSome};
+ghost use Rattle.strm_text.specs.Text.{number_of};
+ghost use Rattle.strm_verb.specs.Fault.{Gives};
+ghost use Rattle.strm_verb.specs.Field as fields;
+
+use crate::fault::{Cause, ReadError};
+use std::alloc::Global;
+use strm_msg::Bytes;
+use strm_queue::Marks;
+use strm_text::{number, part, split_once};
+
+/// A number that is `most` at most; nothing where the text is none.
+fn limited(text: &[u8], most: u64) -> Option<u64>
+    ensures value { result ≡ number_of most text.now }
+    ensures small { IfSome result (λ n. n ≤ most) }
+{
+    number(text, most)
+}
+
+/// A number that is `most` at most. Refused where the text is none.
+pub fn number_at(text: &[u8], most: u64) -> Result<u64, ReadError>
+    ensures { Gives (λ n. n) result (fields.number_at most text.now) }
+{
+    match limited(text, most) {
+        Some(n) => Ok(n),
+        None => Err(ReadError::Fault(Cause::Number)),
+    }
+}
+
+/// A number up to 255. Refused where the text is none.
+pub(crate) fn byte_at(text: &[u8]) -> Result<u8, ReadError>
+    ensures { Gives (λ n. n) result (fields.number_at 255 text.now) }
+{
+    match limited(text, 255) {
+        Some(n) => Ok(n as u8),
+        None => Err(ReadError::Fault(Cause::Number)),
+    }
+}
+
+/// A number up to 65535. Refused where the text is none.
+pub(crate) fn short_at(text: &[u8]) -> Result<u16, ReadError>
+    ensures { Gives (λ n. n) result (fields.number_at 65535 text.now) }
+{
+    match limited(text, 65_535) {
+        Some(n) => Ok(n as u16),
+        None => Err(ReadError::Fault(Cause::Number)),
+    }
+}
+
+/// A number up to 4294967295. Refused where the text is none.
+pub(crate) fn word_at(text: &[u8]) -> Result<u32, ReadError>
+    ensures { Gives (λ n. n) result (fields.number_at 4294967295 text.now) }
+{
+    match limited(text, 4_294_967_295) {
+        Some(n) => Ok(n as u32),
+        None => Err(ReadError::Fault(Cause::Number)),
+    }
+}
+
+/// The bytes of a part. Refused where the text is none, or for want of memory.
+pub(crate) fn part_at(alloc: Global, text: &[u8]) -> Result<Bytes, ReadError>
+    ensures { Gives (λ bytes. bytes) result (fields.part_at text.now) }
+{
+    match part(alloc, text)? {
+        Some(bytes) => Ok(Bytes::from(bytes)),
+        None => Err(ReadError::Fault(Cause::Part)),
+    }
+}
+
+/// The bytes of a part, or none for `-`. Refused where the text is neither, or for want of memory.
+pub(crate) fn optional_at(alloc: Global, text: &[u8]) -> Result<Option<Bytes>, ReadError>
+    ensures { Gives (λ part. part) result (fields.optional_at text.now) }
+{
+    if text == b"-".as_slice() {
+        return Ok(None);
+    }
+    Ok(Some(part_at(alloc, text)?))
+}
+
+/// A number up to 65535, or none for `-1`. Refused where the text is neither.
+pub(crate) fn maximum_at(text: &[u8]) -> Result<Option<u16>, ReadError>
+    ensures { Gives (λ most. most) result (fields.maximum_at text.now) }
+{
+    if text == b"-1".as_slice() {
+        return Ok(None);
+    }
+    Ok(Some(short_at(text)?))
+}
+
+/// The water marks of `HI/LO`. Refused where a mark is no number, and then where the low one is not
+/// below the high one.
+fn water_at(text: &[u8]) -> Result<Marks, ReadError>
+    ensures { Gives fields.pair_of result (fields.marks_at text.now) }
+{
+    let Some((high, low)) = split_once(text, b'/') else {
+        return Err(ReadError::Fault(Cause::Number));
+    };
+    let high = word_at(high)?;
+    let low = word_at(low)?;
+    match Marks::new(high, low) {
+        Some(marks) => Ok(marks),
+        None => Err(ReadError::Fault(Cause::Marks)),
+    }
+}
+
+/// The high and the low mark of `HI/LO`. Refused where a mark is no number up to 4294967295, and
+/// then where the low one is not below the high one.
+pub fn marks_at(text: &[u8]) -> Result<(u32, u32), ReadError>
+    ensures { Gives (λ marks. marks) result (fields.marks_at text.now) }
+{
+    let marks = water_at(text)?;
+    Ok((marks.hi, marks.lo))
+}
+
+/// The water marks of a side, or none for `-`. Refused as marks are.
+pub(crate) fn side_at(text: &[u8]) -> Result<Option<Marks>, ReadError>
+    ensures { Gives (λ side. side) result (fields.side_at text.now) }
+{
+    if text == b"-".as_slice() {
+        return Ok(None);
+    }
+    Ok(Some(water_at(text)?))
+}
+
+/// The bytes of a part of `most` bytes at most. Refused where the text is none, or for want of
+/// memory.
+#[tactic(auto, unfolding(crate::specs::Field::part_upto))]
+pub(crate) fn part_upto(alloc: Global, text: &[u8], most: usize) -> Result<Bytes, ReadError>
+    ensures { Gives (λ bytes. bytes) result (fields.part_upto most text.now) }
+{
+    let bytes = part_at(alloc, text)?;
+    if bytes.len() > most {
+        return Err(ReadError::Fault(Cause::Part));
+    }
+    Ok(bytes)
+}
+
+/// The bytes of a part of `most` bytes at most, or none for `-`. Refused where the text is neither,
+/// or for want of memory.
+pub(crate) fn optional_upto(
+    alloc: Global,
+    text: &[u8],
+    most: usize,
+) -> Result<Option<Bytes>, ReadError>
+    ensures { Gives (λ part. part) result (fields.optional_upto most text.now) }
+{
+    if text == b"-".as_slice() {
+        return Ok(None);
+    }
+    Ok(Some(part_upto(alloc, text, most)?))
+}

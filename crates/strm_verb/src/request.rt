@@ -1,0 +1,254 @@
+//! The calls of a script, read from their fields.
+ghost use Rattle.std.specs.Prelude.{◌≡◌, map};
+ghost use Rattle.strm_verb.specs.Fault.{Gives};
+ghost use Rattle.strm_verb.specs.Table as table;
+
+use crate::fault::{Cause, ReadError};
+use crate::field::{byte_at, maximum_at, optional_at, part_at, short_at, word_at};
+use crate::push::{PushDecl, shape_at};
+use crate::verb::Verb;
+use crate::words::{flush_at, get_at, mode_at, priority_at, prot_at, put_at, wanted_at};
+use std::alloc::Global;
+use strm_call::Request;
+
+/// `putmsg CTL DAT FLAG`.
+fn putmsg(alloc: Global, texts: &[&[u8]]) -> Result<Request<PushDecl>, ReadError>
+    ensures { Gives table.asked_of result (table.request_at 0 Verb.Putmsg (map (λ text. text.now) texts.now)) }
+{
+    let [ctl, dat, flag] = texts else {
+        return Err(ReadError::Fault(Cause::Fields));
+    };
+    let ctl = optional_at(alloc, ctl)?;
+    let dat = optional_at(alloc, dat)?;
+    let flag = priority_at(flag)?;
+    Ok(Request::Putmsg { ctl, dat, flag })
+}
+
+/// `putpmsg CTL DAT BAND FLAG`.
+fn putpmsg(alloc: Global, texts: &[&[u8]]) -> Result<Request<PushDecl>, ReadError>
+    ensures { Gives table.asked_of result (table.request_at 0 Verb.Putpmsg (map (λ text. text.now) texts.now)) }
+{
+    let [ctl, dat, band, flag] = texts else {
+        return Err(ReadError::Fault(Cause::Fields));
+    };
+    let ctl = optional_at(alloc, ctl)?;
+    let dat = optional_at(alloc, dat)?;
+    let band = byte_at(band)?;
+    let flag = put_at(flag)?;
+    Ok(Request::Putpmsg {
+        ctl,
+        dat,
+        band,
+        flag,
+    })
+}
+
+/// `getmsg MAXCTL MAXDAT FLAG`.
+fn getmsg(texts: &[&[u8]]) -> Result<Request<PushDecl>, ReadError>
+    ensures { Gives table.asked_of result (table.request_at 0 Verb.Getmsg (map (λ text. text.now) texts.now)) }
+{
+    let [maxctl, maxdat, flag] = texts else {
+        return Err(ReadError::Fault(Cause::Fields));
+    };
+    let maxctl = maximum_at(maxctl)?;
+    let maxdat = maximum_at(maxdat)?;
+    let flag = wanted_at(flag)?;
+    Ok(Request::Getmsg {
+        maxctl,
+        maxdat,
+        flag,
+    })
+}
+
+/// `getpmsg MAXCTL MAXDAT BAND FLAG`.
+fn getpmsg(texts: &[&[u8]]) -> Result<Request<PushDecl>, ReadError>
+    ensures { Gives table.asked_of result (table.request_at 0 Verb.Getpmsg (map (λ text. text.now) texts.now)) }
+{
+    let [maxctl, maxdat, band, flag] = texts else {
+        return Err(ReadError::Fault(Cause::Fields));
+    };
+    let maxctl = maximum_at(maxctl)?;
+    let maxdat = maximum_at(maxdat)?;
+    let band = byte_at(band)?;
+    let flag = get_at(flag)?;
+    Ok(Request::Getpmsg {
+        maxctl,
+        maxdat,
+        band,
+        flag,
+    })
+}
+
+/// `read MAX`.
+fn read(texts: &[&[u8]]) -> Result<Request<PushDecl>, ReadError>
+    ensures { Gives table.asked_of result (table.request_at 0 Verb.Read (map (λ text. text.now) texts.now)) }
+{
+    let [max] = texts else {
+        return Err(ReadError::Fault(Cause::Fields));
+    };
+    let max = short_at(max)?;
+    Ok(Request::Read { max })
+}
+
+/// `write DAT`.
+fn write(alloc: Global, texts: &[&[u8]]) -> Result<Request<PushDecl>, ReadError>
+    ensures { Gives table.asked_of result (table.request_at 0 Verb.Write (map (λ text. text.now) texts.now)) }
+{
+    let [dat] = texts else {
+        return Err(ReadError::Fault(Cause::Fields));
+    };
+    let dat = part_at(alloc, dat)?;
+    Ok(Request::Write { dat })
+}
+
+/// `find NAME`.
+fn find(alloc: Global, texts: &[&[u8]]) -> Result<Request<PushDecl>, ReadError>
+    ensures { Gives table.asked_of result (table.request_at 0 Verb.Find (map (λ text. text.now) texts.now)) }
+{
+    let [name] = texts else {
+        return Err(ReadError::Fault(Cause::Fields));
+    };
+    let name = part_at(alloc, name)?;
+    Ok(Request::Find { name })
+}
+
+/// `str CMD DAT`.
+fn str(alloc: Global, texts: &[&[u8]]) -> Result<Request<PushDecl>, ReadError>
+    ensures { Gives table.asked_of result (table.request_at 0 Verb.Str (map (λ text. text.now) texts.now)) }
+{
+    let [cmd, dat] = texts else {
+        return Err(ReadError::Fault(Cause::Fields));
+    };
+    let cmd = word_at(cmd)?;
+    let dat = optional_at(alloc, dat)?;
+    Ok(Request::Str { cmd, dat })
+}
+
+/// `flush SIDES`.
+fn flush(texts: &[&[u8]]) -> Result<Request<PushDecl>, ReadError>
+    ensures { Gives table.asked_of result (table.request_at 0 Verb.Flush (map (λ text. text.now) texts.now)) }
+{
+    let [sides] = texts else {
+        return Err(ReadError::Fault(Cause::Fields));
+    };
+    let (r, w) = flush_at(sides)?;
+    Ok(Request::Flush { r, w })
+}
+
+/// `flushband BAND SIDES`.
+fn flush_band(texts: &[&[u8]]) -> Result<Request<PushDecl>, ReadError>
+    ensures { Gives table.asked_of result (table.request_at 0 Verb.FlushBand (map (λ text. text.now) texts.now)) }
+{
+    let [band, sides] = texts else {
+        return Err(ReadError::Fault(Cause::Fields));
+    };
+    let band = byte_at(band)?;
+    let (r, w) = flush_at(sides)?;
+    Ok(Request::FlushBand { band, r, w })
+}
+
+/// `peek MAXCTL MAXDAT FLAG`.
+fn peek(texts: &[&[u8]]) -> Result<Request<PushDecl>, ReadError>
+    ensures { Gives table.asked_of result (table.request_at 0 Verb.Peek (map (λ text. text.now) texts.now)) }
+{
+    let [maxctl, maxdat, flag] = texts else {
+        return Err(ReadError::Fault(Cause::Fields));
+    };
+    let maxctl = maximum_at(maxctl)?;
+    let maxdat = maximum_at(maxdat)?;
+    let flag = wanted_at(flag)?;
+    Ok(Request::Peek {
+        maxctl,
+        maxdat,
+        flag,
+    })
+}
+
+/// `setread MODE PROT`.
+fn set_read(texts: &[&[u8]]) -> Result<Request<PushDecl>, ReadError>
+    ensures { Gives table.asked_of result (table.request_at 0 Verb.SetRead (map (λ text. text.now) texts.now)) }
+{
+    let [mode, prot] = texts else {
+        return Err(ReadError::Fault(Cause::Fields));
+    };
+    let mode = mode_at(mode)?;
+    let prot = prot_at(prot)?;
+    Ok(Request::SetRead { mode, prot })
+}
+
+/// `canput BAND`.
+fn canput(texts: &[&[u8]]) -> Result<Request<PushDecl>, ReadError>
+    ensures { Gives table.asked_of result (table.request_at 0 Verb.Canput (map (λ text. text.now) texts.now)) }
+{
+    let [band] = texts else {
+        return Err(ReadError::Fault(Cause::Fields));
+    };
+    let band = byte_at(band)?;
+    Ok(Request::Canput { band })
+}
+
+/// `ckband BAND`.
+fn ckband(texts: &[&[u8]]) -> Result<Request<PushDecl>, ReadError>
+    ensures { Gives table.asked_of result (table.request_at 0 Verb.Ckband (map (λ text. text.now) texts.now)) }
+{
+    let [band] = texts else {
+        return Err(ReadError::Fault(Cause::Fields));
+    };
+    let band = byte_at(band)?;
+    Ok(Request::Ckband { band })
+}
+
+/// `push KIND NAME RD WR` and the fields of the kind.
+fn push(alloc: Global, serial: u64, texts: &[&[u8]]) -> Result<Request<PushDecl>, ReadError>
+    ensures { Gives table.asked_of result (table.request_at serial Verb.Push (map (λ text. text.now) texts.now)) }
+{
+    let instance = shape_at(alloc, serial, texts)?;
+    Ok(Request::Push { instance })
+}
+
+/// A call without fields. Refused where there is one.
+fn plain(texts: &[&[u8]], request: Request<PushDecl>) -> Result<Request<PushDecl>, ReadError>
+    ensures { Gives table.asked_of result (table.plain_at (table.asked_of request) (map (λ text. text.now) texts.now)) }
+{
+    match texts {
+        [] => Ok(request),
+        _ => Err(ReadError::Fault(Cause::Fields)),
+    }
+}
+
+/// What a call asks for, by its fields behind NAME:END; the module of a push gets the serial.
+/// Refused where there are others than it has, and then for the first that does not say what it
+/// should.
+pub fn request_at(
+    alloc: Global,
+    serial: u64,
+    verb: Verb,
+    texts: &[&[u8]],
+) -> Result<Request<PushDecl>, ReadError>
+    ensures { Gives table.asked_of result (table.request_at serial verb (map (λ text. text.now) texts.now)) }
+{
+    match verb {
+        Verb::Putmsg => putmsg(alloc, texts),
+        Verb::Putpmsg => putpmsg(alloc, texts),
+        Verb::Getmsg => getmsg(texts),
+        Verb::Getpmsg => getpmsg(texts),
+        Verb::Read => read(texts),
+        Verb::Write => write(alloc, texts),
+        Verb::Push => push(alloc, serial, texts),
+        Verb::Pop => plain(texts, Request::Pop),
+        Verb::Look => plain(texts, Request::Look),
+        Verb::List => plain(texts, Request::List),
+        Verb::Find => find(alloc, texts),
+        Verb::Str => str(alloc, texts),
+        Verb::Flush => flush(texts),
+        Verb::FlushBand => flush_band(texts),
+        Verb::Nread => plain(texts, Request::Nread),
+        Verb::Peek => peek(texts),
+        Verb::SetRead => set_read(texts),
+        Verb::GetRead => plain(texts, Request::GetRead),
+        Verb::Canput => canput(texts),
+        Verb::Ckband => ckband(texts),
+        Verb::Getband => plain(texts, Request::Getband),
+        Verb::Close => plain(texts, Request::Close),
+    }
+}

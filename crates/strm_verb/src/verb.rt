@@ -1,0 +1,157 @@
+//! The calls of a script, by their words.
+ghost use Rattle.std.specs.Prelude.{◌≡◌, length, map};
+ghost use Rattle.strm_verb.specs.Fault.{Gives};
+ghost use Rattle.strm_verb.specs.Table as table;
+
+use crate::fault::ReadError;
+use crate::push::push_arity;
+
+/// A call on an end of a stream.
+#[derive(Clone, Copy, Debug, PartialEq, Eq)]
+pub enum Verb {
+    /// Sends a message (putmsg(2)).
+    Putmsg,
+    /// Sends a message of a band (putpmsg(2)).
+    Putpmsg,
+    /// Takes a message (getmsg(2)).
+    Getmsg,
+    /// Takes a message of a band (getpmsg(2)).
+    Getpmsg,
+    /// Reads bytes (read(2)).
+    Read,
+    /// Writes bytes (write(2)).
+    Write,
+    /// Puts a module in (I_PUSH).
+    Push,
+    /// Takes a module out (I_POP).
+    Pop,
+    /// Asks for the topmost module's name (I_LOOK).
+    Look,
+    /// Asks for all names (I_LIST).
+    List,
+    /// Asks for a module (I_FIND).
+    Find,
+    /// Sends an ioctl (I_STR).
+    Str,
+    /// Flushes all bands (I_FLUSH).
+    Flush,
+    /// Flushes one band (I_FLUSHBAND).
+    FlushBand,
+    /// Asks how many messages wait (I_NREAD).
+    Nread,
+    /// Looks at the first message (I_PEEK).
+    Peek,
+    /// Sets how reads treat messages (I_SRDOPT).
+    SetRead,
+    /// Asks how reads treat messages (I_GRDOPT).
+    GetRead,
+    /// Asks whether a band could be sent to (I_CANPUT).
+    Canput,
+    /// Asks whether a message of a band waits (I_CKBAND).
+    Ckband,
+    /// Asks for the band of the first message (I_GETBAND).
+    Getband,
+    /// Closes the end (close(2)).
+    Close,
+}
+
+/// Each call.
+const VERBS: [Verb; 22] = [
+    Verb::Putmsg,
+    Verb::Putpmsg,
+    Verb::Getmsg,
+    Verb::Getpmsg,
+    Verb::Read,
+    Verb::Write,
+    Verb::Push,
+    Verb::Pop,
+    Verb::Look,
+    Verb::List,
+    Verb::Find,
+    Verb::Str,
+    Verb::Flush,
+    Verb::FlushBand,
+    Verb::Nread,
+    Verb::Peek,
+    Verb::SetRead,
+    Verb::GetRead,
+    Verb::Canput,
+    Verb::Ckband,
+    Verb::Getband,
+    Verb::Close,
+];
+
+impl Verb {
+    /// The word of the call.
+    pub fn word(self) -> &'static [u8]
+        ensures { result.now ≡ table.word_of self }
+    {
+        match self {
+            Verb::Putmsg => b"putmsg",
+            Verb::Putpmsg => b"putpmsg",
+            Verb::Getmsg => b"getmsg",
+            Verb::Getpmsg => b"getpmsg",
+            Verb::Read => b"read",
+            Verb::Write => b"write",
+            Verb::Push => b"push",
+            Verb::Pop => b"pop",
+            Verb::Look => b"look",
+            Verb::List => b"list",
+            Verb::Find => b"find",
+            Verb::Str => b"str",
+            Verb::Flush => b"flush",
+            Verb::FlushBand => b"flushband",
+            Verb::Nread => b"nread",
+            Verb::Peek => b"peek",
+            Verb::SetRead => b"setread",
+            Verb::GetRead => b"getread",
+            Verb::Canput => b"canput",
+            Verb::Ckband => b"ckband",
+            Verb::Getband => b"getband",
+            Verb::Close => b"close",
+        }
+    }
+
+    /// The call of this word; nothing where no call has it.
+    pub fn named(text: &[u8]) -> Option<Verb>
+        ensures { result ≡ table.verb_named text.now }
+    {
+        for verb in VERBS {
+            if verb.word() == text {
+                return Some(verb);
+            }
+        }
+        None
+    }
+
+    /// How many fields the call has behind NAME:END, where it is no push.
+    fn count(self) -> usize
+        ensures { result ≡ length (table.forms_of self) }
+    {
+        match self {
+            Verb::Putpmsg | Verb::Getpmsg => 4,
+            Verb::Putmsg | Verb::Getmsg | Verb::Peek => 3,
+            Verb::Str | Verb::FlushBand | Verb::SetRead => 2,
+            Verb::Read | Verb::Write | Verb::Find | Verb::Flush | Verb::Canput | Verb::Ckband => 1,
+            Verb::Push
+            | Verb::Pop
+            | Verb::Look
+            | Verb::List
+            | Verb::Nread
+            | Verb::GetRead
+            | Verb::Getband
+            | Verb::Close => 0,
+        }
+    }
+
+    /// How many fields the call has behind NAME:END; for a push that hangs on the first of them,
+    /// which is refused where it is missing or names no kind of module.
+    pub fn arity(self, texts: &[&[u8]]) -> Result<usize, ReadError>
+        ensures { Gives (λ n. n) result (table.arity_at self (map (λ text. text.now) texts.now)) }
+    {
+        if matches!(self, Verb::Push) {
+            return push_arity(texts);
+        }
+        Ok(self.count())
+    }
+}

@@ -1,5 +1,5 @@
 -- What is read of fields: marks that are fit, rings that can be made, and messages that come from a line.
-use Rattle.std.proofs.Common.{◌≡◌, ◌<◌, ℕ, ◌+◌, ◌==◌, ◌&&◌, ◌||◌, not, nat_lt, nat_le, Bool, true, false, cond, List, [], ◌∷◌, length, Option, Some, None, Result, Ok, Err, refl, arith}
+use Rattle.std.proofs.Common.{◌≡◌, ◌<◌, ℕ, ◌&&◌, ◌||◌, not, nat_lt, nat_le, Bool, true, false, cond, List, [], ◌∷◌, length, Option, Some, None, Ok, Err, refl, arith}
 use Rattle.std.specs.Option.{option_and_then}
 use Rattle.strm_msg.specs.Message.{Msg, bare, data_msg, proto_msg, pcproto_msg}
 use Rattle.strm_msg.specs.Kind.{is_from_line}
@@ -12,11 +12,10 @@ use Rattle.strm_shared.specs.Setup.{is_fit, is_ring}
 use Rattle.strm_shared.specs.declared.setup.Setup.{Setup}
 use Rattle.strm_shared.specs.declared.setup.TheConstants.{MOST_RING}
 use Rattle.strm_text.specs.Text.{number_of, number_from, halves_of}
-use Rattle.strm_verb.specs.Fault.{◌>>=◌, or_fault}
+use Rattle.strm_verb.specs.Fault.{or_fault}
 use Rattle.strm_verb.specs.Field.{number_at, marks_at, part_upto, optional_upto, errno_at}
 use Rattle.strm_verb.specs.Arrival.{message_at, data_at, proto_at, pcproto_at, flush_at, flush_msg_at, hangup_at, error_at}
 use Rattle.strm_verb.specs.declared.arrival.MessageWord.{MessageWord}
-use Rattle.strm_verb.specs.declared.fault.Cause.{Cause}
 use Rattle.strm_verb.specs.declared.fault.Cause.TheVariants as causes
 use Rattle.strm_plan.specs.Reading.{ring_at, rings_at, setup_at}
 use Rattle.strm_plan.proofs.StepLemmas.{through, on, passed, under, same, same_found, found_in}

@@ -1,5 +1,5 @@
 -- Each line keeps what a run asks of a plan.
-use Rattle.std.proofs.Common.{◌≡◌, ◌≤◌, ◌<◌, ℕ, ◌+◌, ◌==◌, ◌&&◌, not, nat_lt, Bool, true, false, cond, List, [], ◌∷◌, ◌++◌, length, slice_index, codes, Option, Some, None, Result, Ok, Err, refl, sym, ap, arith}
+use Rattle.std.proofs.Common.{◌≡◌, ◌≤◌, ℕ, ◌+◌, ◌==◌, nat_lt, Bool, true, false, cond, List, [], ◌∷◌, ◌++◌, length, slice_index, codes, Result, Ok, Err, refl, arith}
 use Rattle.std.specs.List.{All, list_all}
 use Rattle.std.specs.Str.{bytes_eq}
 use Rattle.std.proofs.lemmas.Bool.{ltb-true}
@@ -19,12 +19,12 @@ use Rattle.strm_verb.specs.declared.arrival.MessageWord.{MessageWord}
 use Rattle.strm_verb.specs.declared.fault.Cause.{Cause}
 use Rattle.strm_verb.specs.declared.fault.Cause.TheVariants as causes
 use Rattle.strm_verb.specs.declared.verb.Verb.{Verb}
-use Rattle.strm_plan.specs.Plan.{Call, Process, Fed, Streams, Partial, Place, Nowhere, In_process, In_feed}
-use Rattle.strm_plan.specs.Reading.{ended, ended_at, plan_of, fresh_name, driver_at, setup_arity, setup_at, setup_onto, declared_at, has_room, with_stream, stream_onto, process_name, with_process, process_onto, has_feed, with_feed, feed_onto, call_at, with_call, call_onto, with_message, message_onto, inner_onto, outside, word_onto, fields_onto, line_onto, modules_after, nothing_yet}
+use Rattle.strm_plan.specs.Plan.{Call, Process, Fed, Partial, Place, Nowhere, In_process, In_feed}
+use Rattle.strm_plan.specs.Reading.{ended, ended_at, plan_of, fresh_name, driver_at, setup_arity, setup_at, setup_onto, declared_at, has_room, with_stream, stream_onto, process_name, with_process, process_onto, with_feed, feed_onto, call_at, with_call, call_onto, with_message, message_onto, inner_onto, outside, word_onto, fields_onto, line_onto, modules_after, nothing_yet}
 use Rattle.strm_plan.specs.Targets.{stream_names, stream_at}
 use Rattle.strm_plan.specs.Sound.{AreSetups, AreFromLine, IsSound}
 use Rattle.strm_plan.specs.declared.draft.TheConstants.{MOST_STREAMS, MOST_PROCESSES, MOST_CALLS, MOST_MESSAGES, LONGEST_LINE}
-use Rattle.strm_plan.proofs.StepLemmas.{through, passed, either, same, found_in}
+use Rattle.strm_plan.proofs.StepLemmas.{through, passed, either, same}
 use Rattle.strm_plan.proofs.FieldLemmas.{setup_fits, message_from_line}
 
 -- a process that goes on is one more than those that ended

@@ -1,7 +1,5 @@
 -- The calls of a plan, as a run is given them.
-use Rattle.std.specs.Prelude.{◌≡◌, Bool, true, false, Option, Some, None}
-use Rattle.strm_module.specs.declared.kind.Kind.{Kind}
-use Rattle.strm_module.specs.declared.shape.Shape.{Shape}
+use Rattle.std.specs.Prelude.{Option, Some, None}
 use Rattle.strm_call.specs.declared.request.Request.{Request}
 
 -- the module that a push declares

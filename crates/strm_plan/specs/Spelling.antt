@@ -1,5 +1,5 @@
 -- What `parse` answers: what the script spells, unless memory was wanting.
-use Rattle.std.specs.Prelude.{◌≡◌, ◌⊎◌, ℕ, Result, Ok, Err}
+use Rattle.std.specs.Prelude.{◌≡◌, ◌⊎◌, Result, Ok, Err}
 use Rattle.strm_verb.specs.declared.fault.Cause.TheVariants as causes
 use Rattle.strm_plan.specs.Plan.{Whole, plan_view}
 use Rattle.strm_plan.specs.Reading.{FaultAt}

@@ -1,10 +1,10 @@
 -- NAME:END, the stream and its end that a call goes to.
-use Rattle.std.specs.Prelude.{ℕ, List, [], ◌∷◌, Option, Some, None, codes, map, position, slice_get, if◌then◌else◌}
+use Rattle.std.specs.Prelude.{ℕ, List, Option, Some, None, codes, map, position, slice_get, if◌then◌else◌}
 use Rattle.std.specs.Str.{bytes_eq}
 use Rattle.strm_msg.specs.declared.words.End.{End}
 use Rattle.strm_msg.specs.declared.words.End.TheVariants.{A, B}
 use Rattle.strm_qpair.specs.declared.driver.Driver.{Driver}
-use Rattle.strm_qpair.specs.declared.driver.Driver.TheVariants.{Echo, Loop, Line}
+use Rattle.strm_qpair.specs.declared.driver.Driver.TheVariants.{Loop}
 use Rattle.strm_text.specs.Text.{◌>>=◌, halves_of, name_of}
 use Rattle.strm_plan.specs.declared.plan.TheConstants.{LONGEST}
 use Rattle.strm_plan.specs.Plan.{Streams}

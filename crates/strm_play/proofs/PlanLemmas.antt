@@ -1,5 +1,5 @@
 -- A plan that was read meets what a run asks for, and what a run says of scripts and feeds is said of the plan.
-use Rattle.std.proofs.Common.{◌≡◌, ℕ, zero, suc, ◌+◌, ◌<◌, ◌≤◌, ◌==◌, ◌&&◌, Bool, true, false, cond, List, [], ◌∷◌, map, length, get_or, All, refl, ap, sym, ◌∙◌, subst, arith}
+use Rattle.std.proofs.Common.{◌≡◌, ℕ, zero, suc, ◌<◌, ◌≤◌, ◌==◌, ◌&&◌, Bool, true, cond, List, [], ◌∷◌, map, length, get_or, All, refl, ap, sym, ◌∙◌, subst, arith}
 use Rattle.std.proofs.lemmas.List.{length-map}
 use Rattle.std.proofs.lemmas.List.Elements.{All-map, All-head, All-tail, All-cons, All-nil}
 use Rattle.arrayvec.specs.ArrayVec.{ArrayVec}
@@ -11,7 +11,6 @@ use Rattle.strm_shared.specs.Setup.{is_fit, is_ring}
 use Rattle.strm_shared.specs.declared.setup.Setup.{Setup}
 use Rattle.strm_run.specs.declared.script.Feed.{Feed}
 use Rattle.strm_run.specs.declared.script.Script.{Script}
-use Rattle.strm_run.specs.declared.script.ScriptCall.{ScriptCall}
 use Rattle.strm_run.specs.declared.transcript.StreamLog.{StreamLog}
 use Rattle.strm_run.specs.Scripts as runs
 use Rattle.strm_run.specs.Transcript.{IsFed}

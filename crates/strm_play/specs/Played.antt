@@ -15,7 +15,6 @@ use Rattle.strm_plan.specs.Plan.{plan_view}
 use Rattle.strm_plan.specs.Reading.{spelt}
 use Rattle.strm_plan.specs.Spelling.{IsNoMemory}
 use Rattle.strm_plan.specs.declared.plan.Plan.{Plan}
-use Rattle.strm_plan.specs.declared.fault.ScriptFault.{ScriptFault}
 use Rattle.strm_play.specs.Playing.{setups_of, calls_of_processes, fed, names_of}
 use Rattle.strm_play.specs.declared.playing.Outcome.{Outcome}
 use Rattle.strm_play.specs.declared.fault.PlayFault.{PlayFault}

@@ -1,5 +1,5 @@
 -- What is printed of a field is read back.
-use Rattle.std.proofs.Common.{◌≡◌, ℕ, suc, ◌+◌, ◌*◌, ◌-◌, ◌<◌, ◌≤◌, ◌^◌, ◌/◌, ◌%◌, ◌==◌, ◌&&◌, ◌++◌, Bool, true, false, cond, List, [], ◌∷◌, length, Option, Some, None, Result, Ok, Err, refl, ap, ◌∙◌, arith}
+use Rattle.std.proofs.Common.{◌≡◌, ℕ, ◌+◌, ◌*◌, ◌-◌, ◌<◌, ◌≤◌, ◌^◌, ◌/◌, ◌%◌, ◌==◌, ◌&&◌, ◌++◌, Bool, true, false, cond, List, [], ◌∷◌, length, Option, Some, None, Result, Ok, Err, refl, ap, ◌∙◌, arith}
 use Rattle.std.specs.Prelude.{nat_le, codes, option_and_then}
 use Rattle.std.specs.Str.{bytes_eq}
 use Rattle.std.specs.Fmt.{decimal}
@@ -11,7 +11,7 @@ use Rattle.strm_text.specs.Text.{number_from, number_of}
 use Rattle.strm_text.specs.Spelling.{part_text}
 use Rattle.strm_text.proofs.ReadBackLemmas.{read_back}
 use Rattle.strm_verb.specs.Fault.{◌>>=◌, or_fault}
-use Rattle.strm_verb.specs.Field.{Form, Field, Bytes, Number, Word, part_field, maximum_field, number_at, part_at}
+use Rattle.strm_verb.specs.Field.{Bytes, Number, Word, part_field, maximum_field, number_at, part_at}
 use Rattle.strm_verb.specs.declared.fault.Cause.{Cause}
 use Rattle.strm_verb.specs.declared.fault.Cause.TheVariants as causes
 use Rattle.strm_script.specs.ReadBack.{AreBytes, A_part, A_part_if_any, No_part, A_maximum, No_maximum, A_number, A_word, FieldsAreReadBack}

@@ -1,5 +1,5 @@
 -- The bytes that a table changes, byte by byte.
-use Rattle.std.proofs.Common.{◌≡◌, ◌≤◌, length, ℕ, ◌+◌, ◌==◌, not, Bool, true, false, cond, List, [], ◌∷◌, ◌++◌, map, filter, refl, sym, ap, ◌∙◌, arith}
+use Rattle.std.proofs.Common.{◌≡◌, ◌≤◌, ℕ, ◌+◌, ◌==◌, not, Bool, true, false, cond, List, [], ◌∷◌, ◌++◌, map, filter, refl, sym, ap, ◌∙◌, arith}
 use Rattle.std.specs.Prelude.{slice_index}
 use Rattle.strm_script.specs.Fields.{all_bytes}
 use Rattle.std.specs.List.{range_with_len}

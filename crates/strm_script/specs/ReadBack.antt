@@ -1,5 +1,5 @@
 -- What is printed of a field is read back as that field.
-use Rattle.std.specs.Prelude.{◌≡◌, ℕ, ◌≤◌, ◌<◌, ◌^◌, ⊤, true, List, Option, Some, None, All, Result, Ok}
+use Rattle.std.specs.Prelude.{◌≡◌, ℕ, ◌≤◌, ◌<◌, ◌^◌, true, List, None, All, Ok}
 use Rattle.std.specs.Str.{bytes_eq}
 use Rattle.std.specs.List.{list_any}
 use Rattle.strm_verb.specs.Field.{Form, Whole, Optional, Maximum, Upto, Choice, Field, Bytes, Number, Word, part_field, maximum_field, field_at}

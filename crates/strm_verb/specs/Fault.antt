@@ -1,6 +1,5 @@
 -- What reading answers: a value, or the first fault.
-use Rattle.std.specs.Prelude.{◌≡◌, ℕ, ◌++◌, ◌∷◌, List, [], codes, Option, Some, None, Result, Ok, Err}
-use Rattle.std.specs.Fmt.{decimal}
+use Rattle.std.specs.Prelude.{◌≡◌, ℕ, List, codes, Option, Some, None, Result, Ok, Err}
 use Rattle.strm_verb.specs.declared.fault.Cause.{Cause}
 use Rattle.strm_verb.specs.declared.fault.Cause.TheVariants.{TooLong, Byte, UnknownWord, Fields, Number, Part, NoSuch, Name, Marks, TooMany, OutOfPlace, NoMemory}
 use Rattle.strm_verb.specs.declared.fault.ReadError.{ReadError}

@@ -1,5 +1,5 @@
 -- The calls of a script: the word of each, and its fields. Reading and printing go by this one table.
-use Rattle.std.specs.Prelude.{ℕ, Bool, true, false, List, [], ◌∷◌, length, Option, Result, Ok, Err, codes, if◌then◌else◌}
+use Rattle.std.specs.Prelude.{ℕ, Bool, true, false, List, [], ◌∷◌, length, Option, Result, Ok, codes, if◌then◌else◌}
 use Rattle.std.specs.Str.{bytes_eq}
 use Rattle.std.specs.List.{find}
 use Rattle.strm_module.specs.declared.kind.Kind.{Kind}

@@ -1,6 +1,5 @@
 -- The words of the fields of a script and of a transcript.
 use Rattle.std.specs.Prelude.{ℕ, Bool, true, false, List, [], ◌∷◌, codes}
-use Rattle.strm_msg.specs.Text.{name_of}
 use Rattle.strm_msg.specs.declared.errno.Errno.{Errno}
 use Rattle.strm_msg.specs.declared.errno.Errno.TheVariants.{EBADF, ENOSR, EINVAL, ERANGE, ENXIO, EBADMSG, ENODATA, EAGAIN, ETIME, EIO, EPROTO}
 use Rattle.strm_msg.specs.declared.words.ReadMode.{ReadMode}

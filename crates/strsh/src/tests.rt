@@ -1,435 +1,196 @@
-//! Lines written by hand from the rules of spelling, each beside the call and the answer that it is
-//! of.
-use rows::{Ask, Pushes, Row, Say, play};
-use strm_call::{GetFlag, More, Priority, PutFlag, Received, Refusal, Wanted};
-use strm_msg::End::{A, B};
-use strm_msg::{Errno, Prot, ReadMode};
+//! The stored script, the texts of faults and the loading of scripts.
+use crate::fault::Fault;
+use crate::load::{LoadFault, load};
+use crate::options::Options;
+use crate::playing::put;
+use std::alloc::Global;
+use std::io::{self, ErrorKind, Read};
+use strm_msg::NoMem;
+use strm_plan::{Cause, ScriptFault};
+use strm_play::{PlayFault, play};
+use strm_run::RunFault;
 
-mod rows;
+/// The stored script: four streams, each with a process of its own.
+const SCRIPT: &[u8] = b"\
+stream s1 echo 16/4 16/4\n\
+stream s2 echo 16/4 16/4\n\
+stream s3 echo 16/4 16/4\n\
+stream s4 loop 16/4 16/4\n\
+process p1\n\
+putmsg s1:a =c =hello norm\n\
+getmsg s1:a 64 64 any\n\
+process p2\n\
+push s2:a table up - - =abc =ABC\n\
+write s2:a =abc\n\
+read s2:a 8\n\
+pop s2:a\n\
+process p3\n\
+push s3:a count cnt - -\n\
+write s3:a =x\n\
+str s3:a 1 -\n\
+close s3:a\n\
+process p4\n\
+putpmsg s4:a =k =v 2 band\n\
+getpmsg s4:b 64 64 0 any\n\
+close s4:b\n\
+getmsg s4:a 64 64 any\n";
 
-/// Messages that are sent. A space is `%20`, `%` is `%25`, and DEL and bytes above it are spelt so.
-const SENT: [Row; 7] = [
-    (
-        A,
-        Ask::Putmsg(Some(b"c"), Some(b"hello"), Priority::Norm),
-        Say::Putmsg,
-        "p putmsg s:a =c =hello norm : 0",
-    ),
-    (
-        B,
-        Ask::Putmsg(Some(b""), None, Priority::Hipri),
-        Say::Putmsg,
-        "p putmsg s:b = - hipri : 0",
-    ),
-    (
-        A,
-        Ask::Putmsg(None, Some(b" !~\x7f%\x00\xff"), Priority::Norm),
-        Say::Putmsg,
-        "p putmsg s:a - =%20!~%7f%25%00%ff norm : 0",
-    ),
-    (
-        A,
-        Ask::Putpmsg(None, None, 0, PutFlag::Zero),
-        Say::Refused(Refusal::Invalid),
-        "p putpmsg s:a - - 0 zero : EINVAL",
-    ),
-    (
-        A,
-        Ask::Putpmsg(Some(b"x\ny"), Some(b""), 255, PutFlag::Band),
-        Say::Putpmsg,
-        "p putpmsg s:a =x%0ay = 255 band : 0",
-    ),
-    (
-        B,
-        Ask::Putpmsg(Some(b"="), Some(b"-"), 0, PutFlag::Hipri),
-        Say::Putpmsg,
-        "p putpmsg s:b == =- 0 hipri : 0",
-    ),
-    (
-        A,
-        Ask::Write(b"a b"),
-        Say::Write(3),
-        "p write s:a =a%20b : 3",
-    ),
-];
+/// Its transcript.
+const TRANSCRIPT: &[u8] = b"\
+stream s1\n\
+p1 putmsg s1:a =c =hello norm : 0\n\
+p1 getmsg s1:a 64 64 any : =c =hello norm 0\n\
+open a\n\
+stream s2\n\
+p2 push s2:a table up - - =abc =ABC : 0\n\
+p2 write s2:a =abc : 3\n\
+p2 read s2:a 8 : =ABC\n\
+p2 pop s2:a : popped up\n\
+open a\n\
+stream s3\n\
+p3 push s3:a count cnt - - : 0\n\
+p3 write s3:a =x : 1\n\
+p3 str s3:a 1 - : 1 -\n\
+p3 close s3:a : closed cnt\n\
+closed a\n\
+stream s4\n\
+p4 putpmsg s4:a =k =v 2 band : 0\n\
+p4 getpmsg s4:b 64 64 0 any : =k =v band 2 0\n\
+p4 close s4:b : closed\n\
+p4 getmsg s4:a 64 64 any : = = norm 0\n\
+open a\n\
+closed b\n";
 
-/// Messages that are taken, with each word for what stays.
-const TAKEN: [Row; 9] = [
-    (
-        A,
-        Ask::Getmsg(Some(64), Some(65535), Wanted::Any),
-        Say::Getmsg(Some(b"c"), Some(b"hello"), Priority::Norm, More::Nothing),
-        "p getmsg s:a 64 65535 any : =c =hello norm 0",
-    ),
-    (
-        B,
-        Ask::Getmsg(None, Some(0), Wanted::Hipri),
-        Say::Getmsg(None, Some(b""), Priority::Hipri, More::Ctl),
-        "p getmsg s:b -1 0 hipri : - = hipri ctl",
-    ),
-    (
-        A,
-        Ask::Getmsg(Some(1), None, Wanted::Any),
-        Say::Getmsg(Some(b"\t"), None, Priority::Norm, More::Data),
-        "p getmsg s:a 1 -1 any : =%09 - norm data",
-    ),
-    (
-        A,
-        Ask::Getpmsg(Some(1), Some(2), 7, GetFlag::Band),
-        Say::Getpmsg(
-            Some(b"a"),
-            Some(b"bc"),
-            Received::Band { band: 9 },
-            More::Both,
-        ),
-        "p getpmsg s:a 1 2 7 band : =a =bc band 9 both",
-    ),
-    (
-        A,
-        Ask::Getpmsg(None, None, 0, GetFlag::Any),
-        Say::Getpmsg(None, None, Received::Hipri, More::Both),
-        "p getpmsg s:a -1 -1 0 any : - - hipri both",
-    ),
-    (
-        A,
-        Ask::Getpmsg(Some(8), Some(8), 0, GetFlag::Zero),
-        Say::Refused(Refusal::Invalid),
-        "p getpmsg s:a 8 8 0 zero : EINVAL",
-    ),
-    (
-        A,
-        Ask::Getpmsg(Some(8), Some(8), 0, GetFlag::Hipri),
-        Say::Refused(Refusal::WouldWait),
-        "p getpmsg s:a 8 8 0 hipri : EAGAIN",
-    ),
-    (
-        A,
-        Ask::Read(5),
-        Say::Read(b"he\x80lo"),
-        "p read s:a 5 : =he%80lo",
-    ),
-    (B, Ask::Read(0), Say::Read(b""), "p read s:b 0 : ="),
-];
+/// A reader that fails.
+#[derive(Drop)]
+struct Broken {
+    kind: ErrorKind,
+}
 
-/// Calls that tell or set something.
-const TOLD: [Row; 14] = [
-    (A, Ask::Nread, Say::Nread(2, 5), "p nread s:a : 2 5"),
-    (
-        A,
-        Ask::Peek(Some(4), None, Wanted::Any),
-        Say::Peek(Some(b"c"), None, Priority::Norm),
-        "p peek s:a 4 -1 any : =c - norm",
-    ),
-    (
-        B,
-        Ask::Peek(None, Some(4), Wanted::Hipri),
-        Say::Peek(None, Some(b"%"), Priority::Hipri),
-        "p peek s:b -1 4 hipri : - =%25 hipri",
-    ),
-    (
-        A,
-        Ask::Peek(Some(4), Some(4), Wanted::Any),
-        Say::PeekNone,
-        "p peek s:a 4 4 any : none",
-    ),
-    (
-        A,
-        Ask::SetRead(ReadMode::Rnorm, Prot::Norm),
-        Say::SetRead,
-        "p setread s:a rnorm norm : 0",
-    ),
-    (
-        A,
-        Ask::SetRead(ReadMode::Rmsgn, Prot::Dat),
-        Say::SetRead,
-        "p setread s:a rmsgn dat : 0",
-    ),
-    (
-        A,
-        Ask::SetRead(ReadMode::Rmsgd, Prot::Dis),
-        Say::SetRead,
-        "p setread s:a rmsgd dis : 0",
-    ),
-    (
-        A,
-        Ask::GetRead,
-        Say::GetRead(ReadMode::Rmsgd, Prot::Norm),
-        "p getread s:a : rmsgd norm",
-    ),
-    (A, Ask::Canput(3), Say::Canput(true), "p canput s:a 3 : 1"),
-    (
-        A,
-        Ask::Canput(255),
-        Say::Canput(false),
-        "p canput s:a 255 : 0",
-    ),
-    (A, Ask::Ckband(0), Say::Ckband(true), "p ckband s:a 0 : 1"),
-    (A, Ask::Ckband(1), Say::Ckband(false), "p ckband s:a 1 : 0"),
-    (B, Ask::Getband, Say::Getband(200), "p getband s:b : 200"),
-    (A, Ask::Nread, Say::Line, "p nread s:a : 0"),
-];
+impl Read for Broken {
+    fn read(&mut self, _: &mut [u8]) -> io::Result<usize> {
+        Err(io::Error::from(self.kind))
+    }
+}
 
-/// Modules that are pushed. A map's bytes stand in ascending order, whatever their images are.
-const PUSHED: [Row; 9] = [
-    (
-        A,
-        Ask::Push(Pushes::Pass),
-        Say::Push,
-        "p push s:a pass mod_1 16/4 100/0 : 0",
-    ),
-    (
-        A,
-        Ask::Push(Pushes::Table(&[(b'z', b'A'), (b'%', b' '), (b'a', b'z')])),
-        Say::Push,
-        "p push s:a table mod_1 - - =%25az =%20zA : 0",
-    ),
-    (
-        A,
-        Ask::Push(Pushes::Table(&[])),
-        Say::Push,
-        "p push s:a table mod_1 - - = = : 0",
-    ),
-    (
-        B,
-        Ask::Push(Pushes::CrNl),
-        Say::Push,
-        "p push s:b crnl mod_1 - - : 0",
-    ),
-    (
-        A,
-        Ask::Push(Pushes::Line),
-        Say::Push,
-        "p push s:a line mod_1 - - : 0",
-    ),
-    (
-        A,
-        Ask::Push(Pushes::Count),
-        Say::Push,
-        "p push s:a count mod_1 - - : 0",
-    ),
-    (
-        A,
-        Ask::Push(Pushes::Band(12)),
-        Say::Push,
-        "p push s:a band mod_1 - - 12 : 0",
-    ),
-    (
-        A,
-        Ask::Push(Pushes::Tee),
-        Say::Push,
-        "p push s:a tee mod_1 - - : 0",
-    ),
-    (
-        A,
-        Ask::Push(Pushes::Mute),
-        Say::Refused(Refusal::Invalid),
-        "p push s:a mute mod_1 - - : EINVAL",
-    ),
-];
-
-/// Modules that are taken out or asked for. A name stands as it is where it is told, and as a part
-/// where it is looked for.
-const NAMED: [Row; 11] = [
-    (A, Ask::Pop, Say::Pop(b"mod_1"), "p pop s:a : popped mod_1"),
-    (
-        B,
-        Ask::Pop,
-        Say::Refused(Refusal::Invalid),
-        "p pop s:b : EINVAL",
-    ),
-    (A, Ask::Look, Say::Look(b"A_z09"), "p look s:a : A_z09"),
-    (
-        A,
-        Ask::List,
-        Say::List(&[b"eightbyt", b"m", b"echo"]),
-        "p list s:a : eightbyt m echo",
-    ),
-    (B, Ask::List, Say::List(&[b"loop"]), "p list s:b : loop"),
-    (
-        A,
-        Ask::Find(b"mod_1"),
-        Say::Find(true),
-        "p find s:a =mod_1 : 1",
-    ),
-    (
-        B,
-        Ask::Find(b"a b"),
-        Say::Find(false),
-        "p find s:b =a%20b : 0",
-    ),
-    (
-        A,
-        Ask::Find(b""),
-        Say::Refused(Refusal::Invalid),
-        "p find s:a = : EINVAL",
-    ),
-    (A, Ask::Close, Say::Close(&[]), "p close s:a : closed"),
-    (
-        B,
-        Ask::Close,
-        Say::Close(&[b"top", b"low"]),
-        "p close s:b : closed top low",
-    ),
-    (
-        A,
-        Ask::Close,
-        Say::Refused(Refusal::Closed),
-        "p close s:a : EBADF",
-    ),
-];
-
-/// Ioctls with each thing that can become of them, and flushes with each word for their sides.
-const SENT_DOWN: [Row; 15] = [
-    (
-        A,
-        Ask::Str(1, Some(b"x y")),
-        Say::Ack(7, Some(b"\x00")),
-        "p str s:a 1 =x%20y : 7 =%00",
-    ),
-    (
-        A,
-        Ask::Str(4_294_967_295, None),
-        Say::Ack(18_446_744_073_709_551_615, None),
-        "p str s:a 4294967295 - : 18446744073709551615 -",
-    ),
-    (
-        B,
-        Ask::Str(0, Some(b"")),
-        Say::Ack(0, Some(b"")),
-        "p str s:b 0 = : 0 =",
-    ),
-    (
-        A,
-        Ask::Str(5, None),
-        Say::Nak(Errno::EINVAL),
-        "p str s:a 5 - : nak EINVAL",
-    ),
-    (
-        B,
-        Ask::Str(5, Some(b"-")),
-        Say::Nak(Errno::ETIME),
-        "p str s:b 5 =- : nak ETIME",
-    ),
-    (A, Ask::Str(6, None), Say::Timeout, "p str s:a 6 - : ETIME"),
-    (
-        A,
-        Ask::Str(7, None),
-        Say::Refused(Refusal::WouldWait),
-        "p str s:a 7 - : EAGAIN",
-    ),
-    (A, Ask::Flush(true, false), Say::Flush, "p flush s:a r : 0"),
-    (B, Ask::Flush(false, true), Say::Flush, "p flush s:b w : 0"),
-    (A, Ask::Flush(true, true), Say::Flush, "p flush s:a rw : 0"),
-    (
-        A,
-        Ask::Flush(false, false),
-        Say::Refused(Refusal::Invalid),
-        "p flush s:a none : EINVAL",
-    ),
-    (
-        A,
-        Ask::FlushBand(3, false, true),
-        Say::FlushBand,
-        "p flushband s:a 3 w : 0",
-    ),
-    (
-        B,
-        Ask::FlushBand(255, true, true),
-        Say::FlushBand,
-        "p flushband s:b 255 rw : 0",
-    ),
-    (
-        A,
-        Ask::FlushBand(0, true, false),
-        Say::Refused(Refusal::HungUp),
-        "p flushband s:a 0 r : ENXIO",
-    ),
-    (
-        A,
-        Ask::FlushBand(9, false, false),
-        Say::Refused(Refusal::Invalid),
-        "p flushband s:a 9 none : EINVAL",
-    ),
-];
-
-/// Each refusal, and a stream that broke.
-const REFUSED: [Row; 11] = [
-    (
-        A,
-        Ask::Getband,
-        Say::Refused(Refusal::Closed),
-        "p getband s:a : EBADF",
-    ),
-    (
-        A,
-        Ask::Getband,
-        Say::Refused(Refusal::Broken),
-        "p getband s:a : ENOSR",
-    ),
-    (
-        A,
-        Ask::Getband,
-        Say::Refused(Refusal::Error {
-            errno: Errno::EPROTO,
-        }),
-        "p getband s:a : EPROTO",
-    ),
-    (
-        A,
-        Ask::Getband,
-        Say::Refused(Refusal::Invalid),
-        "p getband s:a : EINVAL",
-    ),
-    (
-        A,
-        Ask::Getband,
-        Say::Refused(Refusal::TooLong),
-        "p getband s:a : ERANGE",
-    ),
-    (
-        A,
-        Ask::Getband,
-        Say::Refused(Refusal::HungUp),
-        "p getband s:a : ENXIO",
-    ),
-    (
-        A,
-        Ask::Getband,
-        Say::Refused(Refusal::BadMessage),
-        "p getband s:a : EBADMSG",
-    ),
-    (
-        A,
-        Ask::Getband,
-        Say::Refused(Refusal::NoMessage),
-        "p getband s:a : ENODATA",
-    ),
-    (
-        A,
-        Ask::Getband,
-        Say::Refused(Refusal::WouldWait),
-        "p getband s:a : EAGAIN",
-    ),
-    (
-        A,
-        Ask::Getband,
-        Say::Refused(Refusal::NoMemory),
-        "p getband s:a : ENOSR",
-    ),
-    (A, Ask::Getband, Say::Broke, "p getband s:a : ENOSR broke"),
-];
+/// How many bytes are loaded at most.
+const LIMIT: usize = 1_048_577;
 
 #[test]
-fn calls_are_spelt_with_their_answers(rt: HostRuntime) {
-    for rows in [
-        SENT.as_slice(),
-        &TAKEN,
-        &TOLD,
-        &PUSHED,
-        &NAMED,
-        &SENT_DOWN,
-        &REFUSED,
-    ] {
-        play(&rt, rt.alloc(), rows);
+fn the_stored_script_leaves_the_stored_transcript(rt: HostRuntime) {
+    let alloc: Global = rt.alloc();
+    for workers in [1, 4] {
+        let outcome = play(&rt, alloc, SCRIPT, workers).expect(&rt, "a transcript");
+        let mut text = Vec::new(alloc);
+        put(&outcome, &mut text).expect(&rt, "memory");
+        assert!(rt; text.as_slice() == TRANSCRIPT, "{workers} workers");
     }
+}
+
+/// Faults with their status and their line.
+fn rows() -> [(Fault, u8, &'static str); 4] {
+    let unknown = ScriptFault {
+        line: 3,
+        cause: Cause::UnknownWord,
+    };
+    [
+        (
+            Fault::from(LoadFault::Read),
+            2,
+            "strsh: cannot read the script\n",
+        ),
+        (
+            Fault::from(LoadFault::NoMem),
+            2,
+            "strsh: line 0: 12 no memory\n",
+        ),
+        (
+            Fault::from(PlayFault::Script(unknown)),
+            2,
+            "strsh: line 3: 3 unknown word\n",
+        ),
+        (
+            Fault::from(PlayFault::Run(RunFault::NoMem)),
+            1,
+            "strsh: run fault 3 no memory\n",
+        ),
+    ]
+}
+
+#[test]
+fn each_fault_has_its_line_and_its_status(rt: HostRuntime) {
+    let alloc: Global = rt.alloc();
+    for (fault, status, text) in rows() {
+        assert_eq!(rt; fault.status(), status, "{text}");
+        let line = format!(in alloc; "{fault}").expect(&rt, "memory");
+        assert_eq!(rt; line.as_str(), text);
+    }
+    assert_eq!(rt; Fault::Write.status(), 1);
+}
+
+/// The words of a line, which blanks part.
+fn words_of(alloc: Global, line: &str) -> Result<Vec<String>, NoMem> {
+    let mut words = Vec::new(alloc);
+    for word in line.split(' ') {
+        words.push(String::from_str(alloc, word)?)?;
+    }
+    Ok(words)
+}
+
+/// How many workers a command line asks for, or the status with which the program ends.
+fn judged(alloc: Global, line: &str) -> Result<u32, u8> {
+    let words = words_of(alloc, line).map_err(|_| 1u8)?;
+    match Options::read(alloc, words.as_slice()) {
+        Ok(options) if options.path == "f" => Ok(options.workers),
+        Ok(_) => Err(1),
+        Err(error) => Err(Fault::from(error).status()),
+    }
+}
+
+#[test]
+fn command_lines_ask_for_workers_and_a_file(rt: HostRuntime) {
+    let alloc: Global = rt.alloc();
+    let rows = [
+        ("strsh f", Ok(4)),
+        ("strsh --workers 1 f", Ok(1)),
+        ("strsh f --workers=64", Ok(64)),
+        ("strsh --workers 65 f", Err(2)),
+        ("strsh --workers 0 f", Err(2)),
+        ("strsh --workers f", Err(2)),
+        ("strsh", Err(2)),
+        ("strsh f g", Err(2)),
+        ("strsh --help", Err(0)),
+    ];
+    for (line, want) in rows {
+        assert!(rt; judged(alloc, line) == want, "{line}");
+    }
+}
+
+#[test]
+fn a_reader_that_fails_is_told_from_want_of_memory(rt: HostRuntime) {
+    let alloc: Global = rt.alloc();
+    let rows = [
+        (ErrorKind::BrokenPipe, LoadFault::Read),
+        (ErrorKind::OutOfMemory, LoadFault::NoMem),
+    ];
+    for (kind, fault) in rows {
+        let part = b"stream".as_slice();
+        assert!(rt; load(alloc, part.chain(Broken { kind })) == Err(fault));
+    }
+}
+
+#[test]
+fn no_more_is_loaded_than_one_byte_over_the_longest_script(rt: HostRuntime) {
+    let alloc: Global = rt.alloc();
+    let endless = load(alloc, io::repeat(b'#')).expect(&rt, "bytes");
+    assert_eq!(rt; endless.len(), LIMIT);
+    let short = load(alloc, SCRIPT).expect(&rt, "bytes");
+    assert!(rt; short.as_slice() == SCRIPT);
+    let PlayFault::Script(fault) = play(&rt, alloc, endless.as_slice(), 1)
+        .err()
+        .expect(&rt, "a fault")
+    else {
+        unreachable!(&rt;)
+    };
+    assert!(rt; fault.cause == Cause::TooLong && fault.line == 0);
 }

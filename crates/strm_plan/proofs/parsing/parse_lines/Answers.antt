@@ -1,4 +1,4 @@
-use Rattle.std.proofs.Common.{◌≡◌, ◌≤◌, ◌+◌, arith, rules, ap, subst, sym, ◌∙◌, length, Ok, inr}
+use Rattle.std.proofs.Common.{◌≡◌, arith, rules, ap, subst, ◌∙◌, length, Ok, inr}
 use Rattle.strm_plan.specs.Plan.{Whole, draft_view, plan_view}
 use Rattle.strm_plan.specs.Reading.{plan_of}
 use Rattle.strm_plan.specs.Sound.{IsSound}

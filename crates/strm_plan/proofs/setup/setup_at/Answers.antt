@@ -1,4 +1,4 @@
-use Rattle.std.proofs.Common.{arith, length, map, ℕ, List}
+use Rattle.std.proofs.Common.{map}
 use Rattle.std.proofs.lemmas.List.{length-map}
 use Rattle.strm_plan.proofs.FieldLemmas.{too_few}
 use Rattle.strm_plan.proofs.setup.setup_at.Goals as goal

@@ -1,4 +1,4 @@
-use Rattle.std.proofs.Common.{◌≡◌, ◌++◌, append_assoc, refl}
+use Rattle.std.proofs.Common.{append_assoc, refl}
 use Rattle.strm_play.specs.Playing.{fed, played_fed}
 use Rattle.strm_play.proofs.MoreLemmas.{rest_shorter, one_more}
 use Rattle.strm_play.proofs.handing.feeds.Goals as goal

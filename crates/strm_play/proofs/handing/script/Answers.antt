@@ -1,4 +1,4 @@
-use Rattle.std.proofs.Common.{◌≡◌, ◌++◌, append_assoc, ap}
+use Rattle.std.proofs.Common.{append_assoc, ap}
 use Rattle.strm_play.specs.Playing.{played_line}
 use Rattle.strm_play.proofs.MoreLemmas.{rest_shorter, one_made}
 use Rattle.strm_play.proofs.handing.script.Goals as goal

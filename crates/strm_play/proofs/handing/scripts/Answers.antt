@@ -1,4 +1,4 @@
-use Rattle.std.proofs.Common.{◌≡◌, ◌++◌, append_assoc, map, refl}
+use Rattle.std.proofs.Common.{append_assoc, map, refl}
 use Rattle.strm_play.specs.Playing.{played_line}
 use Rattle.strm_play.proofs.MoreLemmas.{rest_shorter, one_more}
 use Rattle.strm_play.proofs.handing.scripts.Goals as goal

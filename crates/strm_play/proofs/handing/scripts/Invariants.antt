@@ -1,4 +1,4 @@
-use Rattle.std.proofs.Common.{◌≡◌, ◌++◌, map, length}
+use Rattle.std.proofs.Common.{◌≡◌, ◌++◌, length}
 use Rattle.std.specs.Vec.Iter.{into_iter_items, into_iter_len}
 use Rattle.strm_play.specs.Playing.{calls_of_processes, calls_of_scripts, names_of}
 use Rattle.strm_play.proofs.handing.scripts.Given as goal

@@ -1,7 +1,5 @@
-use Rattle.std.proofs.Common.{◌≡◌, ◌∙◌, ap, refl, sym, length, map, slice_get, Some, List}
+use Rattle.std.proofs.Common.{◌≡◌, refl, length, map, slice_get, Some}
 use Rattle.std.proofs.lemmas.Option.{slice_get_read}
-use Rattle.strm_module.specs.declared.kind.Kind.{Kind}
-use Rattle.strm_run.specs.declared.transcript.StreamLog.{StreamLog}
 use Rattle.strm_plan.specs.Plan.{process_view, streams_view}
 use Rattle.strm_script.proofs.LineLemmas.{one_more_written}
 use Rattle.strm_script.proofs.printing.print.Goals as goal

@@ -1,4 +1,4 @@
-use Rattle.std.proofs.Common.{◌≡◌, ◌<◌, ◌∙◌, rules, arith, length, sym}
+use Rattle.std.proofs.Common.{rules, arith}
 use Rattle.strm_verb.specs.Push.{image_of}
 use Rattle.strm_verb.proofs.TableLemmas.{one_more, all_done}
 use Rattle.strm_verb.proofs.push.table_of.Goals as goal

@@ -1,0 +1,53 @@
+//! A script is played, and its transcript printed.
+ghost use Rattle.std.specs.Prelude.{OnOk};
+ghost use Rattle.std.specs.Io.KnownBytes.{Appends};
+ghost use Rattle.strm_plan.specs.Plan.{plan_view};
+ghost use Rattle.strm_script.specs.Lines.{transcript_text};
+
+use crate::fault::Fault;
+use crate::load::{LoadFault, load};
+use crate::options::Options;
+use std::alloc::Global;
+use std::fs;
+use std::io::{self, BufWriter, Write};
+use std::rt::Files;
+use std::sync::Wait;
+use std::thread::Threads;
+use strm_play::{Outcome, play};
+use strm_script::print;
+
+/// The bytes of the script at a path.
+fn script<R: Files>(rt: &R, alloc: Global, path: &str) -> Result<Vec<u8>, LoadFault> {
+    load(alloc, fs::open(rt, path)?)
+}
+
+/// Writes what is left of a script that was played, to the last byte.
+///
+/// Refused where the writer is, and with its error.
+pub fn put<W: Write>(outcome: &Outcome, w: &mut W) -> io::Result<()>
+    ensures text { OnOk result (Appends (W.contents w.old) (W.contents w.new)
+        (transcript_text (plan_view outcome.now.plan) outcome.now.transcript.streams.items)) }
+{
+    print(&outcome.transcript, &outcome.plan, w)?;
+    w.flush()
+}
+
+/// Prints what is left of a script that was played.
+fn put_out<R: Print>(rt: &R, alloc: Global, outcome: &Outcome) -> io::Result<()> {
+    put(outcome, &mut BufWriter::new(alloc, io::writer(rt))?)
+}
+
+/// Plays the script that a command line names, and prints its transcript.
+///
+/// Refused where the command line is no good, the script cannot be read, it is no script, it does
+/// not run or its transcript cannot be printed, in this order.
+pub fn serve<R: Files + Print + Threads + Wait + AllocGlobal + Sync>(
+    rt: &R,
+    words: &[String],
+) -> Result<(), Fault> {
+    let alloc = rt.alloc();
+    let options = Options::read(alloc, words)?;
+    let bytes = script(rt, alloc, options.path)?;
+    let outcome = play(rt, alloc, bytes.as_slice(), options.workers)?;
+    put_out(rt, alloc, &outcome).map_err(|_| Fault::Write)
+}

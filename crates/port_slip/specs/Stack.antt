@@ -1,11 +1,11 @@
 -- What is left where handing a message in and settling is refused.
 use Rattle.std.specs.Prelude.{◌⊎◌}
 use Rattle.strm_msg.specs.Message.{Msg}
-use Rattle.strm_chain.specs.Image.{Image}
+use Rattle.strm_ends.specs.Image.{Image}
 use Rattle.strm_chain.specs.Deliver.{deliver}
 use Rattle.strm_chain.specs.Fault.{Refuses}
 use Rattle.strm_chain.specs.declared.fault.ChainFault.{ChainFault}
-use Rattle.strm_chain.specs.declared.place.Spot.{Spot}
+use Rattle.strm_chain.specs.declared.spot.Spot.{Spot}
 use Rattle.port_slip.specs.Slip.{slip}
 use Rattle.port_slip.specs.declared.kinds.SlipKind.{SlipKind}
 

@@ -1,5 +1,7 @@
 //! What SLIP promises, as laws of its definitions.
+ghost use Rattle.strm_module.specs.Calm.{IsCalm};
 ghost use Rattle.port_slip.specs.FrameLaws.{EscapingLeavesNoEnd, FramedIsReceived, NoiseStaysApart, PiecesAreOneLine, UnfinishedIsBounded};
+ghost use Rattle.port_slip.specs.Slip.{slip};
 ghost use Rattle.port_slip.specs.SlipLaws.{DatagramsGoThrough};
 
 /// What was framed is received as it was, whatever stands before and behind it, for datagrams of 1 to
@@ -16,4 +18,11 @@ pub fn frames_keep_datagrams()
 /// law.
 pub fn modules_keep_datagrams()
     ensures { DatagramsGoThrough }
+{}
+
+/// What SLIP, and the eight kinds beside it, make of a calm message is calm. A message is calm if it
+/// flushes nothing on its way: all are but a flush and an error, which a head answers with a flush.
+/// Does nothing: it carries the law.
+pub fn slip_is_calm()
+    ensures { IsCalm slip }
 {}

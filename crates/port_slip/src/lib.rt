@@ -13,6 +13,6 @@ mod tests;
 
 pub use framing::{LONGEST_DATAGRAM, first_datagram, frame};
 pub use kinds::{MOST_KEPT, SlipKind};
-pub use laws::{frames_keep_datagrams, modules_keep_datagrams};
+pub use laws::{frames_keep_datagrams, modules_keep_datagrams, slip_is_calm};
 pub use slip::ByShape;
 pub use stack::send;

@@ -1,7 +1,8 @@
 //! A chain of such modules.
 ghost use Rattle.std.specs.Prelude.{◌≡◌, true, IfOk, IfErr, OnOk};
 ghost use Rattle.strm_chain.specs.Deliver.{deliver, is_there};
-ghost use Rattle.strm_chain.specs.Service.{Leads, IsQuiet};
+ghost use Rattle.strm_ends.specs.Flow.{IsQuiet};
+ghost use Rattle.strm_chain.specs.Service.{Leads};
 ghost use Rattle.port_slip.specs.Slip.{slip};
 ghost use Rattle.port_slip.specs.Stack.{Stops};
 

@@ -4,7 +4,7 @@ use Rattle.strm_msg.specs.Message.{Msg}
 use Rattle.strm_module.specs.declared.shape.Shape.{Shape}
 use Rattle.strm_chain.specs.declared.fault.ChainFault.{ChainFault}
 use Rattle.strm_chain.specs.declared.fault.ChainFault.TheVariants.{NoMem, Broken}
-use Rattle.strm_chain.specs.Image.{Image}
+use Rattle.strm_ends.specs.Image.{Image}
 use Rattle.strm_chain.specs.Fault.{Breaks}
 use Rattle.strm_call.specs.declared.answer.Reply.{Reply}
 use Rattle.strm_call.specs.declared.answer.Reply.TheVariants.{Str}

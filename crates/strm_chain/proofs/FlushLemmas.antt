@@ -12,8 +12,9 @@ use Rattle.strm_qpair.specs.Driver.{driver_at, consumes, flush_up}
 use Rattle.strm_qpair.specs.declared.driver.Driver.{Driver}
 use Rattle.strm_qpair.specs.declared.driver.Driver.TheVariants.{Echo, Loop, Line}
 use Rattle.strm_qpair.specs.declared.driver.DriverSends.TheVariants.{Nothing}
-use Rattle.strm_chain.specs.Image.{Image, end_of, with_end, has_end, count_of}
-use Rattle.strm_chain.specs.Deliver.{Onward, OnwardPast, Passing, passing, head_gets, send_on, up_through, down_through, driver_does, driver_sends, route}
+use Rattle.strm_ends.specs.Image.{Image, end_of, with_end, has_end, count_of}
+use Rattle.strm_ends.specs.Image.{driver_does}
+use Rattle.strm_chain.specs.Deliver.{Onward, OnwardPast, Passing, passing, head_gets, send_on, up_through, down_through, driver_sends, route}
 use Rattle.strm_chain.specs.HeadFlush.{HeadSendsOnce}
 
 abbrev flush : Bool → Bool → Option ℕ → Msg

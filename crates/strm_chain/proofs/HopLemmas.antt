@@ -13,12 +13,14 @@ use Rattle.strm_qpair.specs.Modules.{identity_of, identities_of}
 use Rattle.strm_qpair.specs.Head.{head_does}
 use Rattle.strm_qpair.specs.declared.driver.DriverSends.TheVariants.{Nothing, Reply, Across}
 use Rattle.strm_chain.specs.declared.chain.hop.Hop.{Hop}
-use Rattle.strm_chain.specs.declared.place.Place.TheVariants as Place
-use Rattle.strm_chain.specs.Image.{Image, end_of, with_end, with_drv, count_of, partner}
-use Rattle.strm_chain.specs.Deliver.{up, down, up_through, down_through, send_on, sends, sends_nothing, sent_down, put_at, route, driver_does, driver_sends}
+use Rattle.strm_ends.specs.declared.place.Place.TheVariants as Place
+use Rattle.strm_ends.specs.Image.{Image, end_of, with_end, with_drv, count_of, partner}
+use Rattle.strm_ends.specs.Image.{driver_does}
+use Rattle.strm_chain.specs.Deliver.{up, down, up_through, down_through, send_on, sends, sends_nothing, sent_down, put_at, route, driver_sends}
 use Rattle.strm_chain.specs.Service.{serve_at, move, move_drv}
-use Rattle.strm_chain.specs.Fault.{SameModules}
-use Rattle.strm_chain.specs.Hop.{carry, carry_all, up_hop, down_hop, hop_of, next_module, module_place}
+use Rattle.strm_ends.specs.Same.{SameModules}
+use Rattle.strm_chain.specs.Hop.{carry, carry_all, up_hop, down_hop, hop_of, next_module}
+use Rattle.strm_ends.specs.Held.{module_place}
 
 nothing_sent : {K : Type 0} (e : End) (image : Image K) (o : Option Msg) → send_on sends_nothing e image o ≡ image
 nothing_sent e image None = refl

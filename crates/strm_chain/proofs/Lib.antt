@@ -1,6 +1,10 @@
+pub mod CaseLemmas
+pub mod NumberLemmas
+pub mod EnablingLemmas
 pub mod HopLemmas
 pub mod LoadLemmas
 pub mod QuietLemmas
 pub mod SameLemmas
 pub mod FlushLemmas
 pub mod WorkedExamples
+pub mod CountLemmas

@@ -27,13 +27,14 @@ use Rattle.strm_qpair.specs.declared.driver.DriverSends.{DriverSends}
 use Rattle.strm_qpair.specs.declared.driver.DriverSends.TheVariants.{Nothing, Reply, Across}
 use Rattle.strm_qpair.specs.declared.record.Record.{Record}
 use Rattle.strm_qpair.proofs.EndLemmas.{identities-set}
-use Rattle.strm_chain.specs.declared.place.Place.{Place}
-use Rattle.strm_chain.specs.declared.place.Spot.{Spot}
-use Rattle.strm_chain.specs.declared.place.Spot.TheVariants.{Down, Up}
-use Rattle.strm_chain.specs.Image.{Image, end_of, with_end, with_drv, has_end, partner, count_of}
-use Rattle.strm_chain.specs.Deliver.{Onward, OnwardPast, send_on, head_gets, driver_does, driver_sends, driver_gets, route, put_at, up_through, down_through, sent_down_with, sends_nothing, sends, up, down, deliver}
+use Rattle.strm_ends.specs.declared.place.Place.{Place}
+use Rattle.strm_chain.specs.declared.spot.Spot.{Spot}
+use Rattle.strm_chain.specs.declared.spot.Spot.TheVariants.{Down, Up}
+use Rattle.strm_ends.specs.Image.{Image, end_of, with_end, with_drv, has_end, partner, count_of}
+use Rattle.strm_ends.specs.Image.{driver_does}
+use Rattle.strm_chain.specs.Deliver.{Onward, OnwardPast, send_on, head_gets, driver_sends, driver_gets, route, put_at, up_through, down_through, sent_down_with, sends_nothing, sends, up, down, deliver}
 use Rattle.strm_chain.specs.Service.{Leads, serve_at, move_drv, move}
-use Rattle.strm_chain.specs.Fault.{SameModules}
+use Rattle.strm_ends.specs.Same.{SameModules}
 use Rattle.strm_chain.proofs.QuietLemmas.{same_end, same_trans, same_image}
 
 -- a module of which only what its kind keeps can differ

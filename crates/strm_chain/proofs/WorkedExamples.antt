@@ -13,11 +13,12 @@ use Rattle.strm_qpair.specs.End.{EndState}
 use Rattle.strm_qpair.specs.Change.{fresh_record}
 use Rattle.strm_qpair.specs.declared.driver.Driver.{Driver}
 use Rattle.strm_qpair.specs.declared.driver.Driver.TheVariants as D
-use Rattle.strm_chain.specs.declared.place.Place.TheVariants as Place
-use Rattle.strm_chain.specs.declared.place.Spot.TheVariants.{Down, Up}
-use Rattle.strm_chain.specs.Image.{Image}
+use Rattle.strm_ends.specs.declared.place.Place.TheVariants as Place
+use Rattle.strm_chain.specs.declared.spot.Spot.TheVariants.{Down, Up}
+use Rattle.strm_ends.specs.Image.{Image}
 use Rattle.strm_chain.specs.Deliver.{deliver, up_through, down_through}
-use Rattle.strm_chain.specs.Service.{may, move}
+use Rattle.strm_ends.specs.Flow.{may}
+use Rattle.strm_chain.specs.Service.{move}
 
 abbrev five : WaterMarks
 five = record { hi = 5; lo = 4 }

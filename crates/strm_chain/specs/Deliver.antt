@@ -1,20 +1,18 @@
 -- Where a message goes, and what it leaves on its way (Programmer's Guide: STREAMS, "Message Processing"; putnext(9F)).
 -- Modules are counted from 1, which is the topmost; on the way up 0 is the head.
-use Rattle.std.specs.Prelude.{ℕ, ◌+◌, ◌-◌, ◌&&◌, nat_le, Bool, true, false, Option, Some, None, if◌then◌else◌, fold, suc, zero}
+use Rattle.std.specs.Prelude.{ℕ, ◌+◌, ◌-◌, ◌&&◌, nat_le, Bool, true, false, Option, Some, None, fold, suc, zero}
 use Rattle.strm_msg.specs.Message.{Msg}
 use Rattle.strm_msg.specs.declared.words.End.{End}
 use Rattle.strm_msg.specs.declared.words.Side.{Side}
 use Rattle.strm_msg.specs.declared.words.Side.TheVariants.{Rd, Wr}
 use Rattle.strm_module.specs.Kinds.{OutList, Meaning}
-use Rattle.strm_qpair.specs.End.{EndState, EndStep, end_gets}
+use Rattle.strm_qpair.specs.End.{EndStep, end_gets}
 use Rattle.strm_qpair.specs.Head.{head_does}
-use Rattle.strm_qpair.specs.Driver.{DriverStep, consumes, driver_at}
-use Rattle.strm_qpair.specs.declared.driver.Driver.{Driver}
 use Rattle.strm_qpair.specs.declared.driver.DriverSends.{DriverSends}
 use Rattle.strm_qpair.specs.declared.driver.DriverSends.TheVariants.{Nothing, Reply, Across}
-use Rattle.strm_chain.specs.declared.place.Spot.{Spot}
-use Rattle.strm_chain.specs.declared.place.Spot.TheVariants.{Down, Up}
-use Rattle.strm_chain.specs.Image.{Image, end_of, with_end, has_end, partner, count_of}
+use Rattle.strm_chain.specs.declared.spot.Spot.{Spot}
+use Rattle.strm_chain.specs.declared.spot.Spot.TheVariants.{Down, Up}
+use Rattle.strm_ends.specs.Image.{Image, end_of, with_end, has_end, partner, count_of, driver_does}
 
 -- an image, and what a module sends from there
 pub record Passing (K : Type 0) : Type 0 where
@@ -41,10 +39,6 @@ send_on send e image (Some m) = send e image m
 abbrev pub head_gets : {K : Type 0} → Onward K → Onward K
 head_gets send e image m =
     let h = head_does (end_of image e) m in send_on send e (with_end image e h.state) h.sends
-
--- the driver, from above; at an end that it lacks everything is dropped
-abbrev pub driver_does : {K : Type 0} → Driver → End → EndState K → Msg → DriverStep K
-driver_does d e state m = if has_end d e then driver_at d state m else consumes state
 
 -- what a driver sends goes up past all modules: a reply up the same end, and what it carries across up the partner
 abbrev pub driver_sends : {K : Type 0} → OnwardPast K → Image K → End → Image K → DriverSends → Image K

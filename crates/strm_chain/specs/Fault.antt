@@ -1,16 +1,9 @@
--- What no message changes about a chain, and what a refused call leaves.
+-- What a refused call leaves of a chain.
 use Rattle.std.specs.Prelude.{◌≡◌, ℕ, true, false, List, codes}
 use Rattle.strm_qpair.specs.Modules.{SameEnd}
 use Rattle.strm_chain.specs.declared.fault.ChainFault.{ChainFault}
 use Rattle.strm_chain.specs.declared.fault.ChainFault.TheVariants.{NoMem, Broken}
-use Rattle.strm_chain.specs.Image.{Image}
-
--- both ends are open or closed as before, with the same marks, modules and ids, over the same driver
-pub record SameModules {K : Type 0} (old new : Image K) : Type 0 where
-  pub driver : new.driver ≡ old.driver
-  pub broken : new.broken ≡ old.broken
-  pub on_a : SameEnd old.a new.a
-  pub on_b : SameEnd old.b new.b
+use Rattle.strm_ends.specs.Image.{Image}
 
 -- a chain that broke: what no message changes is as it was, and nothing else is said of it; one that was broken before is
 -- as it was

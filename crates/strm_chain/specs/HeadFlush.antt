@@ -5,7 +5,7 @@ use Rattle.strm_msg.specs.declared.kind.MsgKind.TheVariants.{MFlush}
 use Rattle.strm_msg.specs.declared.words.End.{End}
 use Rattle.strm_module.specs.Eight.{eight}
 use Rattle.strm_module.specs.declared.kind.Kind.{Kind}
-use Rattle.strm_chain.specs.Image.{Image}
+use Rattle.strm_ends.specs.Image.{Image}
 use Rattle.strm_chain.specs.Deliver.{Onward, sent_down_with}
 
 -- with the eight kinds it does not matter what a head would send that such a flush comes back to

@@ -1,16 +1,13 @@
 -- A message on its way, as the body has it. No public clause cites this.
-use Rattle.std.specs.Prelude.{◌≡◌, ℕ, ◌+◌, ◌-◌, ◌^◌, Bool, false, List, fold, sum_by, if◌then◌else◌}
+use Rattle.std.specs.Prelude.{ℕ, ◌+◌, ◌-◌, ◌^◌, Bool, List, fold, sum_by, if◌then◌else◌}
 use Rattle.strm_msg.specs.Message.{Msg}
 use Rattle.strm_msg.specs.declared.words.End.{End}
 use Rattle.strm_msg.specs.declared.words.Side.{Side}
 use Rattle.strm_msg.specs.declared.words.Side.TheVariants.{Rd, Wr}
 use Rattle.strm_module.specs.Kinds.{Meaning}
 use Rattle.strm_chain.specs.declared.chain.hop.Hop.{Hop}
-use Rattle.strm_chain.specs.declared.place.Place.TheVariants as Places
-use Rattle.strm_chain.specs.declared.place.Place.{Place}
-use Rattle.strm_chain.specs.Image.{Image, count_of}
+use Rattle.strm_ends.specs.Image.{Image, count_of}
 use Rattle.strm_chain.specs.Deliver.{up, down}
-use Rattle.strm_chain.specs.Service.{may}
 
 -- a message that goes up with a number of modules still ahead
 abbrev pub up_hop : Bool → End → ℕ → Msg → Hop
@@ -29,11 +26,6 @@ hop_of head_sent Wr e i below (Rd, m) = up_hop head_sent e (i - 1) m
 abbrev pub next_module : {K : Type 0} → Image K → Side → End → ℕ → ℕ
 next_module image Rd e n = n
 next_module image Wr e n = count_of image e - (n - 1)
-
--- the place of a queue of a module
-abbrev pub module_place : Side → End → ℕ → Place
-module_place Rd e i = Places.Rd e i
-module_place Wr e i = Places.Wr e i
 
 -- how far a message may still go
 abbrev pub side_rank : Side → ℕ → ℕ
@@ -60,13 +52,3 @@ module _ {K : Type 0} (means : Meaning K) where
   -- several messages, each carried to its end before the next
   abbrev pub carry_all : Image K → List Hop → Image K
   carry_all image hops = fold (λ i h. carry i h) image hops
-
--- neither queue of a module may move
-pub record ModuleStays {K : Type 0} (image : Image K) (e : End) (i : ℕ) : Type 0 where
-  pub wr : may image (Places.Wr e i) ≡ false
-  pub rd : may image (Places.Rd e i) ≡ false
-
--- no place of an end may move
-pub record EndStays {K : Type 0} (image : Image K) (e : End) : Type 0 where
-  pub drv : may image (Places.Drv e) ≡ false
-  pub modules : (i : ℕ) → ModuleStays image e i

@@ -1,7 +1,8 @@
-pub mod Image
 pub mod Deliver
-pub mod Path
 pub mod Service
 pub mod Fault
 pub mod Hop
 pub mod HeadFlush
+pub mod Number
+pub mod Enabled
+pub mod Count

@@ -1,69 +1,56 @@
-//! A chain: one or two ends over a driver.
+//! A chain: one or two ends over a driver, and their service.
 ghost use Rattle.std.specs.Prelude.{◌≡◌, ◌∷◌, [], ◌≤◌, OnOk, OnErr, IfErr, IfOk, IfSome, IfNone, is_ok, true, map, Some, option_map, option_copied};
 ghost use Rattle.strm_qpair.specs.End.{shapes_of, pair_at};
-ghost use Rattle.strm_qpair.specs.Modules.{IsFitEnd};
+ghost use Rattle.strm_qpair.specs.Modules.{IsFitEnd, HoldsOrdinary};
 ghost use Rattle.strm_qpair.specs.Change.{has_room, inserted, removed, closed};
-ghost use Rattle.strm_chain.specs.Image.{end_of, with_end, count_of, room_of, KeepsHeadRoom, partner, has_end, fresh};
+ghost use Rattle.strm_ends.specs.Image.{end_of, with_end, count_of, KeepsHeadRoom, fresh};
+ghost use Rattle.strm_chain.specs.Enabled.{is_enabled, DueAreEnabled};
 
+use crate::enabling::Enabling;
 use arrayvec::ArrayVec;
 use std::alloc::Global;
 use std::marker::Model;
+use strm_ends::{Ends, Place};
 use strm_module::{Instance, ModuleOf, Shape};
 use strm_msg::{End, NoMem};
-use strm_qpair::{Driver, MOST_MODULES, StreamEnd};
+use strm_qpair::{Driver, MOST_MODULES};
 use strm_queue::Marks;
 
 mod deliver;
 mod head;
 mod hop;
 mod line;
+mod message;
 mod serve;
 mod settle;
 
 pub use deliver::head_sends_once;
 
-/// The queues of a stream, with its modules and what its heads remember.
+/// The queues of a stream, with its modules, what its heads remember, and the places that are
+/// enabled.
 ///
 /// A contract sees its image: the driver, whether the chain is broken, and for each end whether it
 /// is open, the lists of its head and its driver with their marks, its record, and its modules, each
 /// as its shape with two lists. An end that the driver lacks is a closed one without modules and
-/// messages. Beside the image it sees the room of the heads' lists and of a line's.
+/// messages. Beside the image it sees the room of the heads' lists and of a line's, and the run
+/// queue.
+///
+/// No place is forgotten: one that holds a message is enabled, or it must not move and waits for the
+/// queue ahead, which knows it (Programmer's Guide: STREAMS, "Flow Control").
 #[derive(Drop)]
 pub struct Chain<M: ModuleOf> {
-    alloc: Global,
-    driver: Driver,
-    broken: bool,
-    a: StreamEnd<M>,
-    b: StreamEnd<M>,
+    ends: Ends<M>,
+    enabling: Enabling,
 }
 
 impl<M: ModuleOf> Model for Chain<M> {
-    ghost use Rattle.strm_chain.specs.Image.{ChainValue};
+    ghost use Rattle.strm_chain.specs.Enabled.{ChainValue, IsReady, ArePlaces};
 
     ghost Value = { ChainValue M.Kind };
 
-    ghost view = { λ c. record { image = record { driver = c.driver; broken = c.broken; a = c.a.state; b = c.b.state }; room_a = c.a.head_room; room_b = c.b.head_room; line_room = c.a.drv_room } };
-}
+    ghost view = { λ c. record { image = c.ends.image; rooms = c.ends.rooms; run = c.enabling.run } };
 
-/// The end up whose read side a driver sends what came down an end.
-fn partner_of(driver: Driver, end: End) -> End
-    ensures { result ≡ partner driver end }
-{
-    match (driver, end) {
-        (Driver::Loop, End::A) => End::B,
-        (Driver::Loop, End::B) => End::A,
-        _ => end,
-    }
-}
-
-/// Whether a driver has an end: each has end A, and a loop has end B too.
-pub fn has_end(driver: Driver, end: End) -> bool
-    ensures { result ≡ has_end driver end }
-{
-    match end {
-        End::A => true,
-        End::B => driver == Driver::Loop,
-    }
+    ghost invariant = { λ c. IsReady c.ends.image c.enabling × ArePlaces c.ends.image c.enabling.run.items };
 }
 
 impl<M: ModuleOf> Chain<M> {
@@ -71,34 +58,29 @@ impl<M: ModuleOf> Chain<M> {
     pub fn new(alloc: Global, driver: Driver, head: Marks, drv: Marks) -> Result<Chain<M>, NoMem>
         ensures { IfOk result (λ c. c.image ≡ fresh driver head drv) }
     {
-        let a = StreamEnd::new(alloc, head, drv, has_end(driver, End::A))?;
-        let b = StreamEnd::new(alloc, head, drv, has_end(driver, End::B))?;
-        Ok(Chain {
-            alloc,
-            driver,
-            broken: false,
-            a,
-            b,
-        })
+        let ends = Ends::new(alloc, driver, head, drv)?;
+        let mut enabling = Enabling::new(alloc)?;
+        enabling.wake_all(&ends);
+        Ok(Chain { ends, enabling })
     }
 
     /// What takes memory for the chain.
     pub fn alloc(&self) -> Global {
-        self.alloc
+        self.ends.alloc()
     }
 
     /// What stands at the bottom.
     pub fn driver(&self) -> Driver
         ensures { result ≡ self.now.image.driver }
     {
-        self.driver
+        self.ends.driver()
     }
 
     /// Whether memory was wanting after a change. Such a chain neither delivers nor serves.
     pub fn is_broken(&self) -> bool
         ensures { result ≡ self.now.image.broken }
     {
-        self.broken
+        self.ends.is_broken()
     }
 
     /// Breaks the chain, where memory was wanting after a change of the caller's own. It neither
@@ -106,48 +88,39 @@ impl<M: ModuleOf> Chain<M> {
     pub fn break_off(&mut self)
         ensures { self.new ≡ record self.old { image = record self.old.image { broken = true } } }
     {
-        self.broken = true;
-    }
-
-    /// One end.
-    fn end(&self, end: End) -> &StreamEnd<M>
-        ensures state { result.now.state ≡ end_of self.now.image end }
-        ensures room { result.now.head_room ≡ room_of self.now end }
-    {
-        match end {
-            End::A => &self.a,
-            End::B => &self.b,
-        }
+        self.ends.break_off();
     }
 
     /// Whether an end is open. One that the driver lacks never is.
     pub fn is_open(&self, end: End) -> bool
         ensures { result ≡ (end_of self.now.image end).is_open }
     {
-        self.end(end).is_open()
+        self.ends.end(end).is_open()
     }
 
-    /// The number of modules of an end. Each low mark at the end is below its high one.
+    /// The number of modules of an end. Each low mark at the end is below its high one, and no high
+    /// message waits below the head.
     pub fn count(&self, end: End) -> usize
         ensures value { result ≡ count_of self.now.image end }
         ensures few { result ≤ MOST_MODULES }
         ensures fit { IsFitEnd (end_of self.now.image end) }
+        ensures ordinary { HoldsOrdinary (end_of self.now.image end) }
     {
-        self.end(end).count()
+        self.ends.count(end)
     }
 
     /// The shape of a module, counted from 1 for the topmost; `None` where there is none.
     pub fn shape(&self, end: End, i: u8) -> Option<&Shape<M::Kind>>
         ensures { option_copied result ≡ option_map (λ s. s.shape) (pair_at (end_of self.now.image end).modules i) }
     {
-        self.end(end).shape(i)
+        self.ends.end(end).shape(i)
     }
 
     /// Whether another module may be pushed: the end is open and has fewer than `MOST_MODULES`.
     pub fn has_room(&self, end: End) -> bool
         ensures { result ≡ has_room (end_of self.now.image end) }
     {
-        self.end(end).has_room()
+        self.ends.end(end).has_room()
     }
 
     /// Puts a module just below the head, with empty queues (I_PUSH). Takes no memory, and no list
@@ -156,18 +129,18 @@ impl<M: ModuleOf> Chain<M> {
     /// Where `has_room` is false the instance comes back, and nothing is changed.
     pub fn insert(&mut self, end: End, instance: Instance<M>) -> Result<(), Instance<M>>
         ensures variant { is_ok result ≡ has_room (end_of self.old.image end) }
-        ensures ok { OnOk result (self.new ≡ record self.old { image = with_end self.old.image end (inserted (end_of self.old.image end) instance) }) }
+        ensures ok { OnOk result (self.new.image ≡ with_end self.old.image end (inserted (end_of self.old.image end) instance)) }
         ensures err { OnErr result (self.new ≡ self.old) }
         ensures back { IfErr result (λ same. same ≡ instance) }
+        ensures rooms { self.new.rooms ≡ self.old.rooms }
     {
-        if !self.has_room(end) {
-            return Err(instance);
+        match self.ends.insert(end, instance) {
+            Ok(()) => {
+                self.enabling.wake_all(&self.ends);
+                Ok(())
+            }
+            Err(instance) => Err(instance),
         }
-        match end {
-            End::A => self.a.insert(self.alloc, instance),
-            End::B => self.b.insert(self.alloc, instance),
-        }
-        Ok(())
     }
 
     /// Takes the topmost module out, and drops what its queues hold (I_POP). Takes no memory, and no
@@ -175,12 +148,12 @@ impl<M: ModuleOf> Chain<M> {
     pub fn remove(&mut self, end: End) -> Option<Instance<M>>
         ensures some { IfSome result (λ it. shapes_of (end_of self.old.image end) ≡ it ∷ shapes_of (end_of self.new.image end)) }
         ensures none { IfNone result ((end_of self.old.image end).modules ≡ []) }
-        ensures image { self.new ≡ record self.old { image = with_end self.old.image end (removed (end_of self.old.image end)) } }
+        ensures image { self.new.image ≡ with_end self.old.image end (removed (end_of self.old.image end)) }
+        ensures rooms { self.new.rooms ≡ self.old.rooms }
     {
-        match end {
-            End::A => self.a.remove(),
-            End::B => self.b.remove(),
-        }
+        let module = self.ends.remove(end);
+        self.enabling.wake_all(&self.ends);
+        module
     }
 
     /// Takes all modules of an end out, topmost first, drops what their queues and the head's list
@@ -189,12 +162,19 @@ impl<M: ModuleOf> Chain<M> {
     pub fn dismantle(&mut self, end: End) -> ArrayVec<Option<Instance<M>>, MOST_MODULES>
         ensures instances { result.items ≡ map (λ s. Some s.shape) (end_of self.old.image end).modules }
         ensures image { self.new.image ≡ with_end self.old.image end (closed (end_of self.old.image end)) }
-        ensures room { KeepsHeadRoom self.old self.new }
-        ensures line_room { self.new.line_room ≡ self.old.line_room }
+        ensures room { KeepsHeadRoom self.old.rooms self.new.rooms }
+        ensures line_room { self.new.rooms.line ≡ self.old.rooms.line }
     {
-        match end {
-            End::A => self.a.close(),
-            End::B => self.b.close(),
-        }
+        let modules = self.ends.dismantle(end);
+        self.enabling.wake_all(&self.ends);
+        modules
+    }
+
+    /// Whether a place is enabled: service will look at it. Each place that must move is.
+    pub fn is_enabled(&self, place: Place) -> bool
+        ensures value { result ≡ is_enabled self.now.run place }
+        ensures due { DueAreEnabled self.now.image self.now.run }
+    {
+        self.enabling.is_enabled(place)
     }
 }

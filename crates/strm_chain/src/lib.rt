@@ -6,10 +6,15 @@
 #![tactic(auto)]
 
 mod chain;
+mod enabling;
 mod fault;
-mod place;
+mod moves;
+mod number;
+mod spot;
 
-pub use chain::{Chain, has_end, head_sends_once};
+pub use chain::{Chain, head_sends_once};
 pub use fault::ChainFault;
-pub use place::{Moves, Place, Settled, Spot};
+pub use moves::{Moves, Settled};
+pub use spot::Spot;
+pub use strm_ends::{Place, has_end};
 pub use strm_qpair::{Driver, MOST_MODULES, Record};

@@ -7,6 +7,7 @@ use strm_module::{Instance, Kind, ModuleOf, Plain, Shape};
 use strm_msg::{Class, End, Message};
 use strm_queue::Marks;
 
+mod enabled;
 mod faults;
 mod flushes;
 mod ioctls;
@@ -44,11 +45,15 @@ enum Call {
     Serve(Place),
     /// A place that may move is refused.
     ServeFails(Place, ChainFault),
-    /// These places move, until none may.
-    Settle(&'static [Place]),
+    /// These places move, until none is enabled, and so many are looked at.
+    Settle(&'static [Place], u64),
     SettleFails(ChainFault),
     /// Another message is the first of the head of end A, and is taken.
     Take(Text),
+    /// Whether a place is enabled.
+    Enabled(Place, bool),
+    /// No place is enabled.
+    NoneEnabled,
     /// How many messages the list of a head has.
     HeadLen(End, usize),
     /// How many bytes of band 0 the list of a head has.
@@ -60,6 +65,8 @@ enum Call {
 }
 
 const DRV_A: Place = Place::Drv { end: End::A };
+
+const DRV_B: Place = Place::Drv { end: End::B };
 
 /// Where a message comes first that is written at end A.
 const TOP_A: Spot = Spot::Down { end: End::A, i: 1 };
@@ -155,11 +162,16 @@ fn takes<M: ModuleOf>(rt: &impl Abort, chain: &mut Chain<M>, text: Text, at: usi
     assert_eq!(rt; chain.take_head(End::A), Some(want), "call {at}");
 }
 
-/// Serves until nothing may move, by these moves.
-fn settles<M: ModuleOf>(rt: &impl Abort, chain: &mut Chain<M>, want: &[Place], at: usize) {
+/// Serves until no place is enabled, by these moves and so many looks.
+fn settles<M: ModuleOf>(
+    rt: &impl Abort,
+    chain: &mut Chain<M>,
+    (want, looks): (&[Place], u64),
+    at: usize,
+) {
     let settled = chain.settle().expect(rt, "no memory to settle");
     assert_eq!(rt; settled.moves.as_slice(), want, "call {at}");
-    assert_eq!(rt; settled.looks, 0);
+    assert_eq!(rt; settled.looks, looks, "the looks of call {at}");
 }
 
 /// An ordinary message comes in from the line.
@@ -168,6 +180,21 @@ fn comes<M: ModuleOf>(rt: &impl Abort, chain: &mut Chain<M>, text: Text) {
     assert!(rt; chain.driver() == Driver::Line);
     assert!(rt; m.class() == Class::Ordinary);
     assert_eq!(rt; chain.line_put(m), Ok(()));
+}
+
+/// Whether any place is enabled, of both ends and of eight modules at each.
+fn any_enabled<M: ModuleOf>(chain: &Chain<M>) -> bool {
+    for end in [End::A, End::B] {
+        if chain.is_enabled(Place::Drv { end }) {
+            return true;
+        }
+        for i in 1..=8_u8 {
+            if chain.is_enabled(Place::Wr { end, i }) || chain.is_enabled(Place::Rd { end, i }) {
+                return true;
+            }
+        }
+    }
+    false
 }
 
 fn line_full<M: ModuleOf>(rt: &impl Abort, chain: &Chain<M>) -> bool {
@@ -184,7 +211,7 @@ fn acts<M: ModuleOf>(rt: &impl Abort, chain: &mut Chain<M>, call: Call, at: usiz
         Call::Comes(text) => comes(rt, chain, text),
         Call::Serve(place) => serves(rt, chain, place, Ok(()), at),
         Call::ServeFails(place, fault) => serves(rt, chain, place, Err(fault), at),
-        Call::Settle(want) => settles(rt, chain, want, at),
+        Call::Settle(want, looks) => settles(rt, chain, (want, looks), at),
         Call::SettleFails(fault) => {
             let refused = chain.settle().err();
             assert_eq!(rt; refused, Some(fault), "call {at}");
@@ -199,6 +226,10 @@ fn acts<M: ModuleOf>(rt: &impl Abort, chain: &mut Chain<M>, call: Call, at: usiz
 fn shows<M: ModuleOf>(rt: &impl Abort, chain: &Chain<M>, call: Call, at: usize) {
     match call {
         Call::May(place, want) => assert_eq!(rt; chain.may(place), want, "call {at}"),
+        Call::Enabled(place, want) => {
+            assert_eq!(rt; chain.is_enabled(place), want, "call {at}");
+        }
+        Call::NoneEnabled => assert!(rt; !any_enabled(chain), "call {at}"),
         Call::HeadLen(end, want) => assert_eq!(rt; chain.head(end).len(), want, "call {at}"),
         Call::HeadHeld(end, want) => assert_eq!(rt; chain.head(end).held(0), want, "call {at}"),
         Call::FullAhead(want) => assert_eq!(rt; chain.full_ahead(End::A, 0), want, "call {at}"),

@@ -13,13 +13,14 @@ use Rattle.strm_qpair.specs.Modules.{SameEnd}
 use Rattle.strm_qpair.specs.Canput.{above, slack_in}
 use Rattle.strm_qpair.specs.Change.{with_mode, inserted, removed, closed, begun_with, ended}
 use Rattle.strm_qpair.specs.declared.record.Record.{Record}
-use Rattle.strm_chain.specs.declared.place.Place.{Place}
-use Rattle.strm_chain.specs.declared.place.Place.TheVariants as Places
-use Rattle.strm_chain.specs.declared.place.Spot.TheVariants.{Down, Up}
-use Rattle.strm_chain.specs.Image.{Image, end_of, with_end, with_head, with_state, partner, count_of, has_end}
-use Rattle.strm_chain.specs.Path.{ahead, front_of}
-use Rattle.strm_chain.specs.Service.{is_due, due_front, IsQuiet}
-use Rattle.strm_chain.specs.Fault.{SameModules, Breaks}
+use Rattle.strm_ends.specs.declared.place.Place.{Place}
+use Rattle.strm_ends.specs.declared.place.Place.TheVariants as Places
+use Rattle.strm_chain.specs.declared.spot.Spot.TheVariants.{Down, Up}
+use Rattle.strm_ends.specs.Image.{Image, end_of, with_end, with_head, with_state, partner, count_of, has_end}
+use Rattle.strm_ends.specs.Path.{ahead, front_of}
+use Rattle.strm_ends.specs.Flow.{is_due, due_front, IsQuiet}
+use Rattle.strm_ends.specs.Same.{SameModules}
+use Rattle.strm_chain.specs.Fault.{Breaks}
 use Rattle.strm_chain.specs.Deliver.{deliver}
 use Rattle.strm_chain.proofs.QuietLemmas.{same_end}
 use Rattle.strm_chain.proofs.SameLemmas.{deliver_keeps, leads_keeps, with_end_keeps}

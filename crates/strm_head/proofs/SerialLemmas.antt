@@ -9,10 +9,11 @@ use Rattle.strm_qpair.specs.Pair.{QueuePair}
 use Rattle.strm_qpair.specs.End.{EndState, shapes_of}
 use Rattle.strm_qpair.specs.Modules.{SameEnd, Identity, identities_of}
 use Rattle.strm_qpair.specs.Change.{with_mode, inserted, removed, begun_with, ended}
-use Rattle.strm_chain.specs.declared.place.Place.{Place}
-use Rattle.strm_chain.specs.declared.place.Spot.TheVariants.{Down}
-use Rattle.strm_chain.specs.Image.{Image, end_of, with_end, with_state}
-use Rattle.strm_chain.specs.Fault.{SameModules, Breaks}
+use Rattle.strm_ends.specs.declared.place.Place.{Place}
+use Rattle.strm_chain.specs.declared.spot.Spot.TheVariants.{Down}
+use Rattle.strm_ends.specs.Image.{Image, end_of, with_end, with_state}
+use Rattle.strm_ends.specs.Same.{SameModules}
+use Rattle.strm_chain.specs.Fault.{Breaks}
 use Rattle.strm_chain.proofs.SameLemmas.{deliver_keeps, leads_keeps}
 use Rattle.strm_call.specs.declared.request.Request.{Request}
 use Rattle.strm_call.specs.declared.request.Request.TheVariants.{Putmsg, Putpmsg, Getmsg, Getpmsg, Read, Write, Push, Nread, Peek, SetRead, GetRead, Canput, Ckband, Getband, Pop, Look, Find, Str, Flush, FlushBand, Close}

@@ -5,7 +5,7 @@ use Rattle.strm_msg.specs.declared.errno.Errno.TheVariants.{EIO}
 use Rattle.strm_msg.specs.declared.words.End.TheVariants.{A, B}
 use Rattle.strm_queue.specs.Queue.{WaterMarks}
 use Rattle.strm_qpair.specs.declared.driver.Driver.TheVariants.{Echo}
-use Rattle.strm_chain.specs.Image.{Image, fresh}
+use Rattle.strm_ends.specs.Image.{Image, fresh}
 use Rattle.strm_call.specs.declared.request.Priority.TheVariants.{Norm, Hipri}
 use Rattle.strm_call.specs.declared.request.PutFlag.TheVariants as PutFlag
 use Rattle.strm_call.specs.declared.request.GetFlag.TheVariants as GetFlag

@@ -2,8 +2,8 @@
 use Rattle.std.specs.Prelude.{ℕ, ◌≡◌, ◌&&◌, nat_lt, Bool, true, false, None}
 use Rattle.strm_msg.specs.declared.words.End.{End}
 use Rattle.strm_qpair.specs.declared.record.Record.{Record}
-use Rattle.strm_chain.specs.Image.{Image, end_of, has_end}
-use Rattle.strm_chain.specs.Service.{IsQuiet}
+use Rattle.strm_ends.specs.Image.{Image, end_of, has_end}
+use Rattle.strm_ends.specs.Flow.{IsQuiet}
 
 -- the ends that are open are the driver's
 abbrev pub HasItsEnds : {K : Type 0} → Image K → Type 0

@@ -3,13 +3,13 @@ use Rattle.std.specs.Prelude.{◌≡◌, ℕ, Option, Some, None, List, [], ◌�
 use Rattle.strm_msg.specs.Message.{Msg}
 use Rattle.strm_msg.specs.declared.words.End.{End}
 use Rattle.strm_msg.specs.declared.words.End.TheVariants.{A}
-use Rattle.strm_chain.specs.declared.place.Place.{Place}
+use Rattle.strm_ends.specs.declared.place.Place.{Place}
 use Rattle.strm_call.specs.declared.answer.Reply.TheVariants.{Line}
 use Rattle.strm_head.specs.declared.outcome.Arrived as ArrivedType
 use Rattle.strm_head.specs.declared.outcome.Arrived.TheVariants as Came
 use Rattle.strm_module.specs.Kinds.{Meaning}
 use Rattle.strm_module.specs.declared.shape.Shape.{Shape}
-use Rattle.strm_chain.specs.Image.{Image}
+use Rattle.strm_ends.specs.Image.{Image}
 use Rattle.strm_call.specs.declared.answer.Answer.{Answer}
 use Rattle.strm_call.specs.declared.answer.Answer.TheVariants.{Done, Refused, Broke}
 use Rattle.strm_head.specs.declared.history.Event.{Event}

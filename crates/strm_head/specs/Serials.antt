@@ -2,7 +2,7 @@
 use Rattle.std.specs.Prelude.{◌≡◌, ℕ, ◌+◌, ◌==◌, List, [], ◌∷◌, ◌++◌, flat_map, if◌then◌else◌}
 use Rattle.strm_module.specs.declared.shape.Shape.{Shape}
 use Rattle.strm_qpair.specs.End.{shapes_of}
-use Rattle.strm_chain.specs.Image.{Image}
+use Rattle.strm_ends.specs.Image.{Image}
 use Rattle.strm_call.specs.declared.request.Request.TheVariants.{Push}
 use Rattle.strm_call.specs.declared.answer.Answer.{Answer}
 use Rattle.strm_call.specs.declared.answer.Answer.TheVariants.{Done, Broke}

@@ -9,11 +9,12 @@ use Rattle.strm_module.specs.declared.shape.Shape.{Shape}
 use Rattle.strm_qpair.specs.Change.{ended}
 use Rattle.strm_qpair.specs.declared.driver.Driver.{Driver}
 use Rattle.strm_qpair.specs.declared.driver.Driver.TheVariants.{Echo, Loop, Line}
-use Rattle.strm_chain.specs.declared.place.Place.{Place}
-use Rattle.strm_chain.specs.declared.place.Spot.TheVariants.{Up}
-use Rattle.strm_chain.specs.Image.{Image, end_of, with_drv, with_state, count_of}
+use Rattle.strm_ends.specs.declared.place.Place.{Place}
+use Rattle.strm_chain.specs.declared.spot.Spot.TheVariants.{Up}
+use Rattle.strm_ends.specs.Image.{Image, end_of, with_drv, with_state, count_of}
 use Rattle.strm_chain.specs.Deliver.{deliver}
-use Rattle.strm_chain.specs.Service.{Leads, IsQuiet}
+use Rattle.strm_ends.specs.Flow.{IsQuiet}
+use Rattle.strm_chain.specs.Service.{Leads}
 use Rattle.strm_chain.specs.Fault.{Breaks}
 use Rattle.strm_call.specs.declared.request.Request.{Request}
 use Rattle.strm_call.specs.declared.refusal.Refusal.{Refusal}

@@ -5,15 +5,15 @@ ghost use Rattle.strm_call.specs.declared.answer.Answer.TheVariants as Answers;
 use std::alloc::Global;
 use std::marker::Model;
 use strm_call::{Answer, Refusal, Twins};
-use strm_chain::{Moves, Settled};
+use strm_chain::Settled;
 
-/// What a call answered, an equal answer for a record, and the places that moved. A contract sees the
-/// answer and the moves.
+/// What a call answered, an equal answer for a record, and what its service did. A contract sees the
+/// answer, the moves, and the number of looks.
 #[derive(Drop)]
 pub(crate) struct Answered {
     answer: Answer,
     twin: Answer,
-    moves: Moves,
+    settled: Settled,
 }
 
 impl Model for Answered {
@@ -22,22 +22,23 @@ impl Model for Answered {
 
     ghost Value = { AnsweredCall };
 
-    ghost view = { λ a. record { answer = a.answer; moves = a.moves } };
+    ghost view = { λ a. record { answer = a.answer; moves = a.settled.moves; looks = a.settled.looks } };
 
     ghost invariant = { λ a. a.twin ≡ a.answer };
 }
 
 impl Answered {
     /// A call that was done.
-    pub(crate) fn done(reply: Twins, moves: Moves) -> Answered
+    pub(crate) fn done(reply: Twins, settled: Settled) -> Answered
         ensures answer { result.answer ≡ Answers.Done reply }
-        ensures moves { result.moves ≡ moves }
+        ensures moves { result.moves ≡ settled.moves }
+        ensures looks { result.looks ≡ settled.looks }
     {
         let (reply, twin) = reply.into_both();
         Answered {
             answer: Answer::Done(reply),
             twin: Answer::Done(twin),
-            moves,
+            settled,
         }
     }
 
@@ -45,11 +46,12 @@ impl Answered {
     pub(crate) fn refused(alloc: Global, refusal: Refusal) -> Answered
         ensures answer { result.answer ≡ Answers.Refused refusal }
         ensures moves { result.moves ≡ [] }
+        ensures looks { result.looks ≡ 0 }
     {
         Answered {
             answer: Answer::Refused(refusal),
             twin: Answer::Refused(refusal),
-            moves: Moves::new(alloc),
+            settled: Settled::none(alloc),
         }
     }
 
@@ -57,25 +59,27 @@ impl Answered {
     pub(crate) fn broke(alloc: Global) -> Answered
         ensures answer { result.answer ≡ Answers.Broke }
         ensures moves { result.moves ≡ [] }
+        ensures looks { result.looks ≡ 0 }
     {
         Answered {
             answer: Answer::Broke,
             twin: Answer::Broke,
-            moves: Moves::new(alloc),
+            settled: Settled::none(alloc),
         }
     }
 
-    /// The answer, the equal one, and the moves.
-    pub(crate) fn into_parts(self) -> (Answer, Answer, Moves)
+    /// The answer, the equal one, and what the service did.
+    pub(crate) fn into_parts(self) -> (Answer, Answer, Settled)
         ensures answer { result.0 ≡ self.answer }
         ensures twin { result.1 ≡ self.answer }
-        ensures moves { result.2 ≡ self.moves }
+        ensures moves { result.2.moves ≡ self.moves }
+        ensures looks { result.2.looks ≡ self.looks }
     {
         let Answered {
             answer,
             twin,
-            moves,
+            settled,
         } = self;
-        (answer, twin, moves)
+        (answer, twin, settled)
     }
 }

@@ -7,6 +7,8 @@ ghost use Rattle.strm_chain.specs.declared.fault.ChainFault.TheVariants as Chain
 ghost use Rattle.strm_call.specs.Begun.{Fails, begun, begun_ioctl};
 ghost use Rattle.strm_call.specs.Reply.{acknowledged, has_bytes};
 ghost use Rattle.strm_head.specs.Begin.{own_refusal, closed_refusal, common_refusal, refusal_of, begun_of, changes_no_queue, awaits_answer, takes_no_memory, can_lack_memory, handed_out, back_of, out_of, wants_memory};
+ghost use Rattle.strm_module.specs.Calm.{IsCalm};
+ghost use Rattle.strm_head.specs.Answered.{IsLooked, IsBounded};
 ghost use Rattle.strm_head.specs.Inside.{IsKept};
 ghost use Rattle.strm_head.specs.Step.{Finishes, Answers};
 
@@ -15,7 +17,7 @@ use crate::outcome::pushed;
 use arrayvec::ArrayVec;
 use std::alloc::Global;
 use strm_call::{Acknowledged, Refusal, Reply, Request, Twins};
-use strm_chain::{Chain, ChainFault, MOST_MODULES, Moves};
+use strm_chain::{Chain, ChainFault, MOST_MODULES, Settled};
 use strm_ioctl::{
     acknowledged, canput, ckband, close, find, find_refusal, flush, flush_refusal, get_read,
     getband, getband_refusal, list, look, look_refusal, nread, pop, pop_refusal, push,
@@ -233,6 +235,7 @@ fn begin<M: ModuleOf>(
 fn broken<M: ModuleOf>(chain: &mut Chain<M>) -> Answered
     ensures answer { result.answer ≡ Answer.Broke }
     ensures moves { result.moves ≡ [] }
+    ensures looks { result.looks ≡ 0 }
     ensures image { chain.new.image ≡ record chain.old.image { broken = true } }
 {
     chain.break_off();
@@ -243,12 +246,14 @@ fn broken<M: ModuleOf>(chain: &mut Chain<M>) -> Answered
 fn finish<M: ModuleOf>(chain: &mut Chain<M>, end: End, reply: Twins) -> Answered
     ensures finishes { Finishes M.Kind.means end (begun chain.old.image reply) result.answer result.moves [] chain.new.image }
     ensures broken { result.answer ≡ Answer.Broke → chain.old.image.broken ≡ false }
+    ensures looks { IsLooked result.answer result.moves result.looks }
+    ensures bound { IsCalm M.Kind.means → IsBounded chain.old.image result.answer result.moves result.looks chain.new.image }
 {
     if chain.is_broken() {
-        return Answered::done(reply, Moves::new(chain.alloc()));
+        return Answered::done(reply, Settled::none(chain.alloc()));
     }
     match chain.settle() {
-        Ok(settled) => Answered::done(reply, settled.moves),
+        Ok(settled) => Answered::done(reply, settled),
         Err(_) => broken(chain),
     }
 }
@@ -266,10 +271,12 @@ fn answer_of(alloc: Global, kept: &Option<Message>) -> Result<Acknowledged, NoMe
 /// Runs services after an ioctl was sent, until no queue must move, and takes its answer.
 fn finish_ioctl<M: ModuleOf>(chain: &mut Chain<M>, end: End) -> Answered
     requires { chain.old.image.broken ≡ false }
-    ensures { Finishes M.Kind.means end (begun_ioctl chain.old.image) result.answer result.moves [] chain.new.image }
+    ensures finishes { Finishes M.Kind.means end (begun_ioctl chain.old.image) result.answer result.moves [] chain.new.image }
+    ensures looks { IsLooked result.answer result.moves result.looks }
+    ensures bound { IsCalm M.Kind.means → IsBounded chain.old.image result.answer result.moves result.looks chain.new.image }
 {
-    let moves = match chain.settle() {
-        Ok(settled) => settled.moves,
+    let settled = match chain.settle() {
+        Ok(settled) => settled,
         Err(_) => return broken(chain),
     };
     let twin = match answer_of(chain.alloc(), &chain.state(end).kept) {
@@ -279,7 +286,7 @@ fn finish_ioctl<M: ModuleOf>(chain: &mut Chain<M>, end: End) -> Answered
     let answer = acknowledged(chain.end_ioctl(end));
     Answered::done(
         Twins::new(Reply::Str { answer }, Reply::Str { answer: twin }),
-        moves,
+        settled,
     )
 }
 
@@ -296,12 +303,14 @@ pub(crate) fn perform<M: ModuleOf>(
     ensures answers { Answers M.Kind.means chain.old.image end request result.answer result.moves (out_of M.Kind.means chain.old.image end request result.answer) chain.new.image }
     ensures back { back.new.items ≡ back_of M.Kind.means chain.old.image end request result.answer }
     ensures memory { takes_no_memory request ≡ true → wants_memory result.answer ≡ false }
+    ensures looks { IsLooked result.answer result.moves result.looks }
+    ensures bound { IsCalm M.Kind.means → IsBounded (begun_of M.Kind.means chain.old.image end request).image result.answer result.moves result.looks chain.new.image }
 {
     let alloc = chain.alloc();
     let is_quiet = changes_no_queue(&request);
     let awaits = awaits_answer(&request);
     match begin(chain, end, request, back) {
-        Ok(reply) if is_quiet => Answered::done(reply, Moves::new(alloc)),
+        Ok(reply) if is_quiet => Answered::done(reply, Settled::none(alloc)),
         Ok(_) if awaits => finish_ioctl(chain, end),
         Ok(reply) => finish(chain, end, reply),
         Err(ChainFault::NoMem) => Answered::refused(alloc, Refusal::NoMemory),
@@ -321,6 +330,8 @@ pub(crate) fn answer<M: ModuleOf>(
     ensures answers { Answers M.Kind.means chain.old.image end request result.answer result.moves (out_of M.Kind.means chain.old.image end request result.answer) chain.new.image }
     ensures back { back.new.items ≡ back_of M.Kind.means chain.old.image end request result.answer }
     ensures memory { takes_no_memory request ≡ true → wants_memory result.answer ≡ false }
+    ensures looks { IsLooked result.answer result.moves result.looks }
+    ensures bound { IsCalm M.Kind.means → IsBounded (begun_of M.Kind.means chain.old.image end request).image result.answer result.moves result.looks chain.new.image }
 {
     match first_refusal(chain, end, &request) {
         Some(refusal) => {

@@ -23,7 +23,8 @@ pub struct Outcome<M: ModuleOf> {
     pub back: ArrayVec<Option<Instance<M>>, MOST_MODULES>,
     /// The places that moved before the stream was quiet again. Only a call that is done has any.
     pub moves: Moves,
-    /// How many places were looked at, where that is counted; else 0.
+    /// How many places service looked at, each taken out of the run queue: u64::MAX if more, and 0
+    /// where the call is not done.
     pub looks: u64,
 }
 
@@ -34,7 +35,7 @@ pub enum Arrived {
     Taken {
         /// The places that moved before the stream was quiet again.
         moves: Moves,
-        /// How many places were looked at, where that is counted; else 0.
+        /// How many places service looked at: u64::MAX if more.
         looks: u64,
     },
     /// It was not taken, and nothing was changed: the stream is no line, the end is closed, the stream
@@ -64,15 +65,15 @@ impl<M: ModuleOf> Outcome<M> {
         ensures twin { result.twin ≡ result.answer }
         ensures moves { result.moves ≡ answered.moves }
         ensures back { result.back ≡ back }
-        ensures looks { result.looks ≡ 0 }
+        ensures looks { result.looks ≡ answered.looks }
     {
-        let (answer, twin, moves) = answered.into_parts();
+        let (answer, twin, settled) = answered.into_parts();
         Outcome {
             answer,
             twin,
             back,
-            moves,
-            looks: 0,
+            moves: settled.moves,
+            looks: settled.looks,
         }
     }
 }

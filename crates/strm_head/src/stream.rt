@@ -2,11 +2,13 @@
 ghost use Rattle.std.specs.Prelude.{◌≡◌, ◌↔◌, ◌<◌, true, false, [], map, flat_map, option_map, option_copied, IsOk, IsErrOf, IfOk, OnErr};
 ghost use Rattle.strm_msg.specs.Kind.{is_from_line};
 ghost use Rattle.strm_qpair.specs.End.{pair_at};
-ghost use Rattle.strm_chain.specs.Image.{end_of, fresh};
+ghost use Rattle.strm_ends.specs.Image.{end_of, fresh};
 ghost use Rattle.strm_ioctl.specs.Names.{names_of};
 ghost use Rattle.strm_msg.specs.declared.words.End.TheVariants as Ends;
 ghost use Rattle.strm_head.specs.declared.history.Event.TheVariants as Events;
-ghost use Rattle.strm_head.specs.Begin.{takes_no_memory, back_of, out_of, wants_memory};
+ghost use Rattle.strm_head.specs.Begin.{begun_of, takes_no_memory, back_of, out_of, wants_memory};
+ghost use Rattle.strm_module.specs.Calm.{IsCalm};
+ghost use Rattle.strm_head.specs.Answered.{IsLooked, IsBounded};
 ghost use Rattle.strm_head.specs.Inside.{are_marks};
 ghost use Rattle.strm_head.specs.Step.{Step, IsStep, Legal};
 ghost use Rattle.strm_head.specs.Arrive.{Arrives};
@@ -39,7 +41,7 @@ pub struct Stream<M: ModuleOf> {
 }
 
 impl<M: ModuleOf> Model for Stream<M> {
-    ghost use Rattle.strm_chain.specs.Image.{Image};
+    ghost use Rattle.strm_ends.specs.Image.{Image};
     ghost use Rattle.strm_head.specs.Inside.{IsKept};
 
     ghost Value = { Image M.Kind };
@@ -118,7 +120,8 @@ impl<M: ModuleOf> Stream<M> {
         ensures step { Step M.Kind.means self.old end (Events.Asked request) result.answer result.moves (out_of M.Kind.means self.old end request result.answer) self.new }
         ensures twin { result.twin ≡ result.answer }
         ensures back { result.back.items ≡ back_of M.Kind.means self.old end request result.answer }
-        ensures looks { result.looks ≡ 0 }
+        ensures looks { IsLooked result.answer result.moves result.looks }
+        ensures bound { IsCalm M.Kind.means → IsBounded (begun_of M.Kind.means self.old end request).image result.answer result.moves result.looks self.new }
         ensures memory { takes_no_memory request ≡ true → wants_memory result.answer ≡ false }
     {
         let mut back = ArrayVec::new();
@@ -152,20 +155,21 @@ impl<M: ModuleOf> Stream<M> {
         ensures end { result.1.end ≡ end }
         ensures event { result.1.event ≡ Events.Asked request }
         ensures answer { result.1.answer ≡ result.0 }
-        ensures looks { result.1.looks ≡ 0 }
+        ensures looks { IsLooked result.1.answer result.1.moves result.1.looks }
+        ensures bound { IsCalm M.Kind.means → IsBounded (begun_of M.Kind.means self.old end request).image result.1.answer result.1.moves result.1.looks self.new }
         ensures back { back.new.items ≡ back_of M.Kind.means self.old end request result.0 }
         ensures handed { flat_map serial_of back.new.items ≡ due_back result.1.event result.0 result.1.out.items }
         ensures memory { takes_no_memory request ≡ true → wants_memory result.0 ≡ false }
     {
         let answered = answer(&mut self.chain, end, request, back);
-        let (answer, twin, moves) = answered.into_parts();
+        let (answer, twin, settled) = answered.into_parts();
         let out = taken_out(&answer, back);
         let entry = Entry {
             end,
             event: Event::Asked(copy),
             answer: twin,
-            moves,
-            looks: 0,
+            moves: settled.moves,
+            looks: settled.looks,
             out,
         };
         (answer, entry)

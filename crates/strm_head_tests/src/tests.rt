@@ -126,6 +126,13 @@ type Row = (Call, Want, usize);
 /// A call on an end, what it is to answer, and how many queues are to move.
 type EndRow = (End, Call, Want, usize);
 
+/// A call on an end, what it is to answer, how many queues are to move, and at how many places service
+/// is to look.
+///
+/// A place is looked at when a message has come to it, or when the queue that it waits for has drained.
+/// One that may move moves, and is looked at again.
+type LookRow = (End, Call, Want, usize, u64);
+
 /// The serials of modules, topmost first, and nothing behind them.
 type Serials = [Option<u64>; MOST_MODULES];
 
@@ -412,8 +419,15 @@ fn one_serial(serial: Option<u64>) -> Serials {
 }
 
 /// Makes a call on an end, and looks at its answer, at how many queues moved, and at what came back.
-/// A push has the number of its row as serial.
-fn play_at(rt: &impl Abort, alloc: Global, stream: &mut Stream<Plain>, row: EndRow, at: usize) {
+/// A push has the number of its row as serial. Gives the number of places that service looked at: none
+/// where the call is refused, and no fewer than moved.
+fn play_at(
+    rt: &impl Abort,
+    alloc: Global,
+    stream: &mut Stream<Plain>,
+    row: EndRow,
+    at: usize,
+) -> u64 {
     let (end, call, want, moves) = row;
     let serial = at as u64;
     let before = serials(stream, end);
@@ -424,18 +438,24 @@ fn play_at(rt: &impl Abort, alloc: Global, stream: &mut Stream<Plain>, row: EndR
     );
     assert!(rt; outcome.twin == outcome.answer, "the twin of call {at}");
     assert_eq!(rt; outcome.moves.len(), moves, "the moves of call {at}");
-    assert_eq!(rt; outcome.looks, 0);
+    let looks = outcome.looks;
+    assert!(rt; moves as u64 <= looks, "the looks of call {at}");
+    if matches!(want, Want::Refused(_)) {
+        assert_eq!(rt; looks, 0, "the looks of call {at}");
+    }
     assert_eq!(rt;
         came_back(outcome.back.as_slice()),
         back_of(call, want, serial, before),
         "what comes back of call {at}"
     );
+    looks
 }
 
-/// Makes a call on end A, and looks at what became of it.
-fn play(rt: &impl Abort, alloc: Global, stream: &mut Stream<Plain>, row: Row, at: usize) {
+/// Makes a call on end A, and looks at what became of it. Gives the number of places that service looked
+/// at.
+fn play(rt: &impl Abort, alloc: Global, stream: &mut Stream<Plain>, row: Row, at: usize) -> u64 {
     let (call, want, moves) = row;
-    play_at(rt, alloc, stream, (End::A, call, want, moves), at);
+    play_at(rt, alloc, stream, (End::A, call, want, moves), at)
 }
 
 /// Makes the calls of a table on a new echo stream.
@@ -451,5 +471,15 @@ fn play_loop(rt: &impl Abort, alloc: Global, marks: (u32, u32), rows: &[EndRow])
     let mut stream = made(rt, alloc, Driver::Loop, marks);
     for (at, row) in rows.iter().enumerate() {
         play_at(rt, alloc, &mut stream, *row, at);
+    }
+}
+
+/// Makes the calls of a table on a new stream, and counts the places that service looks at.
+fn play_looks(rt: &impl Abort, alloc: Global, driver: Driver, marks: (u32, u32), rows: &[LookRow]) {
+    let mut stream = made(rt, alloc, driver, marks);
+    for (at, row) in rows.iter().enumerate() {
+        let (end, call, want, moves, wanted) = *row;
+        let looks = play_at(rt, alloc, &mut stream, (end, call, want, moves), at);
+        assert_eq!(rt; looks, wanted, "the looks of call {at}");
     }
 }

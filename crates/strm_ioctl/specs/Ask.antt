@@ -4,7 +4,7 @@ use Rattle.strm_msg.specs.Message.{Msg, part_len}
 use Rattle.strm_msg.specs.declared.words.End.{End}
 use Rattle.strm_queue.specs.Queue.{has_band}
 use Rattle.strm_qpair.specs.Canput.{below, full_in}
-use Rattle.strm_chain.specs.Image.{Image, end_of}
+use Rattle.strm_ends.specs.Image.{Image, end_of}
 use Rattle.strm_call.specs.declared.refusal.Refusal.{Refusal}
 use Rattle.strm_call.specs.declared.refusal.Refusal.TheVariants.{NoMessage}
 use Rattle.strm_call.specs.declared.answer.Reply.TheVariants.{Nread, Canput, Ckband, Getband}

@@ -6,8 +6,8 @@ use Rattle.strm_msg.specs.declared.words.End.{End}
 use Rattle.strm_module.specs.Kinds.{Meaning}
 use Rattle.strm_qpair.specs.End.{shapes_of}
 use Rattle.strm_qpair.specs.Change.{closed}
-use Rattle.strm_chain.specs.declared.place.Spot.TheVariants.{Up}
-use Rattle.strm_chain.specs.Image.{Image, end_of, with_end, partner, count_of}
+use Rattle.strm_chain.specs.declared.spot.Spot.TheVariants.{Up}
+use Rattle.strm_ends.specs.Image.{Image, end_of, with_end, partner, count_of}
 use Rattle.strm_chain.specs.Deliver.{deliver}
 use Rattle.strm_call.specs.declared.answer.Reply.TheVariants as Reply
 use Rattle.strm_call.specs.Begun.{Begun, begun_taking}

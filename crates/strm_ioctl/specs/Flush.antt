@@ -5,8 +5,8 @@ use Rattle.strm_msg.specs.Message.{bare}
 use Rattle.strm_msg.specs.declared.kind.MsgKind.TheVariants.{MFlush}
 use Rattle.strm_msg.specs.declared.words.End.{End}
 use Rattle.strm_module.specs.Kinds.{Meaning}
-use Rattle.strm_chain.specs.declared.place.Spot.TheVariants.{Down}
-use Rattle.strm_chain.specs.Image.{Image, end_of}
+use Rattle.strm_chain.specs.declared.spot.Spot.TheVariants.{Down}
+use Rattle.strm_ends.specs.Image.{Image, end_of}
 use Rattle.strm_chain.specs.Deliver.{deliver}
 use Rattle.strm_call.specs.declared.refusal.Refusal.{Refusal}
 use Rattle.strm_call.specs.declared.refusal.Refusal.TheVariants.{Invalid, HungUp}

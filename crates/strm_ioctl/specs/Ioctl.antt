@@ -5,8 +5,8 @@ use Rattle.strm_msg.specs.Message.{Part, part_len, ioctl_msg}
 use Rattle.strm_msg.specs.declared.words.End.{End}
 use Rattle.strm_module.specs.Kinds.{Meaning}
 use Rattle.strm_qpair.specs.Change.{begun_with}
-use Rattle.strm_chain.specs.declared.place.Spot.TheVariants.{Down}
-use Rattle.strm_chain.specs.Image.{Image, end_of, with_state}
+use Rattle.strm_chain.specs.declared.spot.Spot.TheVariants.{Down}
+use Rattle.strm_ends.specs.Image.{Image, end_of, with_state}
 use Rattle.strm_chain.specs.Deliver.{deliver}
 use Rattle.strm_call.specs.declared.request.TheConstants.{MAX_DATA}
 use Rattle.strm_call.specs.declared.refusal.Refusal.{Refusal}

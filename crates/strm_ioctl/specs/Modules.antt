@@ -7,7 +7,7 @@ use Rattle.strm_module.specs.declared.shape.Shape.{Shape}
 use Rattle.strm_qpair.specs.Pair.{QueuePair}
 use Rattle.strm_qpair.specs.End.{shapes_of}
 use Rattle.strm_qpair.specs.Change.{has_room, inserted, removed}
-use Rattle.strm_chain.specs.Image.{Image, end_of, with_end}
+use Rattle.strm_ends.specs.Image.{Image, end_of, with_end}
 use Rattle.strm_call.specs.declared.refusal.Refusal.{Refusal}
 use Rattle.strm_call.specs.declared.refusal.Refusal.TheVariants.{Invalid, HungUp}
 use Rattle.strm_call.specs.declared.answer.Reply.TheVariants.{Push, Pop, Look}

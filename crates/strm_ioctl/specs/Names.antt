@@ -8,7 +8,7 @@ use Rattle.strm_module.specs.declared.shape.TheConstants.{LONGEST_NAME}
 use Rattle.strm_qpair.specs.End.{EndState}
 use Rattle.strm_qpair.specs.declared.driver.Driver.{Driver}
 use Rattle.strm_qpair.specs.declared.driver.Driver.TheVariants.{Echo, Loop, Line}
-use Rattle.strm_chain.specs.Image.{Image, end_of}
+use Rattle.strm_ends.specs.Image.{Image, end_of}
 use Rattle.strm_call.specs.declared.refusal.Refusal.{Refusal}
 use Rattle.strm_call.specs.declared.refusal.Refusal.TheVariants.{Invalid}
 use Rattle.strm_call.specs.declared.answer.Reply.TheVariants as Reply

@@ -3,7 +3,7 @@ use Rattle.strm_msg.specs.declared.words.End.{End}
 use Rattle.strm_msg.specs.declared.words.Prot.{Prot}
 use Rattle.strm_msg.specs.declared.words.ReadMode.{ReadMode}
 use Rattle.strm_qpair.specs.Change.{with_mode}
-use Rattle.strm_chain.specs.Image.{Image, end_of, with_state}
+use Rattle.strm_ends.specs.Image.{Image, end_of, with_state}
 use Rattle.strm_call.specs.declared.answer.Reply.TheVariants.{SetRead, GetRead}
 use Rattle.strm_call.specs.Begun.{Begun, begun}
 

@@ -1,7 +1,7 @@
 //! Nread, canput, ckband and getband: questions, which change nothing and take no memory.
 ghost use Rattle.std.specs.Prelude.{◌≡◌, true, is_some, slice_get};
 ghost use Rattle.strm_msg.specs.Message.{part_len};
-ghost use Rattle.strm_chain.specs.Image.{end_of};
+ghost use Rattle.strm_ends.specs.Image.{end_of};
 ghost use Rattle.strm_ioctl.specs.Ask.{nread_begun, canput_begun, ckband_begun, getband_begun, getband_refusal};
 
 use strm_call::{Refusal, Reply};

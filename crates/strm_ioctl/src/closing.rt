@@ -3,7 +3,7 @@ ghost use Rattle.std.specs.Prelude.{◌≡◌, true, false, map, Some, OnOk, OnE
 ghost use Rattle.strm_msg.specs.declared.words.End.{End};
 ghost use Rattle.strm_chain.specs.declared.fault.ChainFault.TheVariants as ChainFaults;
 ghost use Rattle.strm_chain.specs.Fault.{Breaks};
-ghost use Rattle.strm_chain.specs.Image.{end_of, has_end, partner};
+ghost use Rattle.strm_ends.specs.Image.{end_of, has_end, partner};
 ghost use Rattle.strm_call.specs.Begun.{Fails};
 ghost use Rattle.strm_ioctl.specs.Close.{hung_up, after_close, close_begun};
 

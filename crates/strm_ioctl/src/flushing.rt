@@ -1,7 +1,7 @@
 //! Flushes are sent down, of all bands and of one.
 ghost use Rattle.std.specs.Prelude.{◌≡◌, true, false, None, OnOk, IfOk, IfErr};
 ghost use Rattle.strm_chain.specs.Deliver.{is_there};
-ghost use Rattle.strm_chain.specs.declared.place.Spot.TheVariants as Spots;
+ghost use Rattle.strm_chain.specs.declared.spot.Spot.TheVariants as Spots;
 ghost use Rattle.strm_call.specs.Begun.{Fails};
 ghost use Rattle.strm_ioctl.specs.Flush.{flush_refusal, flushed_of};
 

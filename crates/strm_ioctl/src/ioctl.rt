@@ -2,8 +2,8 @@
 ghost use Rattle.std.specs.Prelude.{◌≡◌, true, false, IsNone, IsSome, OnOk, IfErr};
 ghost use Rattle.strm_qpair.specs.Change.{ended};
 ghost use Rattle.strm_chain.specs.Deliver.{is_there};
-ghost use Rattle.strm_chain.specs.Image.{end_of};
-ghost use Rattle.strm_chain.specs.declared.place.Spot.TheVariants as Spots;
+ghost use Rattle.strm_ends.specs.Image.{end_of};
+ghost use Rattle.strm_chain.specs.declared.spot.Spot.TheVariants as Spots;
 ghost use Rattle.strm_call.specs.Begun.{Fails};
 ghost use Rattle.strm_call.specs.Reply.{acknowledged};
 ghost use Rattle.strm_ioctl.specs.Ioctl.{str_refusal, asked_of};

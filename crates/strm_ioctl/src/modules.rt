@@ -1,7 +1,7 @@
 //! Push and pop: modules are put in below the head and taken out.
 ghost use Rattle.std.specs.Prelude.{◌≡◌, [], ◌∷◌, Some, true, false};
 ghost use Rattle.strm_qpair.specs.Change.{has_room};
-ghost use Rattle.strm_chain.specs.Image.{end_of};
+ghost use Rattle.strm_ends.specs.Image.{end_of};
 ghost use Rattle.strm_ioctl.specs.Ask.{is_empty};
 ghost use Rattle.strm_ioctl.specs.Modules.{push_refusal, pop_refusal, push_begun, pop_begun};
 

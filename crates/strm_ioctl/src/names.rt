@@ -2,7 +2,7 @@
 ghost use Rattle.std.specs.Prelude.{◌≡◌, false, ◌≤◌, length};
 ghost use Rattle.std.specs.List.{list_any};
 ghost use Rattle.strm_qpair.specs.declared.end.TheConstants.{MOST_MODULES};
-ghost use Rattle.strm_chain.specs.Image.{end_of};
+ghost use Rattle.strm_ends.specs.Image.{end_of};
 ghost use Rattle.strm_ioctl.specs.Ask.{is_empty};
 ghost use Rattle.strm_ioctl.specs.Modules.{look_refusal, look_begun};
 ghost use Rattle.strm_ioctl.specs.Names.{names_of, driver_name, has_name, list_begun, find_refusal, find_begun};

@@ -1,3 +1,4 @@
 pub mod ProcedureLemmas
 pub mod EightLemmas
+pub mod CalmLemmas
 pub mod WorkedExamples

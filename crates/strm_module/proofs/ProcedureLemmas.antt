@@ -22,7 +22,7 @@ module _ {K : Type 0} (means : Meaning K) where
   pub serve_of_same : (s : Shape K) (side : Side) (m : Msg) → IsSameModule s (serve_of means s side m).shape
   serve_of_same s side m = record { serial = refl; name = refl; rd = refl; wr = refl }
 
-  abbrev put_if : Shape K → Side → Msg → Bool → Taken K
+  abbrev pub put_if : Shape K → Side → Msg → Bool → Taken K
   put_if s side m queued =
       cond queued (record { shape = s; answer = Queue m })
       (record { shape = (serve_of means s side m).shape; answer = Sent (record { items = (serve_of means s side m).outs }) })

@@ -3,3 +3,4 @@ pub mod Shape
 pub mod Kinds
 pub mod Eight
 pub mod Module
+pub mod Calm

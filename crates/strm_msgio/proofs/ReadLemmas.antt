@@ -12,7 +12,7 @@ use Rattle.strm_msg.specs.declared.words.End.TheVariants.{A, B}
 use Rattle.strm_msg.specs.declared.words.Prot.{Prot}
 use Rattle.strm_msg.specs.declared.words.ReadMode.{ReadMode}
 use Rattle.strm_msg.specs.declared.words.ReadMode.TheVariants.{Rnorm, Rmsgn, Rmsgd}
-use Rattle.strm_chain.specs.Image.{Image, end_of, with_head}
+use Rattle.strm_ends.specs.Image.{Image, end_of, with_head}
 use Rattle.strm_call.specs.declared.answer.Reply.TheVariants as Replies
 use Rattle.strm_msgio.specs.Take.{put_back_if}
 use Rattle.strm_msgio.specs.Read.{read_begun, bytes_in, bytes_read, bytes_of_all, goes_on_to, reached, whole_in, rest_of, cut_first, read_of}

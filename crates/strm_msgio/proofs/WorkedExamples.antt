@@ -9,7 +9,7 @@ use Rattle.strm_msg.specs.declared.words.ReadMode.TheVariants.{Rnorm, Rmsgn, Rms
 use Rattle.strm_queue.specs.Queue.{WaterMarks}
 use Rattle.strm_module.specs.declared.kind.Kind.{Kind}
 use Rattle.strm_qpair.specs.declared.driver.Driver.TheVariants.{Line}
-use Rattle.strm_chain.specs.Image.{Image, fresh}
+use Rattle.strm_ends.specs.Image.{Image, fresh}
 use Rattle.strm_call.specs.declared.refusal.Refusal.TheVariants.{BadMessage, WouldWait}
 use Rattle.strm_call.specs.declared.answer.More.TheVariants.{Nothing, Ctl, Data, Both}
 use Rattle.strm_call.specs.declared.answer.Reply.TheVariants as Reply

@@ -6,7 +6,7 @@ use Rattle.strm_msg.specs.declared.words.End.{End}
 use Rattle.strm_msg.specs.declared.words.Prot.{Prot}
 use Rattle.strm_msg.specs.declared.words.ReadMode.{ReadMode}
 use Rattle.strm_msg.specs.declared.words.ReadMode.TheVariants.{Rnorm, Rmsgn, Rmsgd}
-use Rattle.strm_chain.specs.Image.{Image, end_of, with_head}
+use Rattle.strm_ends.specs.Image.{Image, end_of, with_head}
 use Rattle.strm_call.specs.declared.refusal.Refusal.{Refusal}
 use Rattle.strm_call.specs.declared.refusal.Refusal.TheVariants.{BadMessage, WouldWait}
 use Rattle.strm_call.specs.declared.answer.Reply.TheVariants as Reply

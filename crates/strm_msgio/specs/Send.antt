@@ -6,8 +6,8 @@ use Rattle.strm_msg.specs.Message.{Msg, Part, part_len, data_msg, proto_msg, pcp
 use Rattle.strm_msg.specs.declared.words.End.{End}
 use Rattle.strm_module.specs.Kinds.{Meaning}
 use Rattle.strm_qpair.specs.Canput.{below, full_in}
-use Rattle.strm_chain.specs.declared.place.Spot.TheVariants.{Down}
-use Rattle.strm_chain.specs.Image.{Image, end_of}
+use Rattle.strm_chain.specs.declared.spot.Spot.TheVariants.{Down}
+use Rattle.strm_ends.specs.Image.{Image, end_of}
 use Rattle.strm_chain.specs.Deliver.{deliver}
 use Rattle.strm_call.specs.declared.request.TheConstants.{MAX_CONTROL, MAX_DATA}
 use Rattle.strm_call.specs.declared.request.Priority.{Priority}

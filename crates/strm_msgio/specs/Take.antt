@@ -6,7 +6,7 @@ use Rattle.strm_msg.specs.Message.{Msg}
 use Rattle.strm_msg.specs.declared.words.End.{End}
 use Rattle.strm_queue.specs.Queue.{put_back_in}
 use Rattle.strm_qpair.specs.End.{EndState}
-use Rattle.strm_chain.specs.Image.{Image, end_of, with_head}
+use Rattle.strm_ends.specs.Image.{Image, end_of, with_head}
 use Rattle.strm_call.specs.declared.request.Priority.{Priority}
 use Rattle.strm_call.specs.declared.request.Priority.TheVariants.{Norm, Hipri}
 use Rattle.strm_call.specs.declared.request.Wanted.{Wanted}

@@ -1,7 +1,7 @@
 //! Read: the bytes of the messages at the head are taken, and what stays of them is put back.
 ghost use Rattle.std.specs.Prelude.{◌≡◌, [], IsOk, ◌≤◌, ◌++◌, OnOk, OnErr, IfOk, length, take, drop, slice_get, option_copied};
 ghost use Rattle.strm_msg.specs.Message.{part_len};
-ghost use Rattle.strm_chain.specs.Image.{end_of, with_head, KeepsHeadRoom};
+ghost use Rattle.strm_ends.specs.Image.{end_of, with_head, KeepsHeadRoom};
 ghost use Rattle.strm_call.specs.declared.answer.Reply.TheVariants as Replies;
 ghost use Rattle.strm_msgio.specs.Take.{put_back_if};
 ghost use Rattle.strm_msgio.specs.Read.{bytes_in, bytes_read, bytes_of_all, is_unread, goes_on_to, reached, whole_in, rest_of, read_of, read_refusal, read_begun};
@@ -204,7 +204,7 @@ fn found_in(
 /// Takes the first messages of a head away, so many.
 fn take_away<M: ModuleOf>(chain: &mut Chain<M>, end: End, count: usize)
     ensures image { chain.new.image ≡ with_head chain.old.image end (drop count (end_of chain.old.image end).head) }
-    ensures room { KeepsHeadRoom chain.old chain.new }
+    ensures room { KeepsHeadRoom chain.old.rooms chain.new.rooms }
 {
     for _i in 0..count {
         let _ = chain.take_head(end);

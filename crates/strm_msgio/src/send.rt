@@ -2,7 +2,7 @@
 ghost use Rattle.std.specs.Prelude.{◌≡◌, true, false, IfOk, OnOk, IfErr, IsOk, IsNone, nat_lt};
 ghost use Rattle.strm_msg.specs.Message.{part_len};
 ghost use Rattle.strm_chain.specs.Deliver.{is_there};
-ghost use Rattle.strm_chain.specs.declared.place.Spot.TheVariants as Spots;
+ghost use Rattle.strm_chain.specs.declared.spot.Spot.TheVariants as Spots;
 ghost use Rattle.strm_call.specs.Begun.{Fails};
 ghost use Rattle.strm_msgio.specs.Send.{putmsg_refusal, putpmsg_refusal, write_refusal, putmsg_begun, putpmsg_begun, write_begun, putmsg_message, putpmsg_message, ordinary_message, high_message, ordinary_band, waiting_refusal, sending_refusal, sent_of};
 

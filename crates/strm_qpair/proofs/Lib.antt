@@ -1,3 +1,4 @@
 pub mod PairLemmas
 pub mod EndLemmas
-pub mod CanputLemmas
+pub mod WaitLemmas
+pub mod NextLemmas

@@ -65,7 +65,3 @@ full_in (Some q) b = is_full q.marks q.messages b
 abbrev pub slack_in : Option Fill → ℕ → Bool
 slack_in None b = true
 slack_in (Some q) b = is_slack q.marks q.messages b
-
--- whether a queue is full in a band
-abbrev pub is_full_in : ℕ → Fill → Bool
-is_full_in b q = is_full q.marks q.messages b

@@ -1,14 +1,19 @@
 -- What is true of an end's fields. No public clause cites this.
 use Rattle.std.specs.Prelude.{◌≡◌, ◌<◌, ◌≤◌, ℕ, true, List, length}
+use Rattle.std.specs.List.{list_all}
+use Rattle.strm_msg.specs.Message.{Msg}
 use Rattle.strm_queue.specs.Queue.{WaterMarks}
 use Rattle.strm_qpair.specs.Pair.{QueuePair}
-use Rattle.strm_qpair.specs.Modules.{are_fit}
+use Rattle.strm_qpair.specs.Modules.{are_fit, are_ordinary, waits_well}
 use Rattle.strm_qpair.specs.declared.end.TheConstants.{MOST_MODULES}
 
--- room for all modules that there can be, no more of them, and marks whose low ones are below the high ones
-pub record IsKept {K : Type 0} (capacity : ℕ) (modules : List (QueuePair K)) (head drv : WaterMarks) : Type 0 where
+-- room for all modules that there can be, no more of them, marks whose low ones are below the high ones, and no high message in
+-- a queue of a module or in the driver's list
+pub record IsKept {K : Type 0} (capacity : ℕ) (modules : List (QueuePair K)) (head drv : WaterMarks) (waiting : List Msg) : Type 0 where
   pub room : MOST_MODULES ≤ capacity
   pub few : length modules ≤ MOST_MODULES
   pub head_fit : head.lo < head.hi
   pub drv_fit : drv.lo < drv.hi
   pub fit : are_fit modules ≡ true
+  pub waits : list_all waits_well modules ≡ true
+  pub ordinary : are_ordinary waiting ≡ true

@@ -4,5 +4,6 @@ pub mod Modules
 pub mod Head
 pub mod Driver
 pub mod Canput
+pub mod Next
 pub mod Change
 pub mod Inside

@@ -1,6 +1,9 @@
--- What no message changes about an end: which modules stand there and where they queue, and which ioctl is awaited.
-use Rattle.std.specs.Prelude.{◌≡◌, ◌<◌, ◌&&◌, ℕ, nat_lt, Bool, true, Option, Some, None, List, map}
+-- What no message changes about an end: which modules stand there and where they queue, which ioctl is awaited, and that no
+-- high message waits in a queue.
+use Rattle.std.specs.Prelude.{◌≡◌, ◌<◌, ◌&&◌, not, ℕ, nat_lt, Bool, true, false, Option, Some, None, List, [], ◌∷◌, map}
 use Rattle.std.specs.List.{list_all}
+use Rattle.strm_msg.specs.Kind.{is_high}
+use Rattle.strm_msg.specs.Message.{Msg}
 use Rattle.strm_queue.specs.Queue.{WaterMarks}
 use Rattle.strm_module.specs.declared.shape.Shape.{Shape}
 use Rattle.strm_qpair.specs.Pair.{QueuePair}
@@ -52,3 +55,25 @@ pub record IsFitEnd {K : Type 0} (e : EndState K) : Type 0 where
   pub head : e.head_marks.lo < e.head_marks.hi
   pub drv : e.drv_marks.lo < e.drv_marks.hi
   pub modules : are_fit e.modules ≡ true
+
+-- no high message
+abbrev pub are_ordinary : List Msg → Bool
+are_ordinary q = list_all (λ m. not (is_high m.kind)) q
+
+-- no message at all
+abbrev pub is_nothing : List Msg → Bool
+is_nothing [] = true
+is_nothing (m ∷ q) = false
+
+-- a queue holds ordinary messages alone, and where there is none no message waits
+abbrev pub waits_in : Option WaterMarks → List Msg → Bool
+waits_in None q = is_nothing q
+waits_in (Some marks) q = are_ordinary q
+
+abbrev pub waits_well : {K : Type 0} → QueuePair K → Bool
+waits_well s = waits_in s.shape.rd s.rd && waits_in s.shape.wr s.wr
+
+-- no high message waits in a queue of a module or in the driver's list, and none at all where a module has no queue
+pub record HoldsOrdinary {K : Type 0} (e : EndState K) : Type 0 where
+  pub modules : list_all waits_well e.modules ≡ true
+  pub driver : are_ordinary e.drv ≡ true

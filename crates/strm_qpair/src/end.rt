@@ -4,7 +4,7 @@ ghost use Rattle.strm_msg.specs.Message.{rank_of};
 ghost use Rattle.strm_queue.specs.Queue.{put_in, put_back_in, is_full};
 ghost use Rattle.strm_queue.specs.Room.{room_for};
 ghost use Rattle.strm_qpair.specs.End.{KeepsRoom, in_head, in_state, in_drv, shapes_of, pair_at, list_at, end_gets, end_serves};
-ghost use Rattle.strm_qpair.specs.Modules.{SameEnd, IsFitEnd};
+ghost use Rattle.strm_qpair.specs.Modules.{SameEnd, IsFitEnd, HoldsOrdinary};
 ghost use Rattle.strm_qpair.specs.Change.{has_room, inserted, removed, closed, fresh_end, with_mode, begun, undone, ended};
 
 use crate::pair::Pair;
@@ -45,7 +45,7 @@ impl<M: ModuleOf> Model for StreamEnd<M> {
 
     ghost view = { λ e. record { state = record { is_open = e.is_open; head_marks = e.head.marks; head = e.head.messages; state = e.state; modules = e.pairs.items; drv_marks = e.drv.marks; drv = e.drv.messages }; head_room = e.head.room; drv_room = e.drv.room } };
 
-    ghost invariant = { λ e. IsKept (vec_capacity e.pairs) e.pairs.items e.head.marks e.drv.marks };
+    ghost invariant = { λ e. IsKept (vec_capacity e.pairs) e.pairs.items e.head.marks e.drv.marks e.drv.messages };
 }
 
 impl<M: ModuleOf> StreamEnd<M> {
@@ -75,11 +75,12 @@ impl<M: ModuleOf> StreamEnd<M> {
     }
 
     /// The number of modules. Their marks, and those of both lists, are such that the low one is
-    /// below the high one.
+    /// below the high one, and no high message waits in a queue of theirs or in the driver's list.
     pub fn count(&self) -> usize
         ensures value { result ≡ length self.now.state.modules }
         ensures few { result ≤ MOST_MODULES }
         ensures fit { IsFitEnd self.now.state }
+        ensures ordinary { HoldsOrdinary self.now.state }
     {
         self.pairs.len()
     }
@@ -165,6 +166,17 @@ impl<M: ModuleOf> StreamEnd<M> {
             return Ok(Outs::new());
         }
         self.pairs[i - 1].serve(alloc, side)
+    }
+
+    /// The number of messages in a module's queue of a side, 0 where it has none or is not there.
+    pub fn len(&self, i: u8, side: Side) -> usize
+        ensures { result ≡ length (list_at self.now.state i side) }
+    {
+        let i = usize::from(i);
+        if i == 0 || i > self.pairs.len() {
+            return 0;
+        }
+        self.pairs[i - 1].len(side)
     }
 
     /// The first message of a module's queue of a side.

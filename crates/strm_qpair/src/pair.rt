@@ -1,9 +1,10 @@
 //! A module with its two queues.
-ghost use Rattle.std.specs.Prelude.{◌≡◌, [], ◌∷◌, IfOk, OnOk, OnErr, IsSome, IfSome, IfNone, true, option_map, option_copied, slice_get};
+ghost use Rattle.std.specs.Prelude.{◌≡◌, [], ◌∷◌, IfOk, OnOk, OnErr, IsSome, IfSome, IfNone, true, length, option_map, option_copied, slice_get};
 ghost use Rattle.strm_queue.specs.Queue.{put_in};
+ghost use Rattle.strm_module.specs.Shape.{queues_on};
 ghost use Rattle.strm_qpair.specs.Pair.{messages_in, marks_in, list_on, fresh_pair, flushed, flushed_pair, pair_gets, pair_serves};
-ghost use Rattle.strm_qpair.specs.Modules.{identity_of, is_fit, is_fit_module};
-ghost use Rattle.strm_qpair.specs.Canput.{fill_on, is_full_in};
+ghost use Rattle.strm_qpair.specs.Modules.{identity_of, is_fit, is_fit_module, waits_well};
+ghost use Rattle.strm_qpair.specs.Canput.{fill_of, fill_on};
 
 use std::alloc::Global;
 use std::marker::Model;
@@ -92,6 +93,7 @@ impl<M: ModuleOf> Pair<M> {
     pub(crate) fn new(alloc: Global, instance: Instance<M>) -> Pair<M>
         ensures value { result ≡ fresh_pair instance }
         ensures fit { is_fit_module (identity_of instance) ≡ true }
+        ensures waits { waits_well result ≡ true }
     {
         let rd = queue_of(alloc, instance.shape().rd);
         let wr = queue_of(alloc, instance.shape().wr);
@@ -138,6 +140,7 @@ impl<M: ModuleOf> Pair<M> {
         ensures pair { OnOk result (self.new ≡ (pair_gets M.Kind.means self.old side m).pair) }
         ensures err { OnErr result (self.new ≡ self.old) }
         ensures identity { identity_of self.new.shape ≡ identity_of self.old.shape }
+        ensures waits { waits_well self.old ≡ true → waits_well self.new ≡ true }
     {
         let kind = m.kind;
         match self.instance.put(alloc, side, m)? {
@@ -155,17 +158,37 @@ impl<M: ModuleOf> Pair<M> {
         }
     }
 
-    /// Whether the queue of a side is full in a band, if there is one.
-    pub(crate) fn full_on(&self, side: Side, b: u8) -> Option<bool>
-        ensures { result ≡ option_map (is_full_in b) (fill_on side self.now) }
+    /// Whether the module has a queue of a side.
+    pub(crate) fn has_queue(&self, side: Side) -> bool
+        ensures { result ≡ queues_on self.now.shape side }
+    {
+        match side {
+            Side::Rd => self.rd.is_some(),
+            Side::Wr => self.wr.is_some(),
+        }
+    }
+
+    /// The queue of a side, if there is one.
+    pub(crate) fn queue(&self, side: Side) -> Option<&BandQueue>
+        ensures { option_map fill_of (option_copied result) ≡ fill_on side self.now }
+    {
+        match side {
+            Side::Rd => self.rd.as_ref(),
+            Side::Wr => self.wr.as_ref(),
+        }
+    }
+
+    /// The number of messages in the queue of a side.
+    pub(crate) fn len(&self, side: Side) -> usize
+        ensures { result ≡ length (list_on self.now side) }
     {
         let queue = match side {
             Side::Rd => &self.rd,
             Side::Wr => &self.wr,
         };
         match queue {
-            Some(queue) => Some(queue.full(b)),
-            None => None,
+            Some(queue) => queue.len(),
+            None => 0,
         }
     }
 
@@ -188,6 +211,7 @@ impl<M: ModuleOf> Pair<M> {
         ensures outs { IfOk result (λ outs. outs.items ≡ (pair_serves M.Kind.means self.old side).outs) }
         ensures pair { OnOk result (self.new ≡ (pair_serves M.Kind.means self.old side).pair) }
         ensures identity { identity_of self.new.shape ≡ identity_of self.old.shape }
+        ensures waits { waits_well self.old ≡ true → waits_well self.new ≡ true }
     {
         let front = match side {
             Side::Rd => take_front(&mut self.rd),

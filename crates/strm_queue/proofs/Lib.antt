@@ -6,5 +6,6 @@ pub mod ListLemmas
 pub mod OrderLemmas
 pub mod PlaceLemmas
 pub mod RoomLemmas
+pub mod RunLemmas
 pub mod StandLemmas
 mod WorkedExamples

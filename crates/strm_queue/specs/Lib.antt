@@ -1,3 +1,4 @@
 pub mod Lanes
 pub mod Queue
 pub mod Room
+pub mod Run

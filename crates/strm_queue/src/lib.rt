@@ -9,8 +9,10 @@ mod lane;
 mod lanes;
 mod marks;
 mod queue;
+mod run;
 #[cfg(test)]
 mod tests;
 
 pub use marks::Marks;
 pub use queue::BandQueue;
+pub use run::RunQueue;

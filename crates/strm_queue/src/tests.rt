@@ -293,3 +293,79 @@ fn a_band_that_ran_empty_is_used_again(rt: HostRuntime) {
     }
     assert_eq!(rt; q.first().expect(&rt, "a message").band, 0);
 }
+
+// By hand: a place that is enabled twice stands there once, so it is given out once.
+#[test]
+fn a_place_is_enabled_once(rt: HostRuntime) {
+    let mut run = RunQueue::new(rt.alloc(), 2).expect(&rt, "no memory");
+    assert_eq!(rt; (run.places(), run.len(), run.given()), (2, 0, 0));
+    assert!(rt; run.is_empty());
+    run.enable(1);
+    run.enable(1);
+    assert_eq!(rt; (run.is_enabled(0), run.is_enabled(1)), (false, true));
+    assert_eq!(rt; (run.len(), run.is_empty()), (1, false));
+    assert_eq!(rt; run.next(), Some(1));
+    assert!(rt; !run.is_enabled(1));
+    assert_eq!(rt; run.next(), None);
+    assert_eq!(rt; (run.places(), run.len()), (2, 0));
+}
+
+// By hand: 2, 0 and 1 come out in that order, whatever their numbers; to enable 2 again before it was
+// given out leaves it in front. Once it was given out it is enabled again, behind the others.
+#[test]
+fn places_are_given_out_in_order(rt: HostRuntime) {
+    let mut run = RunQueue::new(rt.alloc(), 3).expect(&rt, "no memory");
+    assert_eq!(rt; run.first(), None);
+    run.enable(2);
+    run.enable(0);
+    run.enable(2);
+    run.enable(1);
+    assert_eq!(rt; (run.len(), run.first()), (3, Some(2)));
+    assert_eq!(rt; run.next(), Some(2));
+    run.enable(2);
+    assert_eq!(rt; run.len(), 3);
+    assert_eq!(rt; run.next(), Some(0));
+    assert_eq!(rt; run.next(), Some(1));
+    assert_eq!(rt; run.next(), Some(2));
+    assert_eq!(rt; run.next(), None);
+}
+
+// By hand: each place that is given out counts, also one that was before, and an empty queue that gives
+// out none counts nothing. To count from 0 again leaves what is enabled.
+#[test]
+fn places_that_are_given_out_are_counted(rt: HostRuntime) {
+    let mut run = RunQueue::new(rt.alloc(), 2).expect(&rt, "no memory");
+    run.enable(0);
+    assert_eq!(rt; (run.next(), run.given()), (Some(0), 1));
+    assert_eq!(rt; (run.next(), run.given()), (None, 1));
+    run.enable(0);
+    run.enable(1);
+    assert_eq!(rt; (run.next(), run.given()), (Some(0), 2));
+    run.restart();
+    assert_eq!(rt; (run.given(), run.len()), (0, 1));
+    assert_eq!(rt; (run.next(), run.given()), (Some(1), 1));
+}
+
+// By hand: what was enabled is not given out after it was cleared, and can be enabled again. The count is
+// of what was given out before, and stays.
+#[test]
+fn a_run_queue_is_cleared(rt: HostRuntime) {
+    let mut run = RunQueue::new(rt.alloc(), 2).expect(&rt, "no memory");
+    run.enable(1);
+    run.enable(0);
+    assert_eq!(rt; run.next(), Some(1));
+    run.enable(1);
+    run.clear();
+    assert_eq!(rt; (run.is_empty(), run.given(), run.places()), (true, 1, 2));
+    assert_eq!(rt; (run.is_enabled(0), run.is_enabled(1)), (false, false));
+    assert_eq!(rt; run.next(), None);
+    run.enable(1);
+    assert_eq!(rt; (run.next(), run.given()), (Some(1), 2));
+}
+
+// By hand: a queue of no places gives out none.
+#[test]
+fn a_run_queue_may_have_no_places(rt: HostRuntime) {
+    let mut run = RunQueue::new(rt.alloc(), 0).expect(&rt, "no memory");
+    assert_eq!(rt; (run.first(), run.next(), run.given()), (None, None, 0));
+}

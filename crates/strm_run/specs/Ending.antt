@@ -3,7 +3,7 @@ use Rattle.std.specs.Prelude.{◌≡◌, ℕ, ◌<◌, false, Option, Some, None
 use Rattle.std.specs.Global.{Global}
 use Rattle.strm_msg.specs.declared.words.End.TheVariants.{A, B}
 use Rattle.strm_module.specs.Kinds.{Meaning}
-use Rattle.strm_chain.specs.Image.{Image, end_of}
+use Rattle.strm_ends.specs.Image.{Image, end_of}
 use Rattle.strm_head.specs.Step.{is_line}
 use Rattle.strm_shared.specs.declared.setup.Setup.{Setup}
 use Rattle.strm_shared.specs.declared.entry.Entry.{Entry}

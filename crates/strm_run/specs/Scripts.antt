@@ -3,7 +3,7 @@ use Rattle.std.specs.Prelude.{◌≡◌, ℕ, zero, suc, ◌&&◌, ◌==◌, nat
 use Rattle.strm_msg.specs.Message.{Msg}
 use Rattle.strm_msg.specs.declared.words.End.{End}
 use Rattle.strm_module.specs.declared.shape.Shape.{Shape}
-use Rattle.strm_chain.specs.Image.{has_end}
+use Rattle.strm_ends.specs.Image.{has_end}
 use Rattle.strm_head.specs.Step.{is_line}
 use Rattle.strm_head.specs.declared.history.Event.{Event}
 use Rattle.strm_head.specs.declared.history.Event.TheVariants.{Asked}

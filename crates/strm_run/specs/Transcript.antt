@@ -5,7 +5,7 @@ use Rattle.strm_msg.specs.Message.{Msg}
 use Rattle.strm_msg.specs.declared.words.End.TheVariants.{A, B}
 use Rattle.strm_module.specs.Kinds.{Meaning}
 use Rattle.strm_qpair.specs.End.{EndState}
-use Rattle.strm_chain.specs.Image.{Image, end_of}
+use Rattle.strm_ends.specs.Image.{Image, end_of}
 use Rattle.strm_ioctl.specs.Names.{names_of}
 use Rattle.strm_head.specs.declared.history.Event.{Event}
 use Rattle.strm_head.specs.declared.history.Event.TheVariants.{Asked, Arrived}

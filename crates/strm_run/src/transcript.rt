@@ -1,7 +1,7 @@
 //! What a run leaves.
 ghost use Rattle.std.specs.Prelude.{◌≡◌, length, count_by};
 ghost use Rattle.strm_msg.specs.declared.words.End.TheVariants.{A, B};
-ghost use Rattle.strm_chain.specs.Image.{end_of};
+ghost use Rattle.strm_ends.specs.Image.{end_of};
 ghost use Rattle.strm_shared.specs.History.{arrivals};
 ghost use Rattle.strm_run.specs.Transcript.{names_at, has_come_in};
 

@@ -1,5 +1,5 @@
 -- Histories whose calls are in turn, with one entry more.
-use Rattle.std.proofs.Common.{◌≡◌, ℕ, zero, suc, ◌+◌, ◌<◌, ◌==◌, ◌++◌, Bool, true, false, cond, if◌then◌else◌, Option, Some, None, List, [], ◌∷◌, All, length, take, slice_get, get_or, set, replicate, refl, sym, ◌∙◌, ap, subst, arith}
+use Rattle.std.proofs.Common.{◌≡◌, ℕ, zero, suc, ◌+◌, ◌<◌, ◌==◌, ◌++◌, Bool, true, false, cond, if◌then◌else◌, Option, Some, None, List, [], ◌∷◌, All, length, take, slice_get, get_or, set, replicate, Err, IsErrOf, refl, sym, ◌∙◌, ap, subst, arith}
 use Rattle.std.proofs.lemmas.List.{length-append, length-set, get_or-set_same, get_or-set_other, get_or-replicate, length-replicate, append-nil, map-append}
 use Rattle.std.proofs.lemmas.List.Elements.{All-push, filter-append}
 use Rattle.std.proofs.lemmas.Option.{same_Some}
@@ -13,6 +13,7 @@ use Rattle.strm_head.specs.declared.history.Event.{Event}
 use Rattle.strm_head.specs.declared.history.Event.TheVariants.{Asked}
 use Rattle.strm_shared.specs.declared.entry.Who.TheVariants.{Caller, Line}
 use Rattle.strm_shared.specs.declared.entry.Entry.{Entry}
+use Rattle.strm_shared.specs.declared.fault.EndFault.TheVariants as EndFaults
 use Rattle.strm_shared.specs.declared.call.Call.{Call}
 use Rattle.strm_shared.specs.declared.call.Called.{Called}
 use Rattle.strm_shared.specs.declared.call.Called.TheVariants.{Done, NoRoom}
@@ -163,3 +164,7 @@ counts_agree calls counts history seats are all i d below =
     let s = get_or seats i d in
     let has = and_parts _ _ (all i d below) in
     sym (are.counts_are s.caller (ltb-true s.caller (length counts) has.0)) ∙ eqb-true _ s.calls has.1
+
+-- an end that is unfinished is not refused for its seats
+pub unfinished_apart : {T C : Type 0} → IsErrOf {T = T} (Err EndFaults.Unfinished) EndFaults.Seats → C
+unfinished_apart h = cc

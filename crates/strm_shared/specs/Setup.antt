@@ -1,6 +1,6 @@
 -- How a shared stream is made.
 use Rattle.std.specs.Prelude.{◌&&◌, ◌||◌, not, nat_le, Bool}
-use Rattle.strm_chain.specs.Image.{Image, fresh}
+use Rattle.strm_ends.specs.Image.{Image, fresh}
 use Rattle.strm_head.specs.Inside.{are_marks}
 use Rattle.strm_head.specs.Step.{is_line}
 use Rattle.strm_shared.specs.declared.setup.Setup.{Setup}

@@ -1,15 +1,17 @@
 //! Delivery: a message is carried to its end, and what comes of it.
 ghost use Rattle.std.specs.Prelude.{◌≡◌, OnOk, IfErr, true, false};
 ghost use Rattle.strm_chain.specs.Deliver.{deliver, is_there};
-ghost use Rattle.strm_chain.specs.Fault.{SameModules, Refuses};
+ghost use Rattle.strm_ends.specs.Same.{SameModules};
+ghost use Rattle.strm_chain.specs.Fault.{Refuses};
 ghost use Rattle.strm_chain.specs.HeadFlush.{HeadSendsOnce};
 ghost use Rattle.strm_chain.specs.Hop.{carry};
 
+use super::Chain;
 use super::hop::Hop;
-use super::{Chain, has_end};
 use crate::fault::ChainFault;
-use crate::place::Spot;
+use crate::spot::Spot;
 use std::collections::VecDeque;
+use strm_ends::has_end;
 use strm_module::ModuleOf;
 use strm_msg::Message;
 
@@ -20,9 +22,9 @@ impl<M: ModuleOf> Chain<M> {
     {
         match spot {
             Spot::Down { end, i } => {
-                has_end(self.driver, end) && 1 <= i && usize::from(i) <= self.count(end) + 1
+                has_end(self.driver(), end) && 1 <= i && usize::from(i) <= self.count(end) + 1
             }
-            Spot::Up { end, i } => has_end(self.driver, end) && usize::from(i) <= self.count(end),
+            Spot::Up { end, i } => has_end(self.driver(), end) && usize::from(i) <= self.count(end),
         }
     }
 
@@ -44,6 +46,7 @@ impl<M: ModuleOf> Chain<M> {
     pub(super) fn give_up(&mut self) -> ChainFault
         ensures fault { result ≡ ChainFault.Broken }
         ensures image { self.new.image ≡ record self.old.image { broken = true } }
+        ensures given { self.new.run.given ≡ self.old.run.given }
     {
         self.break_off();
         ChainFault::Broken
@@ -61,11 +64,11 @@ impl<M: ModuleOf> Chain<M> {
         ensures same { OnOk result (SameModules self.old.image self.new.image) }
         ensures refused { IfErr result (λ fault. Refuses fault self.old.image self.new.image) }
     {
-        if self.broken {
+        if self.ends.is_broken() {
             return Err(ChainFault::Broken);
         }
         let hop = self.handed_in(spot, m);
-        let mut hops = VecDeque::new(self.alloc);
+        let mut hops = VecDeque::new(self.ends.alloc());
         match self.hop(&mut hops, hop) {
             Ok(()) => {}
             Err(_) => return Err(ChainFault::NoMem),

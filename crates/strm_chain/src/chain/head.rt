@@ -5,9 +5,10 @@ ghost use Rattle.strm_queue.specs.Queue.{put_back_in};
 ghost use Rattle.strm_queue.specs.Room.{room_for};
 ghost use Rattle.strm_qpair.specs.End.{KeepsRoom, SpendsOne};
 ghost use Rattle.strm_qpair.specs.Change.{with_mode, begun, undone, ended};
-ghost use Rattle.strm_chain.specs.Image.{end_of, with_head, with_state, room_of, other_end, KeepsHeadRoom};
+ghost use Rattle.strm_ends.specs.Image.{end_of, with_head, with_state, room_of, other_end, KeepsHeadRoom};
 
 use super::Chain;
+use strm_ends::NextQueue;
 use strm_module::ModuleOf;
 use strm_msg::{End, Message, NoMem, Prot, ReadMode};
 use strm_qpair::Record;
@@ -18,38 +19,36 @@ impl<M: ModuleOf> Chain<M> {
     pub fn head(&self, end: End) -> &BandQueue
         ensures messages { result.now.messages ≡ (end_of self.now.image end).head }
         ensures marks { result.now.marks ≡ (end_of self.now.image end).head_marks }
-        ensures room { result.now.room ≡ room_of self.now end }
+        ensures room { result.now.room ≡ room_of self.now.rooms end }
     {
-        self.end(end).head()
+        self.ends.end(end).head()
     }
 
     /// Takes the first message of a head's list. Takes no memory, and no list loses room.
     pub fn take_head(&mut self, end: End) -> Option<Message>
         ensures first { MatchOption result ((end_of self.old.image end).head ≡ []) (λ m. (end_of self.old.image end).head ≡ m ∷ (end_of self.new.image end).head) }
         ensures image { self.new.image ≡ with_head self.old.image end (drop 1 (end_of self.old.image end).head) }
-        ensures room { KeepsHeadRoom self.old self.new }
-        ensures line_room { self.new.line_room ≡ self.old.line_room }
+        ensures room { KeepsHeadRoom self.old.rooms self.new.rooms }
+        ensures line_room { self.new.rooms.line ≡ self.old.rooms.line }
     {
-        match end {
-            End::A => self.a.take_head(),
-            End::B => self.b.take_head(),
-        }
+        let queue = NextQueue::Head { end };
+        let before = self.ends.len(queue);
+        let first = self.ends.take_head(end);
+        self.enabling.wake(&self.ends, queue, before);
+        first
     }
 
     /// Makes room in a head's list, so that the next `put_back_head` of a message of this rank
     /// succeeds. Refused for want of memory alone, and not where the room is there. No list loses
     /// room.
     pub fn head_room(&mut self, end: End, rank: u16) -> Result<(), NoMem>
-        ensures made { OnOk result (0 < room_for (room_of self.new end) rank) }
-        ensures enough { 0 < room_for (room_of self.old end) rank → IsOk result }
+        ensures made { OnOk result (0 < room_for (room_of self.new.rooms end) rank) }
+        ensures enough { 0 < room_for (room_of self.old.rooms end) rank → IsOk result }
         ensures image { self.new.image ≡ self.old.image }
-        ensures room { KeepsHeadRoom self.old self.new }
-        ensures line_room { self.new.line_room ≡ self.old.line_room }
+        ensures room { KeepsHeadRoom self.old.rooms self.new.rooms }
+        ensures line_room { self.new.rooms.line ≡ self.old.rooms.line }
     {
-        match end {
-            End::A => self.a.head_room(rank),
-            End::B => self.b.head_room(rank),
-        }
+        self.ends.head_room(end, rank)
     }
 
     /// Puts a message back into a head's list, before those of its rank (putbq(9F)). That takes room
@@ -60,33 +59,31 @@ impl<M: ModuleOf> Chain<M> {
         ensures ok { OnOk result (self.new.image ≡ with_head self.old.image end (put_back_in (end_of self.old.image end).head m)) }
         ensures err { OnErr result (self.new.image ≡ self.old.image) }
         ensures back { IfErr result (λ same. same ≡ m) }
-        ensures enough { 0 < room_for (room_of self.old end) (rank_of m) → IsOk result }
-        ensures spent { OnOk result (SpendsOne (room_of self.old end) (room_of self.new end)) }
-        ensures unspent { OnErr result (KeepsRoom (room_of self.old end) (room_of self.new end)) }
-        ensures room { room_of self.new (other_end end) ≡ room_of self.old (other_end end) }
-        ensures line_room { self.new.line_room ≡ self.old.line_room }
+        ensures enough { 0 < room_for (room_of self.old.rooms end) (rank_of m) → IsOk result }
+        ensures spent { OnOk result (SpendsOne (room_of self.old.rooms end) (room_of self.new.rooms end)) }
+        ensures unspent { OnErr result (KeepsRoom (room_of self.old.rooms end) (room_of self.new.rooms end)) }
+        ensures room { room_of self.new.rooms (other_end end) ≡ room_of self.old.rooms (other_end end) }
+        ensures line_room { self.new.rooms.line ≡ self.old.rooms.line }
     {
-        match end {
-            End::A => self.a.put_back_head(m),
-            End::B => self.b.put_back_head(m),
-        }
+        let queue = NextQueue::Head { end };
+        let before = self.ends.len(queue);
+        let answer = self.ends.put_back_head(end, m);
+        self.enabling.wake(&self.ends, queue, before);
+        answer
     }
 
     /// What the head of an end remembers beside its list.
     pub fn state(&self, end: End) -> &Record
         ensures { result.now ≡ (end_of self.now.image end).state }
     {
-        self.end(end).state()
+        self.ends.end(end).state()
     }
 
     /// Sets how reads at an end treat messages (I_SRDOPT). No list loses room.
     pub fn set_mode(&mut self, end: End, mode: ReadMode, prot: Prot)
         ensures { self.new ≡ record self.old { image = with_state self.old.image end (with_mode (end_of self.old.image end).state mode prot) } }
     {
-        match end {
-            End::A => self.a.set_mode(mode, prot),
-            End::B => self.b.set_mode(mode, prot),
-        }
+        self.ends.set_mode(end, mode, prot)
     }
 
     /// Takes the next id of an end for an ioctl, whose answer is awaited from then on (I_STR).
@@ -97,10 +94,7 @@ impl<M: ModuleOf> Chain<M> {
         ensures id { result ≡ (end_of self.old.image end).state.next }
         ensures image { self.new ≡ record self.old { image = with_state self.old.image end (begun (end_of self.old.image end).state) } }
     {
-        match end {
-            End::A => self.a.begin_ioctl(),
-            End::B => self.b.begin_ioctl(),
-        }
+        self.ends.begin_ioctl(end)
     }
 
     /// Gives the id back that was taken last, where its ioctl was not sent. To be called where an
@@ -110,10 +104,7 @@ impl<M: ModuleOf> Chain<M> {
         requires unanswered { IsNone (end_of self.old.image end).state.kept }
         ensures { self.new ≡ record self.old { image = with_state self.old.image end (undone (end_of self.old.image end).state) } }
     {
-        match end {
-            End::A => self.a.undo_ioctl(),
-            End::B => self.b.undo_ioctl(),
-        }
+        self.ends.undo_ioctl(end)
     }
 
     /// Gives the answer to an ioctl, if one came, and awaits none any longer. No list loses room.
@@ -121,9 +112,6 @@ impl<M: ModuleOf> Chain<M> {
         ensures answer { result ≡ (end_of self.old.image end).state.kept }
         ensures image { self.new ≡ record self.old { image = with_state self.old.image end (ended (end_of self.old.image end).state) } }
     {
-        match end {
-            End::A => self.a.end_ioctl(),
-            End::B => self.b.end_ioctl(),
-        }
+        self.ends.end_ioctl(end)
     }
 }

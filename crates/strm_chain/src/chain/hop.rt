@@ -1,15 +1,17 @@
 //! Messages on their way, one hop at a time.
 ghost use Rattle.std.specs.VecDeque.{deque_len, deque_capacity};
-ghost use Rattle.std.specs.Prelude.{◌≡◌, ◌∷◌, ◌++◌, [], ◌<◌, ◌≤◌, ◌+◌, ◌-◌, OnOk, OnErr, IfOk, map, length};
+ghost use Rattle.std.specs.Prelude.{true, ◌≡◌, ◌∷◌, ◌++◌, [], ◌<◌, ◌≤◌, ◌+◌, ◌-◌, OnOk, OnErr, IfOk, map, length};
 ghost use Rattle.strm_msg.specs.declared.words.Side.TheVariants as Side;
-ghost use Rattle.strm_qpair.specs.Head.{head_does};
-ghost use Rattle.strm_chain.specs.Image.{end_of, with_end, partner, count_of};
-ghost use Rattle.strm_chain.specs.Deliver.{put_at, up, down, driver_does};
-ghost use Rattle.strm_chain.specs.Fault.{SameModules};
+ghost use Rattle.strm_ends.specs.Image.{end_of, with_end, partner, count_of};
+ghost use Rattle.strm_chain.specs.Deliver.{put_at, up, down};
+ghost use Rattle.strm_ends.specs.Same.{SameModules};
+ghost use Rattle.strm_module.specs.Calm.{is_calm, IsCalm};
+ghost use Rattle.strm_chain.specs.Count.{Grows, are_calm_hops};
 ghost use Rattle.strm_chain.specs.Hop.{carry, carry_all, load, up_hop, down_hop, hop_of, next_module};
 
-use super::{Chain, has_end, partner_of};
+use super::Chain;
 use std::collections::VecDeque;
+use strm_ends::partner_of;
 use strm_module::{ModuleOf, Outs};
 use strm_msg::{End, Message, NoMem, Side as Sides};
 use strm_qpair::{DriverSends, MOST_MODULES};
@@ -94,49 +96,6 @@ pub(super) fn push_outs(
 }
 
 impl<M: ModuleOf> Chain<M> {
-    /// What a head does with a message, and what it sends down.
-    fn head_does(&mut self, end: End, m: Message) -> Result<Option<Message>, NoMem>
-        ensures state { OnOk result (self.new.image ≡ with_end self.old.image end (head_does (end_of self.old.image end) m).state) }
-        ensures sends { IfOk result (λ sends. sends ≡ (head_does (end_of self.old.image end) m).sends) }
-        ensures err { OnErr result (self.new.image ≡ self.old.image) }
-        ensures same { SameModules self.old.image self.new.image }
-    {
-        match end {
-            End::A => self.a.head_does(m),
-            End::B => self.b.head_does(m),
-        }
-    }
-
-    /// What the driver does with a message from above, and what it sends up.
-    fn driver_does(&mut self, end: End, m: Message) -> Result<DriverSends, NoMem>
-        ensures state { OnOk result (self.new.image ≡ with_end self.old.image end (driver_does self.old.image.driver end (end_of self.old.image end) m).state) }
-        ensures sends { IfOk result (λ sends. sends ≡ (driver_does self.old.image.driver end (end_of self.old.image end) m).sends) }
-        ensures err { OnErr result (self.new.image ≡ self.old.image) }
-        ensures same { SameModules self.old.image self.new.image }
-    {
-        let driver = self.driver;
-        if !has_end(driver, end) {
-            return Ok(DriverSends::Nothing);
-        }
-        match end {
-            End::A => self.a.driver_does(driver, m),
-            End::B => self.b.driver_does(driver, m),
-        }
-    }
-
-    /// Hands a message to module `i`.
-    fn put_at(&mut self, end: End, i: usize, side: Sides, m: Message) -> Result<Outs, NoMem>
-        ensures image { OnOk result (self.new.image ≡ (put_at M.Kind.means self.old.image end i side m).image) }
-        ensures outs { IfOk result (λ outs. outs.items ≡ (put_at M.Kind.means self.old.image end i side m).outs) }
-        ensures err { OnErr result (self.new.image ≡ self.old.image) }
-        ensures same { SameModules self.old.image self.new.image }
-    {
-        match end {
-            End::A => self.a.put_at(self.alloc, i, side, m),
-            End::B => self.b.put_at(self.alloc, i, side, m),
-        }
-    }
-
     /// A message comes to a head.
     fn to_head(
         &mut self,
@@ -150,6 +109,8 @@ impl<M: ModuleOf> Chain<M> {
         ensures falls { OnOk result (load hops.new.items < load (up_hop head_sent end 0 m ∷ hops.old.items)) }
         ensures err { OnErr result (self.new.image ≡ self.old.image) }
         ensures same { SameModules self.old.image self.new.image }
+        ensures given { self.new.run.given ≡ self.old.run.given }
+        ensures grows { OnOk result (IsCalm M.Kind.means → is_calm m.kind ≡ true → are_calm_hops hops.old.items ≡ true → Grows self.old self.new × (are_calm_hops hops.new.items ≡ true)) }
     {
         let sends = self.head_does(end, m)?;
         if head_sent {
@@ -175,6 +136,8 @@ impl<M: ModuleOf> Chain<M> {
         ensures falls { OnOk result (load hops.new.items < load (down_hop head_sent end 0 m ∷ hops.old.items)) }
         ensures err { OnErr result (self.new.image ≡ self.old.image) }
         ensures same { SameModules self.old.image self.new.image }
+        ensures given { self.new.run.given ≡ self.old.run.given }
+        ensures grows { OnOk result (IsCalm M.Kind.means → is_calm m.kind ≡ true → are_calm_hops hops.old.items ≡ true → Grows self.old self.new × (are_calm_hops hops.new.items ≡ true)) }
     {
         let partner = partner_of(self.driver(), end);
         let own = self.count(end);
@@ -209,6 +172,8 @@ impl<M: ModuleOf> Chain<M> {
         ensures falls { OnOk result (load hops.new.items < load (hop ∷ hops.old.items)) }
         ensures err { OnErr result (self.new.image ≡ self.old.image) }
         ensures same { SameModules self.old.image self.new.image }
+        ensures given { self.new.run.given ≡ self.old.run.given }
+        ensures grows { OnOk result (IsCalm M.Kind.means → is_calm hop.m.kind ≡ true → are_calm_hops hops.old.items ≡ true → Grows self.old self.new × (are_calm_hops hops.new.items ≡ true)) }
     {
         let Hop {
             head_sent,
@@ -230,6 +195,8 @@ impl<M: ModuleOf> Chain<M> {
         ensures falls { OnOk result (load hops.new.items < load (hop ∷ hops.old.items)) }
         ensures err { OnErr result (self.new.image ≡ self.old.image) }
         ensures same { SameModules self.old.image self.new.image }
+        ensures given { self.new.run.given ≡ self.old.run.given }
+        ensures grows { OnOk result (IsCalm M.Kind.means → is_calm hop.m.kind ≡ true → are_calm_hops hops.old.items ≡ true → Grows self.old self.new × (are_calm_hops hops.new.items ≡ true)) }
     {
         hops.reserve(2)?;
         if hop.ahead > 0 {
@@ -252,6 +219,8 @@ impl<M: ModuleOf> Chain<M> {
     pub(super) fn carry_all(&mut self, mut hops: VecDeque<Hop>) -> Result<(), NoMem>
         ensures ok { OnOk result (self.new.image ≡ carry_all M.Kind.means self.old.image hops.items) }
         ensures same { SameModules self.old.image self.new.image }
+        ensures given { self.new.run.given ≡ self.old.run.given }
+        ensures grows { OnOk result (IsCalm M.Kind.means → are_calm_hops hops.items ≡ true → Grows self.old self.new) }
     {
         while let Some(hop) = hops.pop_front() {
             self.hop(&mut hops, hop)?;

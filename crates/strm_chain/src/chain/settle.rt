@@ -1,96 +1,113 @@
 //! Service until nothing may move.
-ghost use Rattle.std.specs.Prelude.{◌≡◌, OnOk, IfErr, IfOk, IfSome, IfNone, IsOk, true, false};
-ghost use Rattle.strm_chain.specs.Fault.{SameModules, Refuses};
-ghost use Rattle.strm_chain.specs.Service.{may, IsQuiet, NoneMay, Leads};
-ghost use Rattle.strm_chain.specs.Hop.{ModuleStays, EndStays};
+ghost use Rattle.std.specs.Prelude.{◌≡◌, ◌+◌, ◌<◌, ◌≤◌, ◌++◌, ◌∷◌, [], length, OnOk, IfErr, IfOk, IfSome, IfNone, IsOk, true, false};
+ghost use Rattle.strm_queue.specs.Run.{one_more};
+ghost use Rattle.strm_module.specs.Calm.{IsCalm};
+ghost use Rattle.strm_ends.specs.Count.{place_count};
+ghost use Rattle.strm_chain.specs.Enabled.{is_enabled};
+ghost use Rattle.strm_chain.specs.Count.{HasMoved, most_looks};
+ghost use Rattle.strm_ends.specs.Same.{SameModules};
+ghost use Rattle.strm_chain.specs.Fault.{Refuses};
+ghost use Rattle.strm_ends.specs.Flow.{may, IsQuiet, NoneMay};
+ghost use Rattle.strm_chain.specs.Service.{move, Leads};
 
 use super::Chain;
 use crate::fault::ChainFault;
-use crate::place::{Moves, Place, Settled};
+use crate::moves::{Moves, Settled};
+use strm_ends::Place;
 use strm_module::ModuleOf;
-use strm_msg::End;
 
 impl<M: ModuleOf> Chain<M> {
-    /// A queue of a module that may move, if there is one.
-    fn movable_module(&self, end: End, i: u8) -> Option<Place>
-        ensures some { IfSome result (λ place. may self.now.image place ≡ true) }
-        ensures none { IfNone result (ModuleStays self.now.image end i) }
+    /// Looks at the next place that is enabled, and says whether it may move. With none left, no
+    /// place must move.
+    fn look(&mut self) -> Option<(Place, bool)>
+        ensures image { self.new.image ≡ self.old.image }
+        ensures may { IfSome result (λ seen. may self.old.image seen.0 ≡ seen.1) }
+        ensures quiet { IfNone result (IsQuiet self.old.image) }
+        ensures none { IfNone result (self.new.run.items ≡ []) }
+        ensures moves { IfSome result (λ seen. seen.1 ≡ true → length self.new.run.items ≤ length self.old.run.items) }
+        ensures rests { IfSome result (λ seen. seen.1 ≡ false → length self.new.run.items + 1 ≡ length self.old.run.items) }
+        ensures given { IfSome result (λ _. self.new.run.given ≡ one_more self.old.run.given) }
+        ensures still { IfNone result (self.new ≡ self.old) }
+        ensures enabled { IfSome result (λ seen. seen.1 ≡ true → is_enabled self.new.run seen.0 ≡ true) }
     {
-        if self.may(Place::Wr { end, i }) {
-            return Some(Place::Wr { end, i });
-        }
-        if self.may(Place::Rd { end, i }) {
-            return Some(Place::Rd { end, i });
-        }
-        None
+        self.enabling.look(&self.ends)
     }
 
-    /// A place of an end that may move, if there is one.
-    fn movable_at(&self, end: End) -> Option<Place>
-        ensures some { IfSome result (λ place. may self.now.image place ≡ true) }
-        ensures none { IfNone result (EndStays self.now.image end) }
+    /// Counts looks from 0 again.
+    fn restart(&mut self)
+        ensures image { self.new.image ≡ self.old.image }
+        ensures given { self.new.run.given ≡ 0 }
+        ensures few { length self.new.run.items ≤ place_count self.old.image }
     {
-        if self.may(Place::Drv { end }) {
-            return Some(Place::Drv { end });
-        }
-        let lowest = self.count(end) as u8;
-        for i in 1..lowest + 1 {
-            if let Some(place) = self.movable_module(end, i) {
-                return Some(place);
-            }
-        }
-        None
+        // The proof learns from the length that each place is enabled once.
+        let _ = self.enabling.len();
+        self.enabling.restart()
     }
 
-    /// A place that may move. Without one no place must.
-    fn movable(&self) -> Option<Place>
-        ensures some { IfSome result (λ place. may self.now.image place ≡ true) }
-        ensures none { IfNone result (NoneMay self.now.image) }
-        ensures quiet { IfNone result (IsQuiet self.now.image) }
-    {
-        if let Some(place) = self.movable_at(End::A) {
-            return Some(place);
-        }
-        if let Some(place) = self.movable_at(End::B) {
-            return Some(place);
-        }
-        // The proof learns from the numbers of modules that all low marks are below the high ones.
-        let _ = self.count(End::A);
-        let _ = self.count(End::B);
-        None
-    }
-
-    /// Makes moves until no place must move, each of a place that may, and lists them in order. Where
-    /// none may move, nothing is done, and that takes no memory.
+    /// Looks at one enabled place after the other until none is left, and moves each that may move.
+    /// Then no place must move. Lists the moves in order, and counts the looks. Where no place may
+    /// move, nothing is done but looking, and that takes no memory.
     ///
     /// Refused for want of memory alone: with `NoMem` nothing is changed, and with `Broken` the chain
     /// is broken, or was before.
     pub fn settle(&mut self) -> Result<Settled, ChainFault>
         ensures moves { IfOk result (λ settled. Leads M.Kind.means self.old.image settled.moves self.new.image) }
         ensures quiet { OnOk result (IsQuiet self.new.image) }
-        ensures looks { IfOk result (λ settled. settled.looks ≡ 0) }
+        ensures looks { IfOk result (λ settled. settled.looks ≡ self.new.run.given) }
+        ensures least { IfOk result (λ settled. length settled.moves ≤ settled.looks) }
+        ensures most { IfOk result (λ settled. IsCalm M.Kind.means → settled.looks ≤ most_looks self.old.image settled.moves self.new.image) }
+        ensures none { OnOk result (self.new.run.items ≡ []) }
         ensures whole { OnOk result (self.old.image.broken ≡ false) }
         ensures same { OnOk result (SameModules self.old.image self.new.image) }
         ensures refused { IfErr result (λ fault. Refuses fault self.old.image self.new.image) }
         ensures still { self.old.image.broken ≡ false → NoneMay self.old.image → IsOk result }
     {
-        if self.broken {
+        if self.ends.is_broken() {
             return Err(ChainFault::Broken);
         }
-        let mut moves = Moves::new(self.alloc);
-        while let Some(place) = self.movable() {
-            let is_first = moves.is_empty();
-            match moves.push(place) {
-                Ok(()) => {}
-                Err(_) => return Err(self.refuse(is_first)),
-            }
-            match self.serve_one(place) {
-                Ok(()) => {}
-                Err(ChainFault::NoMem) => return Err(self.refuse(is_first)),
-                Err(ChainFault::Broken) => return Err(ChainFault::Broken),
+        self.restart();
+        let mut moves = Moves::new(self.ends.alloc());
+        while let Some((place, may)) = self.look() {
+            if may {
+                self.move_one(&mut moves, place)?;
             }
         }
-        Ok(Settled { moves, looks: 0 })
+        let looks = self.enabling.looks();
+        Ok(Settled { moves, looks })
+    }
+
+    /// Moves a place that may move, and puts it behind the moves so far.
+    ///
+    /// Refused for want of memory alone: with `NoMem` nothing is changed and there was no move
+    /// before, and with `Broken` the chain is broken, or was before.
+    fn move_one(&mut self, moves: &mut Moves, place: Place) -> Result<(), ChainFault>
+        requires may { may self.old.image place ≡ true }
+        requires whole { self.old.image.broken ≡ false }
+        ensures ok { OnOk result (self.new.image ≡ move M.Kind.means self.old.image place) }
+        ensures moves { OnOk result (moves.new ≡ moves.old ++ place ∷ []) }
+        ensures given { OnOk result (self.new.run.given ≡ self.old.run.given) }
+        ensures few { OnOk result (length self.new.run.items ≤ 40) }
+        ensures more { OnOk result (IsCalm M.Kind.means → is_enabled self.old.run place ≡ true → HasMoved self.old self.new) }
+        ensures counted { OnOk result (length moves.new < 18446744073709551616) }
+        ensures same { OnOk result (SameModules self.old.image self.new.image) }
+        ensures refused { IfErr result (λ fault. Refuses fault self.old.image self.new.image) }
+        ensures first { IfErr result (λ fault. fault ≡ ChainFault.NoMem → moves.old ≡ []) }
+    {
+        let is_first = moves.is_empty();
+        match moves.push(place) {
+            Ok(()) => {}
+            Err(_) => return Err(self.refuse(is_first)),
+        }
+        match self.serve_one(place) {
+            Ok(()) => {
+                // The proof learns from the lengths that both are small.
+                let _ = moves.len();
+                let _ = self.enabling.len();
+                Ok(())
+            }
+            Err(ChainFault::NoMem) => Err(self.refuse(is_first)),
+            Err(ChainFault::Broken) => Err(ChainFault::Broken),
+        }
     }
 
     /// Says that memory is wanting, and breaks the chain unless nothing was changed yet.

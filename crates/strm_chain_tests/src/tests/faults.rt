@@ -34,7 +34,8 @@ const NOTHING_IS_CHANGED_REFUSED: [Call; 3] = [
     HeadLen(End::A, 0),
 ];
 
-/// The first put is refused before anything is changed, and the object is asked again.
+/// The first put is refused before anything is changed, and the object is asked again. The driver's place
+/// is looked at twice, before its move and when it is empty.
 #[test]
 fn nothing_is_changed(rt: HostRuntime) {
     let log = new_log(&rt, rt.alloc());
@@ -43,7 +44,7 @@ fn nothing_is_changed(rt: HostRuntime) {
     assert!(rt; !chain.is_broken());
     assert!(rt; has_counted(&chain, 0));
     assert_eq!(rt; logged(&log), 1);
-    let taken = [Write(b"x"), Settle(&[DRV_A]), HeadLen(End::A, 1)];
+    let taken = [Write(b"x"), Settle(&[DRV_A], 2), HeadLen(End::A, 1)];
     play(&rt, &mut chain, &taken);
     assert!(rt; has_counted(&chain, 1));
     assert_eq!(rt; logged(&log), 111);

@@ -54,17 +54,22 @@ fn module_or_driver_answers(rt: HostRuntime) {
     assert_eq!(rt; chain.end_ioctl(End::A), Some(refused));
 }
 
-const LATE_ANSWER: [Call; 2] = [Read(b"aaaaa"), Settle(&[DRV_A, WR_1])];
+// Once the head is empty the driver's place is enabled, and by its move the module's: each is looked
+// at once to move and once when it is empty.
+const LATE_ANSWER: [Call; 2] = [Read(b"aaaaa"), Settle(&[DRV_A, WR_1], 4)];
 
+// Both places are looked at to move and when they are empty. The second time the module's place is, and
+// the driver's once, which finds the head full.
 const LATE_ANSWER_IS_DROPPED: [Call; 4] = [
     Write(b"aaaaa"),
-    Settle(&[WR_1, DRV_A]),
+    Settle(&[WR_1, DRV_A], 4),
     Write(b"bbbbb"),
-    Settle(&[WR_1]),
+    Settle(&[WR_1], 3),
 ];
 
 /// The ioctl waits behind data for a full driver, so no answer has come when it is given up. Its
-/// late answer is not that of the next ioctl, and is dropped.
+/// late answer is not that of the next ioctl, and is dropped. While it waits the module's place was looked
+/// at once, and found the driver full.
 #[test]
 fn late_answer_is_dropped(rt: HostRuntime) {
     let mut chain = made(&rt, rt.alloc(), Driver::Echo);
@@ -73,7 +78,7 @@ fn late_answer_is_dropped(rt: HostRuntime) {
     push(&rt, &mut chain, End::A, Kind::Pass, (false, true));
     play(&rt, &mut chain, &LATE_ANSWER_IS_DROPPED);
     ask(&rt, &mut chain, 1, 1);
-    play(&rt, &mut chain, &[Settle(&[])]);
+    play(&rt, &mut chain, &[Settle(&[], 1)]);
     assert_eq!(rt; chain.end_ioctl(End::A), None);
 
     begins(&rt, &mut chain, 2);

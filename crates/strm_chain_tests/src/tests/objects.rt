@@ -160,7 +160,7 @@ const EACH_MESSAGE_IS_PUT_TO_ITS_OBJECTS: [(Call, u64); 5] = [
         Deliver(Spot::Down { end: End::A, i: 2 }, Text::Data(0, b"x")),
         21,
     ),
-    (Settle(&[DRV_A]), 21123),
+    (Settle(&[DRV_A], 2), 21123),
     (
         Deliver(Spot::Up { end: End::A, i: 2 }, Text::Data(0, b"y")),
         2112323,
@@ -173,7 +173,8 @@ const EACH_MESSAGE_IS_PUT_TO_ITS_OBJECTS: [(Call, u64); 5] = [
 ];
 
 /// What is handed in below the topmost of three goes down past 2 and 1, and up past 1, 2 and 3. What
-/// is handed in from below to the second goes up past 2 and 3.
+/// is handed in from below to the second goes up past 2 and 3. The only queue is the driver's: its place
+/// is looked at before its move and when it is empty.
 #[test]
 fn each_message_is_put_to_its_objects(rt: HostRuntime) {
     let alloc = rt.alloc();

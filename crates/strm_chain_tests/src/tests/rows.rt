@@ -1,6 +1,7 @@
 //! Messages through chains, row by row.
 use super::Call::{
-    Comes, Deliver, FullAhead, HeadHeld, HeadLen, LineFull, May, Read, Serve, Settle, Take, Write,
+    Comes, Deliver, Enabled, FullAhead, HeadHeld, HeadLen, LineFull, May, NoneEnabled, Read, Serve,
+    Settle, Take, Write,
 };
 use super::{
     Call, DRV_A, HEAD_A, RD_1, TOP_A, Text, WR_1, WR_2, chain_over, deliver, made, message, play,
@@ -24,7 +25,8 @@ fn insert_pass(rt: &impl Abort, chain: &mut Chain<Box<dyn Module>>, serial: u64)
 }
 
 /// The head holds 5 bytes after the first move, which is its high mark, so the second message waits
-/// in the driver until the first is taken.
+/// in the driver until the first is taken. The driver's place is looked at once in vain; then once
+/// before its move, and once more when it is empty.
 const ECHO: [Call; 9] = [
     Write(b"aaaaa"),
     May(DRV_A, true),
@@ -32,16 +34,18 @@ const ECHO: [Call; 9] = [
     HeadHeld(End::A, 5),
     Write(b"b"),
     May(DRV_A, false),
-    Settle(&[]),
+    Settle(&[], 1),
     Read(b"aaaaa"),
-    Settle(&[DRV_A]),
+    Settle(&[DRV_A], 2),
 ];
 
+/// The module's place stays enabled when it was served, and is found empty; then the driver's is looked
+/// at twice.
 const ECHO_WAITS_FOR_ITS_HEAD: [Call; 6] = [
     Write(b"c"),
     May(DRV_A, false),
     Serve(WR_1),
-    Settle(&[DRV_A]),
+    Settle(&[DRV_A], 3),
     Read(b"b"),
     Read(b"c"),
 ];
@@ -62,12 +66,12 @@ fn echo_waits_for_its_head(rt: HostRuntime) {
 
 const LINE_TAKES_WHAT_COMES_IN: [Call; 8] = [
     Comes(Text::Data(0, b"aaaaa")),
-    Settle(&[DRV_A]),
+    Settle(&[DRV_A], 2),
     Comes(Text::Data(0, b"bbbbb")),
-    Settle(&[]),
+    Settle(&[], 1),
     LineFull(true),
     Read(b"aaaaa"),
-    Settle(&[DRV_A]),
+    Settle(&[DRV_A], 2),
     LineFull(false),
 ];
 
@@ -85,19 +89,25 @@ fn line_takes_what_comes_in(rt: HostRuntime) {
     play(&rt, &mut chain, &[Read(b"z"), Read(b"bbbbb")]);
 }
 
-const TEE_STANDS_OVER_A_BLOCKED_MODULE: [Call; 13] = [
+// The module's place moves, and is looked at again and finds the driver full; the driver's finds the head
+// full: 3 looks. A head that still holds 5 bytes enables nothing: 0 looks. When it is empty the driver's
+// place moves and is found empty, the module's, which waited for it, does the same, and the driver's finds
+// the head full again: 5 looks.
+const TEE_STANDS_OVER_A_BLOCKED_MODULE: [Call; 15] = [
     Write(b"aaaaa"),
     FullAhead(true),
     Write(b"bbbbb"),
     HeadHeld(End::A, 10),
-    Settle(&[WR_2]),
+    Settle(&[WR_2], 3),
+    NoneEnabled,
     Read(b"aaaaa"),
-    Settle(&[]),
+    NoneEnabled,
+    Settle(&[], 0),
     Read(b"bbbbb"),
-    Settle(&[DRV_A, WR_2]),
+    Settle(&[DRV_A, WR_2], 5),
     FullAhead(false),
     Read(b"aaaaa"),
-    Settle(&[DRV_A]),
+    Settle(&[DRV_A], 2),
     Read(b"bbbbb"),
 ];
 
@@ -111,19 +121,21 @@ fn tee_stands_over_a_blocked_module(rt: HostRuntime) {
     play(&rt, &mut chain, &TEE_STANDS_OVER_A_BLOCKED_MODULE);
 }
 
-const FAR_END_OF_A_LOOP_IS_CLOSED_BEFORE: [Call; 7] = [
+const FAR_END_OF_A_LOOP_IS_CLOSED_BEFORE: [Call; 8] = [
     Write(b"aaaaa"),
-    Settle(&[DRV_A]),
+    Settle(&[DRV_A], 2),
     Write(b"bbbbb"),
-    Settle(&[]),
+    Settle(&[], 1),
+    Enabled(DRV_A, false),
     FullAhead(true),
     HeadLen(End::A, 0),
     HeadLen(End::B, 1),
 ];
 
-const FAR_END_OF_A_LOOP_IS_CLOSED_AFTER: [Call; 5] = [
+const FAR_END_OF_A_LOOP_IS_CLOSED_AFTER: [Call; 6] = [
     HeadLen(End::B, 0),
-    Settle(&[DRV_A]),
+    Enabled(DRV_A, true),
+    Settle(&[DRV_A], 2),
     FullAhead(false),
     HeadLen(End::B, 0),
     Deliver(HEAD_A, Text::Hangup),
@@ -144,7 +156,7 @@ const ECHO_LACKS_THE_FAR_END: [Call; 4] = [
     May(Place::Drv { end: End::B }, false),
     May(Place::Wr { end: End::B, i: 1 }, false),
     May(Place::Rd { end: End::A, i: 0 }, false),
-    Settle(&[]),
+    Settle(&[], 0),
 ];
 
 /// An echo has no end B: there is no spot, and no place of it moves.
@@ -158,12 +170,13 @@ fn echo_lacks_the_far_end(rt: HostRuntime) {
     assert!(rt; !chain.full_ahead(End::B, 0));
 }
 
+// The driver's place is looked at before u moves, and then finds the head full in the band of b.
 const BANDS_ARE_HELD_BACK_BY_THEMSELVES: [Call; 11] = [
     Write(b"aaaaa"),
-    Settle(&[DRV_A]),
+    Settle(&[DRV_A], 2),
     Write(b"b"),
     Deliver(TOP_A, Text::Data(5, b"u")),
-    Settle(&[DRV_A]),
+    Settle(&[DRV_A], 2),
     Take(Text::Data(5, b"u")),
     Deliver(TOP_A, Text::High(b"h")),
     Deliver(TOP_A, Text::High(b"i")),
@@ -180,12 +193,14 @@ fn bands_are_held_back_by_themselves(rt: HostRuntime) {
     play(&rt, &mut chain, &BANDS_ARE_HELD_BACK_BY_THEMSELVES);
 }
 
+// Each of three places is looked at before its move and when it is empty. The second time the last of them
+// is looked at once, and finds the head full.
 const HIGH_MESSAGES_PASS_WHAT_IS_BLOCKED: [Call; 16] = [
     Write(b"aaaaa"),
-    Settle(&[WR_1, DRV_A, RD_1]),
+    Settle(&[WR_1, DRV_A, RD_1], 6),
     HeadHeld(End::A, 5),
     Write(b"bbbbb"),
-    Settle(&[WR_1, DRV_A]),
+    Settle(&[WR_1, DRV_A], 5),
     May(RD_1, false),
     Deliver(HEAD_A, Text::High(b"h")),
     HeadLen(End::A, 2),

@@ -11,8 +11,8 @@ use strm_msg::{Errno, Message};
 enum Happens {
     /// A call is made on end A.
     Asked(Row),
-    /// A message is taken, and so many queues move.
-    Taken(Comes, usize),
+    /// A message is taken, so many queues move, and service looks at so many places.
+    Taken(Comes, usize, u64),
     /// A message comes back.
     Full(Comes),
 }
@@ -44,10 +44,12 @@ fn happen(rt: &impl Abort, alloc: Global, driver: Driver, rows: &[Happens]) {
     let mut stream = made(rt, alloc, driver, (16, 4));
     for (at, row) in rows.iter().enumerate() {
         match *row {
-            Happens::Asked(row) => play(rt, alloc, &mut stream, row, at),
-            Happens::Taken(comes, moves) => {
+            Happens::Asked(row) => {
+                play(rt, alloc, &mut stream, row, at);
+            }
+            Happens::Taken(comes, moves, looks) => {
                 let arrived = arrives(rt, alloc, &mut stream, comes);
-                assert_eq!(rt; taken(arrived), Some((moves, 0)), "row {at}");
+                assert_eq!(rt; taken(arrived), Some((moves, looks)), "row {at}");
             }
             Happens::Full(comes) => {
                 let arrived = arrives(rt, alloc, &mut stream, comes);
@@ -66,9 +68,11 @@ const EPROTO: Want = Want::Refused(Refusal::Error {
     errno: Errno::EPROTO,
 });
 
+// The line's place is looked at before x moves and when it is empty. An error goes up at once, and its
+// flush leaves no place with a message: nothing is looked at.
 const ERROR: [Happens; 6] = [
-    Happens::Taken(Comes::Data(0, b"x"), 1),
-    Happens::Taken(Comes::Error(Errno::EIO), 0),
+    Happens::Taken(Comes::Data(0, b"x"), 1, 2),
+    Happens::Taken(Comes::Error(Errno::EIO), 0, 0),
     Happens::Asked((Call::Read(8), EIO, 0)),
     Happens::Asked((Call::Look, EIO, 0)),
     Happens::Asked((Call::Close, Want::All(&[]), 0)),
@@ -81,9 +85,9 @@ fn an_error_refuses_all_but_a_close(rt: HostRuntime) {
 }
 
 const ERRORS: [Happens; 4] = [
-    Happens::Taken(Comes::Error(Errno::EIO), 0),
+    Happens::Taken(Comes::Error(Errno::EIO), 0, 0),
     Happens::Asked((Call::Nread, EIO, 0)),
-    Happens::Taken(Comes::Error(Errno::EPROTO), 0),
+    Happens::Taken(Comes::Error(Errno::EPROTO), 0, 0),
     Happens::Asked((Call::Nread, EPROTO, 0)),
 ];
 
@@ -93,8 +97,8 @@ fn a_later_error_replaces_an_earlier_one(rt: HostRuntime) {
 }
 
 const HANGUP: [Happens; 5] = [
-    Happens::Taken(Comes::Data(0, b"x"), 1),
-    Happens::Taken(Comes::Hangup, 0),
+    Happens::Taken(Comes::Data(0, b"x"), 1, 2),
+    Happens::Taken(Comes::Hangup, 0, 0),
     Happens::Asked((Call::Read(8), Want::Bytes(b"x"), 0)),
     Happens::Asked((Call::Read(8), Want::Bytes(b""), 0)),
     Happens::Asked((Call::Write(b"x"), Want::Refused(Refusal::HungUp), 0)),
@@ -106,13 +110,14 @@ fn a_hung_up_line_gives_no_bytes(rt: HostRuntime) {
 }
 
 // The head holds 16 bytes of band 0 and so does the line's list. A high message goes up past both,
-// and so does one of another band, which is full nowhere.
+// and so does one of another band, which is full nowhere. One look finds that the b cannot move, and none
+// is made for the high message; one is made before d moves, and one more finds that the b still cannot.
 const FULL: [Happens; 9] = [
-    Happens::Taken(Comes::Data(0, b"aaaaaaaaaaaaaaaa"), 1),
-    Happens::Taken(Comes::Data(0, b"bbbbbbbbbbbbbbbb"), 0),
+    Happens::Taken(Comes::Data(0, b"aaaaaaaaaaaaaaaa"), 1, 2),
+    Happens::Taken(Comes::Data(0, b"bbbbbbbbbbbbbbbb"), 0, 1),
     Happens::Full(Comes::Data(0, b"c")),
-    Happens::Taken(Comes::High(b"h"), 0),
-    Happens::Taken(Comes::Data(1, b"d"), 1),
+    Happens::Taken(Comes::High(b"h"), 0, 0),
+    Happens::Taken(Comes::Data(1, b"d"), 1, 2),
     Happens::Asked((
         GET,
         Want::Got(Some(b"h"), None, Priority::Hipri, More::Nothing),
@@ -124,7 +129,7 @@ const FULL: [Happens; 9] = [
         0,
     )),
     Happens::Asked((Call::Read(16), Want::Bytes(b"aaaaaaaaaaaaaaaa"), 1)),
-    Happens::Taken(Comes::Data(0, b"c"), 0),
+    Happens::Taken(Comes::Data(0, b"c"), 0, 1),
 ];
 
 #[test]

@@ -1,5 +1,8 @@
 //! Ends are closed, and the other end of a loop is hung up.
-use super::{CLOSED, Call, EndRow, GET, HUNG_UP, INVALID, Pushes, Want, made, play_at, play_loop};
+use super::{
+    CLOSED, Call, EndRow, GET, HUNG_UP, INVALID, LookRow, Pushes, Want, made, play_at, play_looks,
+    play_loop,
+};
 use std::alloc::Global;
 use strm_head::{Driver, More, Priority};
 use strm_msg::End::{A, B};
@@ -47,19 +50,20 @@ fn a_close_hangs_the_other_end_up(rt: HostRuntime) {
     play_loop(&rt, rt.alloc(), (16, 4), &HANGS_UP);
 }
 
-// What waits for the closed end goes there and is dropped.
-const DRAINS: [EndRow; 6] = [
-    (A, Call::Write(b"aaaaa"), Want::Wrote(5), 1),
-    (A, Call::Write(b"bbbbb"), Want::Wrote(5), 0),
-    (A, Call::Canput(0), Want::No, 0),
-    (B, Call::Close, Want::All(&[]), 1),
-    (A, Call::Canput(0), Want::Yes, 0),
-    (A, Call::Write(b"x"), HUNG_UP, 0),
+// What waits for the closed end goes there and is dropped. The close enables what holds a message: the
+// place of A in the driver, which is looked at before its move and when it is empty.
+const DRAINS: [LookRow; 6] = [
+    (A, Call::Write(b"aaaaa"), Want::Wrote(5), 1, 2),
+    (A, Call::Write(b"bbbbb"), Want::Wrote(5), 0, 1),
+    (A, Call::Canput(0), Want::No, 0, 0),
+    (B, Call::Close, Want::All(&[]), 1, 2),
+    (A, Call::Canput(0), Want::Yes, 0, 0),
+    (A, Call::Write(b"x"), HUNG_UP, 0, 0),
 ];
 
 #[test]
 fn a_closed_end_holds_nothing_up(rt: HostRuntime) {
-    play_loop(&rt, rt.alloc(), (5, 4), &DRAINS);
+    play_looks(&rt, rt.alloc(), Driver::Loop, (5, 4), &DRAINS);
 }
 
 // EINVAL goes before ENXIO.

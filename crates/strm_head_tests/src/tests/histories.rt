@@ -63,6 +63,7 @@ fn asked(
         "row {at}"
     );
     assert_eq!(rt; entry.moves.len(), moves, "row {at}");
+    assert!(rt; moves as u64 <= entry.looks, "row {at}");
     assert_eq!(rt; entry.out.as_slice(), out, "row {at}");
 }
 
@@ -81,6 +82,7 @@ fn taken(
     }
     assert!(rt; entry.answer == Answer::Done(Reply::Line), "row {at}");
     assert_eq!(rt; entry.moves.len(), moves, "row {at}");
+    assert!(rt; moves as u64 <= entry.looks, "row {at}");
     assert!(rt; entry.out.is_empty(), "row {at}");
 }
 

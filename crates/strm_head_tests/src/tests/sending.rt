@@ -1,11 +1,12 @@
 //! Messages are sent, wait where a queue is full, and move on when it drains.
-use super::{AGAIN, Call, GET, GET_OF, INVALID, Row, Want, echo, play_all};
+use super::{AGAIN, Call, GET, GET_OF, INVALID, LookRow, Row, Want, echo, play_all, play_looks};
 use std::alloc::Global;
 use std::process::Abort;
 use strm_head::{
-    Answer, GetFlag, More, Priority, PutFlag, Received, Refusal, Reply, Request, Stream,
+    Answer, Driver, GetFlag, More, Priority, PutFlag, Received, Refusal, Reply, Request, Stream,
 };
 use strm_module::Plain;
+use strm_msg::End::A;
 use strm_msg::{Bytes, End};
 
 const NO_PART: [Row; 7] = [
@@ -56,26 +57,33 @@ fn what_waits_moves_when_the_head_drains(rt: HostRuntime) {
     play_all(&rt, rt.alloc(), (5, 4), &DRAINS);
 }
 
-// The head is full in band 0, and not in band 5.
-const BANDS: [Row; 5] = [
-    (Call::Write(b"aaaaa"), Want::Wrote(5), 1),
-    (Call::Write(b"b"), Want::Wrote(1), 0),
+// The head is full in band 0, and not in band 5. b was looked at, and waits for the head. u is put before
+// it, and enables the place again: one look finds that u may move, and another that b may not. Taking u
+// leaves the head full in b's band, so it enables nothing.
+const BANDS: [LookRow; 6] = [
+    (A, Call::Write(b"aaaaa"), Want::Wrote(5), 1, 2),
+    (A, Call::Write(b"b"), Want::Wrote(1), 0, 1),
     (
+        A,
         Call::Putpmsg(None, Some(b"u"), 5, PutFlag::Band),
         Want::Done,
         1,
+        2,
     ),
-    (Call::Nread, Want::Waiting(2, 1), 0),
+    (A, Call::Nread, Want::Waiting(2, 1), 0, 0),
     (
+        A,
         GET_OF,
         Want::GotOf(None, Some(b"u"), Received::Band { band: 5 }, More::Nothing),
         0,
+        0,
     ),
+    (A, Call::Nread, Want::Waiting(1, 5), 0, 0),
 ];
 
 #[test]
 fn a_band_passes_one_that_is_full(rt: HostRuntime) {
-    play_all(&rt, rt.alloc(), (5, 4), &BANDS);
+    play_looks(&rt, rt.alloc(), Driver::Echo, (5, 4), &BANDS);
 }
 
 // The driver is full in band 0, so an ordinary message of band 0 would wait; one of band 1 would
@@ -101,6 +109,70 @@ const HIGH_PASSES: [Row; 7] = [
 #[test]
 fn a_high_message_does_not_ask_for_room(rt: HostRuntime) {
     play_all(&rt, rt.alloc(), (5, 4), &HIGH_PASSES);
+}
+
+// Every queue is full at 16 bytes and slack at 4. Two messages fill the head, and cc waits. When one of
+// them is taken the head holds 8 bytes: cc may move and need not, and waits for the low mark, so nothing
+// is looked at. d is put behind it: one look finds that cc may move, one that d may, and one that the
+// driver is empty. Taking the rest enables nothing, as nothing waits.
+const BETWEEN_THE_MARKS: [LookRow; 9] = [
+    (A, Call::Write(b"aaaaaaaa"), Want::Wrote(8), 1, 2),
+    (A, Call::Write(b"bbbbbbbb"), Want::Wrote(8), 1, 2),
+    (A, Call::Write(b"cc"), Want::Wrote(2), 0, 1),
+    (
+        A,
+        GET,
+        Want::Got(None, Some(b"aaaaaaaa"), Priority::Norm, More::Nothing),
+        0,
+        0,
+    ),
+    (A, Call::Nread, Want::Waiting(1, 8), 0, 0),
+    (A, Call::Write(b"d"), Want::Wrote(1), 2, 3),
+    (A, Call::Nread, Want::Waiting(3, 8), 0, 0),
+    (A, Call::Read(64), Want::Bytes(b"bbbbbbbbccd"), 0, 0),
+    (A, Call::Read(64), AGAIN, 0, 0),
+];
+
+#[test]
+fn what_waits_moves_at_the_low_mark_or_when_more_is_put(rt: HostRuntime) {
+    play_looks(&rt, rt.alloc(), Driver::Echo, (16, 4), &BETWEEN_THE_MARKS);
+}
+
+// The same, but two more messages are taken instead: with 5 bytes the head is above its low mark, and
+// with 4 it is at it, so cc moves.
+const AT_THE_LOW_MARK: [LookRow; 9] = [
+    (A, Call::Write(b"aaaaaaaa"), Want::Wrote(8), 1, 2),
+    (A, Call::Write(b"bbb"), Want::Wrote(3), 1, 2),
+    (A, Call::Write(b"b"), Want::Wrote(1), 1, 2),
+    (A, Call::Write(b"xxxx"), Want::Wrote(4), 1, 2),
+    (A, Call::Write(b"cc"), Want::Wrote(2), 0, 1),
+    (
+        A,
+        GET,
+        Want::Got(None, Some(b"aaaaaaaa"), Priority::Norm, More::Nothing),
+        0,
+        0,
+    ),
+    (
+        A,
+        GET,
+        Want::Got(None, Some(b"bbb"), Priority::Norm, More::Nothing),
+        0,
+        0,
+    ),
+    (
+        A,
+        GET,
+        Want::Got(None, Some(b"b"), Priority::Norm, More::Nothing),
+        1,
+        2,
+    ),
+    (A, Call::Nread, Want::Waiting(2, 4), 0, 0),
+];
+
+#[test]
+fn what_waits_moves_at_the_low_mark(rt: HostRuntime) {
+    play_looks(&rt, rt.alloc(), Driver::Echo, (16, 4), &AT_THE_LOW_MARK);
 }
 
 // An empty write is a message.

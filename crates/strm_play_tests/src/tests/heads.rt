@@ -217,6 +217,25 @@ fn a_close_hangs_the_other_end_up(rt: HostRuntime) -> Result<(), Fail> {
     assert_row(&rt, rt.alloc(), &row)
 }
 
+// What waits for the closed end goes there and is dropped, in the call that closes it.
+#[test]
+fn a_closed_end_holds_nothing_up(rt: HostRuntime) -> Result<(), Fail> {
+    let row = Row {
+        stream: b"stream l loop 5/4 5/4",
+        name: b"l",
+        calls: &[
+            b"write l:a =aaaaa : 5",
+            b"write l:a =bbbbb : 5",
+            b"canput l:a 0 : 0",
+            b"close l:b : closed",
+            b"canput l:a 0 : 1",
+            b"write l:a =x : ENXIO",
+        ],
+        ends: b"open a\nclosed b\n",
+    };
+    assert_row(&rt, rt.alloc(), &row)
+}
+
 #[test]
 fn reads_and_the_bounds_of_messages(rt: HostRuntime) -> Result<(), Fail> {
     let row = Row {

@@ -1,65 +1,81 @@
-//! Flow control: whether the next queue of an end is full.
-ghost use Rattle.std.specs.Prelude.{◌≡◌, None, take, drop, reverse, option_map};
-ghost use Rattle.strm_msg.specs.declared.words.Side.TheVariants as Side;
-ghost use Rattle.strm_qpair.specs.Canput.{first_fill, is_full_in, above, below, full_in};
+//! Flow control: the next queue of an end.
+ghost use Rattle.std.specs.Prelude.{◌≡◌, ◌≤◌, length, IfSome, option_map, option_copied};
+ghost use Rattle.strm_qpair.specs.Modules.{identities_of};
+ghost use Rattle.strm_qpair.specs.Canput.{fill_of, above, below};
+ghost use Rattle.strm_qpair.specs.Next.{next_below, next_above, queue_at};
 
 use super::StreamEnd;
 use crate::driver::Driver;
 use strm_module::ModuleOf;
-use strm_msg::Side as Sides;
+use strm_msg::Side;
+use strm_queue::BandQueue;
 
 impl<M: ModuleOf> StreamEnd<M> {
-    /// Whether the first write queue from an index on is full, if there is one.
-    fn full_from(&self, first: usize, b: u8) -> Option<bool>
-        ensures { result ≡ option_map (is_full_in b) (first_fill Side.Wr (drop first self.now.state.modules) None) }
+    /// The module whose write queue is the first below a module, and below the head where `i` is 0.
+    pub fn next_below(&self, i: usize) -> Option<usize>
+        ensures value { result ≡ next_below (identities_of self.now.state.modules) i }
+        ensures there { IfSome result (λ j. (1 ≤ j) × (j ≤ length self.now.state.modules)) }
     {
-        let mut at = first;
+        let mut at = i;
         while at < self.pairs.len() {
-            if let Some(full) = self.pairs[at].full_on(Sides::Wr, b) {
-                return Some(full);
+            if self.pairs[at].has_queue(Side::Wr) {
+                return Some(at + 1);
             }
             at += 1;
         }
         None
     }
 
-    /// Whether the lowest read queue of the n topmost modules is full, if there is one.
-    fn full_among(&self, n: usize, b: u8) -> Option<bool>
-        ensures { result ≡ option_map (is_full_in b) (first_fill Side.Rd (reverse (take n self.now.state.modules)) None) }
+    /// The module whose read queue is the first above a module, and above all k of them where `i` is
+    /// k + 1.
+    pub fn next_above(&self, i: usize) -> Option<usize>
+        ensures value { result ≡ next_above (identities_of self.now.state.modules) i }
+        ensures there { IfSome result (λ j. (1 ≤ j) × (j ≤ length self.now.state.modules)) }
     {
-        let mut at = n.min(self.pairs.len());
+        let mut at = i.saturating_sub(1).min(self.pairs.len());
         while at > 0 {
-            at -= 1;
-            if let Some(full) = self.pairs[at].full_on(Sides::Rd, b) {
-                return Some(full);
+            if self.pairs[at - 1].has_queue(Side::Rd) {
+                return Some(at);
             }
+            at -= 1;
         }
         None
     }
 
-    /// Whether the first write queue below a module is full in a band, and below the head where `i`
-    /// is 0 (bcanput(9F) answers the opposite). Without one it is not.
-    pub fn full_below(&self, driver: Driver, i: usize, b: u8) -> bool
-        ensures { result ≡ full_in (below driver self.now.state i) b }
+    /// The queue of a side that a module has; `None` where it has none or is not there.
+    pub fn queue(&self, i: usize, side: Side) -> Option<&BandQueue>
+        ensures { option_map fill_of (option_copied result) ≡ queue_at self.now.state side i }
     {
-        match self.full_from(i, b) {
-            Some(full) => full,
+        if i == 0 || i > self.pairs.len() {
+            return None;
+        }
+        self.pairs[i - 1].queue(side)
+    }
+
+    /// The first write queue below a module, and below the head where `i` is 0: that of a module,
+    /// else the list of an echo or a loop.
+    pub fn queue_below(&self, driver: Driver, i: usize) -> Option<&BandQueue>
+        ensures { option_map fill_of (option_copied result) ≡ below driver self.now.state i }
+    {
+        match self.next_below(i) {
+            Some(j) => self.queue(j, Side::Wr),
             None => match driver {
-                Driver::Line => false,
-                Driver::Echo => self.drv.full(b),
-                Driver::Loop => self.drv.full(b),
+                Driver::Line => None,
+                Driver::Echo => Some(&self.drv),
+                Driver::Loop => Some(&self.drv),
             },
         }
     }
 
-    /// Whether the first read queue above a module is full in a band, and above all k of them where
-    /// `i` is k + 1 (bcanput(9F) answers the opposite). The head of a closed end never is.
-    pub fn full_above(&self, i: usize, b: u8) -> bool
-        ensures { result ≡ full_in (above self.now.state i) b }
+    /// The first read queue above a module, and above all k of them where `i` is k + 1: that of a
+    /// module, else the list of the head, which a closed end has not.
+    pub fn queue_above(&self, i: usize) -> Option<&BandQueue>
+        ensures { option_map fill_of (option_copied result) ≡ above self.now.state i }
     {
-        match self.full_among(i.saturating_sub(1), b) {
-            Some(full) => full,
-            None => self.is_open && self.head.full(b),
+        match self.next_above(i) {
+            Some(j) => self.queue(j, Side::Rd),
+            None if self.is_open => Some(&self.head),
+            None => None,
         }
     }
 }

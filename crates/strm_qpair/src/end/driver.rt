@@ -1,5 +1,6 @@
 //! The driver's list of an end.
-ghost use Rattle.std.specs.Prelude.{◌≡◌, ◌∷◌, [], ◌<◌, ◌≤◌, OnOk, OnErr, IfOk, IfErr, IfSome, IfNone, IsOk};
+ghost use Rattle.std.specs.Prelude.{◌≡◌, ◌∷◌, [], ◌<◌, ◌≤◌, false, OnOk, OnErr, IfOk, IfErr, IfSome, IfNone, IsOk};
+ghost use Rattle.strm_msg.specs.Kind.{is_high};
 ghost use Rattle.strm_msg.specs.Message.{rank_of};
 ghost use Rattle.strm_queue.specs.Queue.{put_in};
 ghost use Rattle.strm_queue.specs.Room.{room_for};
@@ -123,11 +124,12 @@ impl<M: ModuleOf> StreamEnd<M> {
         self.drv.make_room(rank)
     }
 
-    /// Puts a message into the driver's list (putq(9F)). That takes room for at most one message of
-    /// each rank.
+    /// Puts an ordinary message into the driver's list (putq(9F)). That takes room for at most one
+    /// message of each rank.
     ///
     /// Refused for want of memory alone: the message comes back, and nothing is changed.
     pub fn put_driver(&mut self, m: Message) -> Result<(), Message>
+        requires { is_high m.kind ≡ false }
         ensures ok { OnOk result (self.new.state ≡ in_drv self.old.state (put_in self.old.state.drv m)) }
         ensures err { OnErr result (self.new.state ≡ self.old.state) }
         ensures back { IfErr result (λ same. same ≡ m) }

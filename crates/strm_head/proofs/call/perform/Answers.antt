@@ -13,19 +13,19 @@ returns-in-Ok-clause-answers g c =
     quiet_answers g.M.Kind.Kinds.means c.args.chain.now.image c.args.end c.args.request c.in-Ok.reply c.done.result.answer c.done.result.moves c.begin.new.chain.image c.requires.kept
     c.requires.unrefused
     (sym c.if-is_quiet.ensures) c.in-Ok.ensures.image c.in-Ok.ensures.reply c.done.ensures.answer
-    (c.done.ensures.moves ∙ c.new.ensures)
+    (c.done.ensures.moves ∙ c.none.ensures.moves)
 
 pub returns-in-Ok-2-clause-answers : goal.returns-in-Ok-2-clause-answers
 returns-in-Ok-2-clause-answers g c =
     ioctl_answers g.M.Kind.Kinds.means c.args.chain.now.image c.args.end c.args.request c.begin.new.chain.image c.finish_ioctl.result.answer c.finish_ioctl.result.moves c.finish_ioctl.new.chain.image
     c.requires.unrefused
     (sym c.if-is_quiet.ensures)
-    (sym c.if-awaits.ensures) c.in-Ok-2.ensures.image c.finish_ioctl.ensures
+    (sym c.if-awaits.ensures) c.in-Ok-2.ensures.image c.finish_ioctl.ensures.finishes
 
 pub returns-in-Ok-2-clause-back : goal.returns-in-Ok-2-clause-back
 returns-in-Ok-2-clause-back g c =
     c.in-Ok-2.ensures.back
-    ∙ sym (finished_back g.M.Kind.Kinds.means c.args.chain.now.image c.args.end c.args.request (begun_ioctl c.begin.new.chain.image) c.finish_ioctl.result.answer c.finish_ioctl.result.moves _ c.finish_ioctl.new.chain.image c.finish_ioctl.ensures)
+    ∙ sym (finished_back g.M.Kind.Kinds.means c.args.chain.now.image c.args.end c.args.request (begun_ioctl c.begin.new.chain.image) c.finish_ioctl.result.answer c.finish_ioctl.result.moves _ c.finish_ioctl.new.chain.image c.finish_ioctl.ensures.finishes)
 
 pub returns-in-Ok-2-clause-memory : goal.returns-in-Ok-2-clause-memory
 returns-in-Ok-2-clause-memory g c =

@@ -1,5 +1,5 @@
 use Rattle.std.proofs.Common.{◌∙◌}
-use Rattle.strm_chain.specs.Image.{end_of}
+use Rattle.strm_ends.specs.Image.{end_of}
 use Rattle.strm_ioctl.proofs.NameLemmas.{some_shapes}
 use Rattle.strm_ioctl.proofs.CloseLemmas.{closed_as_of, broken_as_of, whole_before}
 use Rattle.strm_ioctl.proofs.closing.close.Goals as goal

@@ -1,6 +1,6 @@
 use Rattle.std.proofs.Common.{◌<◌, length, sym, arith, length-append}
 use Rattle.std.proofs.lemmas.List.{take_more}
-use Rattle.strm_chain.specs.Image.{end_of}
+use Rattle.strm_ends.specs.Image.{end_of}
 use Rattle.strm_ioctl.specs.Names.{names_of}
 use Rattle.strm_ioctl.proofs.NameLemmas.{name_at, as_many_names}
 use Rattle.strm_ioctl.proofs.names.names_of.Goals as goal

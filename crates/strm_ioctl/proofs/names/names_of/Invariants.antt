@@ -1,5 +1,5 @@
 use Rattle.std.proofs.Common.{◌≡◌, length, take}
-use Rattle.strm_chain.specs.Image.{end_of}
+use Rattle.strm_ends.specs.Image.{end_of}
 use Rattle.strm_ioctl.specs.Names.{names_of}
 use Rattle.strm_ioctl.proofs.names.names_of.Given as goal
 

@@ -1,9 +1,17 @@
 use Rattle.std.proofs.Common.{◌≡◌, ◌∙◌, false, OnOk, ap, subst}
-use Rattle.strm_chain.specs.Image.{Image, partner, end_of}
+use Rattle.strm_ends.specs.Image.{Image, partner, end_of}
 use Rattle.strm_chain.specs.Service.{move}
 use Rattle.strm_chain.specs.Hop.{carry_all}
-use Rattle.strm_chain.specs.declared.place.Place.TheVariants as Place
+use Rattle.strm_ends.specs.declared.place.Place.TheVariants as Place
 use Rattle.strm_chain.proofs.HopLemmas.{carries_up, driver_moves, driver_stays}
+use Rattle.std.proofs.Common.{true, Some, [], slice_get, refl, arith}
+use Rattle.strm_module.specs.Calm.{is_calm}
+use Rattle.strm_module.proofs.CalmLemmas.{ordinary_calm}
+use Rattle.strm_qpair.proofs.NextLemmas.{drv_ordinary}
+use Rattle.strm_chain.specs.Hop.{up_hop}
+use Rattle.strm_chain.specs.Count.{are_calm_hops}
+use Rattle.strm_chain.proofs.CaseLemmas.{on_ok}
+use Rattle.strm_chain.proofs.CountLemmas.{one_calm}
 use Rattle.strm_chain.proofs.chain.Chain.move_driver.Goals as goal
 
 pub returns-in-Some-clause-ok : goal.returns-in-Some-clause-ok
@@ -24,3 +32,14 @@ returns-in-Some-clause-ok g c =
 pub returns-in-None-clause-ok : goal.returns-in-None-clause-ok
 returns-in-None-clause-ok g c =
     driver_stays g.M.Kind.Kinds.means c.args.end c.args.self.now.image c.take_driver.new.self.image c.in-None.ensures.none.0 c.in-None.ensures.none.1
+
+pub returns-in-Some-clause-moves : goal.returns-in-Some-clause-moves
+returns-in-Some-clause-moves g c =
+    let old = c.args.self.now.image in
+    let m = c.in-Some.m in
+    let first : slice_get (end_of old c.args.end).drv 0 ≡ Some m = ap (λ q. slice_get q 0) c.in-Some.ensures.some.0 in
+    let calm : is_calm m.kind ≡ true = ordinary_calm m.kind (drv_ordinary (end_of old c.args.end) m c.count.ensures.ordinary first) in
+    let hops : are_calm_hops c.push_front_reserved.new.self.items ≡ true =
+    rw (c.push_front_reserved.ensures.items, c.up.ensures, c.requires.empty) (one_calm (up_hop false c.partner_of-partner.result c.count-ahead.result m) [] calm refl) in
+    on_ok c.carry_all.result _ _ c.carry_all.ensures.grows
+    (λ grow kinds enabled. let taken = c.in-Some.ensures.moves enabled in let more = grow kinds hops in omega (arith, taken, more))

@@ -1,8 +1,16 @@
 use Rattle.std.proofs.Common.{◌≡◌, ◌-◌, ◌∙◌, false, OnOk, map, ap, subst}
-use Rattle.strm_chain.specs.Image.{Image, count_of}
+use Rattle.strm_ends.specs.Image.{Image, count_of}
 use Rattle.strm_chain.specs.Service.{move}
-use Rattle.strm_chain.specs.Hop.{carry_all, hop_of, module_place}
+use Rattle.strm_chain.specs.Hop.{carry_all, hop_of}
+use Rattle.strm_ends.specs.Held.{module_place}
 use Rattle.strm_chain.proofs.HopLemmas.{rest_after, module_move}
+use Rattle.std.proofs.Common.{true, [], refl, arith}
+use Rattle.strm_ends.specs.Image.{end_of}
+use Rattle.strm_ends.proofs.CalmLemmas.{serves_calm}
+use Rattle.strm_chain.specs.Service.{serve_at}
+use Rattle.strm_chain.specs.Count.{are_calm_hops}
+use Rattle.strm_chain.proofs.CaseLemmas.{on_ok}
+use Rattle.strm_chain.proofs.CountLemmas.{outs_calm}
 use Rattle.strm_chain.proofs.chain.Chain.move_module.Goals as goal
 
 pub returns-clause-ok : goal.returns-clause-ok
@@ -18,3 +26,18 @@ returns-clause-ok g c =
     rest_after means new there (map (hop_of false c.args.side c.args.end c.args.i below) c.in_ok-outs.outs.items) c.args.hops.items hops c.push_outs.ensures.items
     (rw (c.in_ok-outs.ensures.image, c.in_ok-outs.ensures.outs) (module_move means c.args.side c.args.end c.args.i below old at)) ∙ ap (carry_all means there) c.requires.empty in
     subst (λ (j : Image _). OnOk c.carry_all.result (c.carry_all.new.self.image ≡ j)) e c.carry_all.ensures.ok
+
+pub returns-clause-moves : goal.returns-clause-moves
+returns-clause-moves g c =
+    let means = g.M.Kind.Kinds.means in
+    let old = c.args.self.now.image in
+    let below = c.saturating_sub-below.result in
+    on_ok c.carry_all.result _ _ c.carry_all.ensures.grows
+    (λ grow kinds enabled.
+    let outs = (serves_calm means (end_of old c.args.end) c.args.i c.args.side kinds c.count.ensures.ordinary).0 in
+    let hops : are_calm_hops c.push_outs.new.hops.items ≡ true =
+    rw (c.push_outs.ensures.items, c.requires.empty, c.in_ok-outs.ensures.outs)
+    (outs_calm false c.args.side c.args.end c.args.i below (serve_at means old c.args.end c.args.i c.args.side).outs [] outs refl) in
+    let served = c.in_ok-outs.ensures.moves kinds enabled in
+    let more = grow kinds hops in
+    omega (arith, served, more))

@@ -1,18 +1,59 @@
-use Rattle.std.proofs.Common.{◌≡◌, true, false, ◌∙◌, ap, sym}
-use Rattle.strm_chain.specs.Service.{may}
-use Rattle.strm_chain.proofs.QuietLemmas.{Leads-snoc, same_trans}
+use Rattle.std.proofs.Common.{◌≡◌, ◌+◌, ◌∷◌, ◌++◌, [], true, false, length, length-append, ◌∙◌, ap, sym, arith}
+use Rattle.strm_ends.specs.Flow.{may}
+use Rattle.strm_ends.specs.Count.{message_count}
+use Rattle.strm_chain.proofs.QuietLemmas.{Leads-snoc, same_trans, leads_to, same_to}
 use Rattle.strm_chain.proofs.chain.Chain.settle.Goals as goal
 
 pub loop-place-preserved : goal.loop-place-preserved
 loop-place-preserved g c =
     let l = c.loop-place.invariant in
-    let place = c.in-Some.place in
+    let before = c.restart.new.self.image in
+    let at = c.loop-place.self.image in
+    let now = c.look.new.self.image in
+    let counted = c.in-Some.ensures.given in
     record {
-      leads = rw c.in-Ok.ensures
-          (Leads-snoc _ c.loop-place.moves c.args.self.now.image c.loop-place.self.image c.serve_one.new.self.image place l.leads c.in-Some.ensures.some c.in-Ok-serve_one.ensures.ok);
-      same = same_trans c.args.self.now.image c.loop-place.self.image c.serve_one.new.self.image l.same c.in-Ok-serve_one.ensures.same;
+      leads = leads_to _ c.loop-place.moves before at now c.look.ensures.image l.leads;
+      same = same_to before at now c.look.ensures.image l.same;
+      whole = l.whole;
+      still = λ none. c.look.ensures.image ∙ l.still none;
+      least = omega (arith, l.least, l.counted, counted);
+      most = λ kinds.
+          let before = l.most kinds in
+          let rested = c.in-Some.ensures.rests c.if-may.false in
+          let same = ap message_count c.look.ensures.image in
+          omega (arith, before, rested, same, counted);
+      counted = l.counted;
+    }
+
+pub loop-place-preserved-in-Continue-1 : goal.loop-place-preserved-in-Continue-1
+loop-place-preserved-in-Continue-1 g c =
+    let l = c.loop-place.invariant in
+    let before = c.restart.new.self.image in
+    let at = c.loop-place.self.image in
+    let mid = c.look.new.self.image in
+    let now = c.move_one.new.self.image in
+    let place = c.in-Some.place in
+    let counted = c.in-Some.ensures.given in
+    let kept = c.in_ok-move_one.ensures.given in
+    let few = c.in_ok-move_one.ensures.counted in
+    let long : length (c.loop-place.moves ++ place ∷ []) ≡ length c.loop-place.moves + 1 = length-append c.loop-place.moves (place ∷ []) in
+    let all = ap length c.in_ok-move_one.ensures.moves in
+    let may_now : may mid place ≡ true = ap (λ i. may i place) c.look.ensures.image ∙ c.in-Some.ensures.may ∙ c.if-may.true in
+    let to_mid = leads_to _ c.loop-place.moves before at mid c.look.ensures.image l.leads in
+    record {
+      leads = rw c.in_ok-move_one.ensures.moves
+          (Leads-snoc _ c.loop-place.moves before mid now place to_mid may_now c.in_ok-move_one.ensures.ok);
+      same = same_trans before mid now (same_to before at mid c.look.ensures.image l.same) c.in_ok-move_one.ensures.same;
       whole = l.whole;
       still = λ none.
-          let moves : true ≡ false = sym c.in-Some.ensures.some ∙ ap (λ i. may i place) (l.still none) ∙ none place in
+          let moves : true ≡ false = sym may_now ∙ ap (λ i. may i place) (c.look.ensures.image ∙ l.still none) ∙ none place in
           cc;
+      least = omega (arith, l.least, counted, kept, few, long, all);
+      most = λ kinds.
+          let before = l.most kinds in
+          let looked = c.in-Some.ensures.moves c.if-may.true in
+          let same = ap message_count c.look.ensures.image in
+          let more = c.in_ok-move_one.ensures.more kinds (c.in-Some.ensures.enabled c.if-may.true) in
+          omega (arith, before, looked, same, counted, kept, more, long, all);
+      counted = few;
     }

@@ -1,6 +1,9 @@
-use Rattle.std.proofs.Common.{◌≡◌, ◌-◌, ◌^◌, false, length}
-use Rattle.strm_chain.specs.Fault.{SameModules}
-use Rattle.strm_chain.specs.Service.{Leads, NoneMay}
+use Rattle.std.proofs.Common.{◌≡◌, ◌<◌, ◌≤◌, ◌+◌, ◌-◌, ◌*◌, ◌^◌, false, length}
+use Rattle.strm_ends.specs.Same.{SameModules}
+use Rattle.strm_ends.specs.Flow.{NoneMay}
+use Rattle.strm_module.specs.Calm.{IsCalm}
+use Rattle.strm_ends.specs.Count.{message_count, place_count}
+use Rattle.strm_chain.specs.Service.{Leads}
 use Rattle.strm_chain.proofs.chain.Chain.settle.Given as goal
 
 abbrev pub invariant-loop-place : goal.invariant-loop-place
@@ -9,7 +12,11 @@ invariant-loop-place g l = record {
   same : SameModules l.initial.self.image l.self.image;
   whole : l.initial.self.image.broken ≡ false;
   still : NoneMay l.initial.self.image → l.self.image ≡ l.initial.self.image;
+  least : length l.moves ≤ l.self.run.given;
+  most : IsCalm g.M.Kind.Kinds.means → l.self.run.given + length l.self.run.items + message_count l.initial.self.image ≤ place_count l.initial.self.image + 3 * length l.moves + message_count l.self.image;
+  counted : length l.moves < 18446744073709551616;
 }
 
+-- a turn moves a place, and then at most 40 are enabled, or leaves one enabled place fewer
 abbrev pub decreases-loop-place : goal.decreases-loop-place
-decreases-loop-place g l = 2 ^ 64 - length l.moves
+decreases-loop-place g l = 41 * (2 ^ 64 - length l.moves) + length l.self.run.items

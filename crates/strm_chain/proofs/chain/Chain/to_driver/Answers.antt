@@ -1,5 +1,5 @@
 use Rattle.std.proofs.Common.{◌≡◌, ◌≤◌, ◌<◌, ◌∙◌, ap, sym, arith}
-use Rattle.strm_chain.specs.Image.{partner}
+use Rattle.strm_ends.specs.Image.{partner}
 use Rattle.strm_chain.specs.Hop.{carry_all, up_hop, down_hop, rank}
 use Rattle.strm_chain.proofs.HopLemmas.{carries_up, driver_nothing, driver_reply, driver_across}
 use Rattle.strm_chain.proofs.LoadLemmas.{none_falls, one_falls}

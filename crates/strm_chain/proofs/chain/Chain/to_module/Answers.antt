@@ -3,6 +3,11 @@ use Rattle.strm_msg.specs.declared.words.Side.{Side}
 use Rattle.strm_chain.specs.Hop.{carry, hop_of, next_module}
 use Rattle.strm_chain.proofs.HopLemmas.{rest_after, module_hop}
 use Rattle.strm_chain.proofs.LoadLemmas.{outs_fall}
+use Rattle.std.proofs.Common.{◌-◌}
+use Rattle.strm_ends.specs.Image.{end_of}
+use Rattle.strm_ends.proofs.CalmLemmas.{gets_calm}
+use Rattle.strm_chain.specs.Deliver.{put_at}
+use Rattle.strm_chain.proofs.CountLemmas.{outs_calm}
 use Rattle.strm_chain.proofs.chain.Chain.to_module.Goals as goal
 
 pub returns-clause-image : goal.returns-clause-image
@@ -23,3 +28,16 @@ returns-clause-falls g c =
     (outs_fall h.head_sent h.side h.end i h.ahead h.m c.in_ok-outs.outs.items c.args.hops.now.items c.requires.ahead
     (λ rd. c.next_module-i.ensures.value ∙ ap (λ (s : Side). next_module c.args.self.now.image s h.end h.ahead) rd)
     c.next_module-i.ensures.few c.push_outs.ensures.few)
+
+pub returns-clause-grows : goal.returns-clause-grows
+returns-clause-grows g c =
+    let means = g.M.Kind.Kinds.means in
+    let old = c.args.self.now.image in
+    let h = c.args.hop in
+    let i = c.next_module-i.result in
+    λ kinds calm rest.
+    let outs = (gets_calm means (end_of old h.end) i h.side h.m kinds calm).0 in (
+      c.in_ok-outs.ensures.grows kinds calm,
+      rw (c.push_outs.ensures.items, c.in_ok-outs.ensures.outs)
+          (outs_calm h.head_sent h.side h.end i (h.ahead - 1) (put_at means old h.end i h.side h.m).outs c.args.hops.now.items outs rest),
+    )

@@ -1,5 +1,21 @@
-use Rattle.std.proofs.Common.{refl}
+use Rattle.std.proofs.Common.{◌≡◌, false, refl}
+use Rattle.strm_msg.specs.Kind.{is_high}
+use Rattle.strm_qpair.proofs.WaitLemmas.{ordinary-put, ordinary-kind}
 use Rattle.strm_qpair.proofs.end.StreamEnd.echo_does.Goals as goal
+
+pub invariant_of-self-in-MData : goal.invariant_of-self-in-MData
+invariant_of-self-in-MData g c =
+    let k = c.self.invariant in
+    let low : is_high c.args.m.kind ≡ false = rw (← c.m.view_is) (ordinary-kind c.m.inside.kind c.in-MData.is) in
+    record {
+      room = k.room;
+      few = k.few;
+      head_fit = k.head_fit;
+      drv_fit = rw c.put_in_list.ensures.marks k.drv_fit;
+      fit = k.fit;
+      waits = k.waits;
+      ordinary = rw c.in_ok-put_in_list-in-MData.ensures.ok (ordinary-put c.self.inside.drv.messages c.args.m low k.ordinary);
+    }
 
 pub returns-in_ok-put_in_list-in-MData-clause-same : goal.returns-in_ok-put_in_list-in-MData-clause-same
 returns-in_ok-put_in_list-in-MData-clause-same g c =

@@ -1,6 +1,8 @@
 use Rattle.std.proofs.Common.{◌≡◌, ◌<◌, ◌-◌, length, Some, refl, rules}
 use Rattle.strm_qpair.specs.End.{pair_at}
+use Rattle.strm_qpair.specs.Modules.{waits_well}
 use Rattle.strm_qpair.proofs.EndLemmas.{identities-set, fit-set, pair_at-found, serves_found}
+use Rattle.strm_qpair.proofs.WaitLemmas.{all-set}
 use Rattle.strm_qpair.proofs.end.StreamEnd.serve_at.Goals as goal
 
 pub invariant_of-self : goal.invariant_of-self
@@ -12,6 +14,8 @@ invariant_of-self g c =
       head_fit = k.head_fit;
       drv_fit = k.drv_fit;
       fit = fit-set c.self.inside.pairs.items (c.args.i - 1) c.serve.new.self c.index_mut.result.now c.index_mut.ensures.value c.serve.ensures.identity k.fit;
+      waits = all-set waits_well c.self.inside.pairs.items (c.args.i - 1) c.serve.new.self c.index_mut.result.now c.index_mut.ensures.value (search rules) c.serve.ensures.waits k.waits;
+      ordinary = k.ordinary;
     }
 
 pub returns-clause-outs : goal.returns-clause-outs

@@ -2,7 +2,7 @@ use Rattle.std.proofs.Common.{List, ◌++◌, append-nil, refl, sym, ◌∙◌, 
 use Rattle.strm_msg.specs.Message.{Msg}
 use Rattle.strm_shared.specs.History.{arrivals}
 use Rattle.strm_head.proofs.SerialLemmas.{legal_accounts}
-use Rattle.strm_shared.proofs.TurnLemmas.{counts_agree}
+use Rattle.strm_shared.proofs.TurnLemmas.{counts_agree, unfinished_apart}
 use Rattle.strm_shared.proofs.shared.Shared.end.Goals as goal
 
 pub returns-then-not-are_seats-clause-seats : goal.returns-then-not-are_seats-clause-seats
@@ -13,22 +13,22 @@ returns-then-not-are_seats-clause-seats g c =
 pub returns-then-not-is_of-clause-seats : goal.returns-then-not-is_of-clause-seats
 returns-then-not-is_of-clause-seats g c =
     let are = rw c.as_slice.ensures.value at c.are_seats.ensures in
-    rw (← c.self.view_is) ((λ is. absurd cc), (λ none. absurd (none (are.0 c.if-not-are_seats.false))))
+    rw (← c.self.view_is) ((λ is. unfinished_apart is), (λ none. absurd (none (are.0 c.if-not-are_seats.false))))
 
 pub returns-then-not-is_fed-clause-seats : goal.returns-then-not-is_fed-clause-seats
 returns-then-not-is_fed-clause-seats g c =
     let are = rw c.as_slice.ensures.value at c.are_seats.ensures in
-    rw (← c.self.view_is) ((λ is. absurd cc), (λ none. absurd (none (are.0 c.if-not-are_seats.false))))
+    rw (← c.self.view_is) ((λ is. unfinished_apart is), (λ none. absurd (none (are.0 c.if-not-are_seats.false))))
 
 pub returns-then-not-do_agree-clause-seats : goal.returns-then-not-do_agree-clause-seats
 returns-then-not-do_agree-clause-seats g c =
     let are = rw c.as_slice.ensures.value at c.are_seats.ensures in
-    rw (← c.self.view_is) ((λ is. absurd cc), (λ none. absurd (none (are.0 c.if-not-are_seats.false))))
+    rw (← c.self.view_is) ((λ is. unfinished_apart is), (λ none. absurd (none (are.0 c.if-not-are_seats.false))))
 
 pub returns-then-not-is_accepted-clause-seats : goal.returns-then-not-is_accepted-clause-seats
 returns-then-not-is_accepted-clause-seats g c =
     let are = rw c.as_slice.ensures.value at c.are_seats.ensures in
-    rw (← c.self.view_is) ((λ is. absurd cc), (λ none. absurd (none (are.0 c.if-not-are_seats.false))))
+    rw (← c.self.view_is) ((λ is. unfinished_apart is), (λ none. absurd (none (are.0 c.if-not-are_seats.false))))
 
 pub returns-clause-seated : goal.returns-clause-seated
 returns-clause-seated g c =

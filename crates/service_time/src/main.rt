@@ -1,0 +1,217 @@
+//! What calls on an echo stream cost, with the service that follows them.
+//!
+//! Without an argument it says which calls it makes, how often, and how many places move and are looked at for them;
+//! with `--time` also how long they take.
+#![tactic(auto)]
+
+use std::alloc::Global;
+use std::env;
+use std::time::Instant;
+use strm_head::{Driver, Outcome, Priority, Request, Stream, Wanted};
+use strm_module::{Instance, Kind, Plain, Shape};
+use strm_msg::{Bytes, End, NoMem};
+
+/// How often the calls are made.
+const ROUNDS: u32 = 50_000;
+
+/// The bytes of each message.
+const TEXT: &[u8] = b"aaaaa";
+
+/// A high and a low mark far above what waits.
+const WIDE: (u32, u32) = (4096, 1024);
+
+/// The marks of a queue that one message fills.
+const NARROW: (u32, u32) = (5, 4);
+
+/// The names of the modules.
+const NAMES: [&[u8]; 8] = [b"m1", b"m2", b"m3", b"m4", b"m5", b"m6", b"m7", b"m8"];
+
+/// The modules of a stream, which pass everything.
+#[derive(Clone, Copy)]
+enum Modules {
+    /// There are none.
+    None,
+    /// Eight that have no queues.
+    Bare,
+    /// Eight with a queue on either side, of these marks.
+    Queued((u32, u32)),
+}
+
+/// The calls that are made over and over. They leave the stream as it was.
+#[derive(Clone, Copy)]
+enum Calls {
+    /// A write, and a read that takes it.
+    WriteRead,
+    /// A getmsg, and a write.
+    GetmsgWrite,
+    /// A getread, which changes no queue.
+    GetRead,
+}
+
+/// What is timed.
+#[derive(Clone, Copy)]
+struct Trial {
+    /// What it is called.
+    name: &'static str,
+    /// The marks of the head and of the driver.
+    marks: (u32, u32),
+    /// The modules that stand there.
+    modules: Modules,
+    /// How many messages are written first.
+    written: u32,
+    /// The calls.
+    calls: Calls,
+}
+
+const TRIALS: [Trial; 6] = [
+    Trial {
+        name: "a write and a read, no modules",
+        marks: WIDE,
+        modules: Modules::None,
+        written: 0,
+        calls: Calls::WriteRead,
+    },
+    Trial {
+        name: "a write and a read, eight modules without queues",
+        marks: WIDE,
+        modules: Modules::Bare,
+        written: 0,
+        calls: Calls::WriteRead,
+    },
+    Trial {
+        name: "a write and a read, eight modules with queues",
+        marks: WIDE,
+        modules: Modules::Queued(NARROW),
+        written: 0,
+        calls: Calls::WriteRead,
+    },
+    Trial {
+        name: "a getmsg and a write, eight modules with queues, all full",
+        marks: NARROW,
+        modules: Modules::Queued(NARROW),
+        written: 18,
+        calls: Calls::GetmsgWrite,
+    },
+    Trial {
+        name: "a getread, no modules",
+        marks: WIDE,
+        modules: Modules::None,
+        written: 0,
+        calls: Calls::GetRead,
+    },
+    Trial {
+        name: "a getread, eight modules with queues",
+        marks: WIDE,
+        modules: Modules::Queued(WIDE),
+        written: 0,
+        calls: Calls::GetRead,
+    },
+];
+
+/// The service that calls had in all.
+#[derive(Clone, Copy)]
+struct Service {
+    /// How many places moved.
+    moves: u64,
+    /// How many places were looked at.
+    looks: u64,
+}
+
+impl Service {
+    /// With that of one more call.
+    fn with(self, outcome: &Outcome<Plain>) -> Service {
+        Service {
+            moves: self.moves.saturating_add(outcome.moves.len() as u64),
+            looks: self.looks.saturating_add(outcome.looks),
+        }
+    }
+}
+
+/// Writes a message.
+fn write(alloc: Global, stream: &mut Stream<Plain>) -> Result<Outcome<Plain>, NoMem> {
+    let dat = Bytes::from_slice(alloc, TEXT)?;
+    Ok(stream.apply(End::A, Request::Write { dat }))
+}
+
+/// Puts eight modules in, whose queues have these marks, if they have any.
+fn push_eight(stream: &mut Stream<Plain>, queues: Option<(u32, u32)>) -> anyhow::Result<()> {
+    for (serial, name) in NAMES.iter().enumerate() {
+        let shape = Shape::new(serial as u64, name, queues, queues, Kind::Pass)?;
+        let instance = Instance::new(shape, Plain);
+        stream.apply(End::A, Request::Push { instance });
+    }
+    Ok(())
+}
+
+/// The stream of a trial.
+fn made(alloc: Global, trial: &Trial) -> anyhow::Result<Stream<Plain>> {
+    let mut stream = Stream::new(alloc, Driver::Echo, trial.marks, trial.marks)?;
+    match trial.modules {
+        Modules::None => {}
+        Modules::Bare => push_eight(&mut stream, None)?,
+        Modules::Queued(marks) => push_eight(&mut stream, Some(marks))?,
+    }
+    for _ in 0..trial.written {
+        write(alloc, &mut stream)?;
+    }
+    Ok(stream)
+}
+
+/// Makes the calls once. Gives the service so far with that of theirs.
+fn turn(
+    alloc: Global,
+    stream: &mut Stream<Plain>,
+    calls: Calls,
+    service: Service,
+) -> Result<Service, NoMem> {
+    match calls {
+        Calls::WriteRead => {
+            let wrote = write(alloc, stream)?;
+            let read = stream.apply(End::A, Request::Read { max: 5 });
+            Ok(service.with(&wrote).with(&read))
+        }
+        Calls::GetmsgWrite => {
+            let getmsg = Request::Getmsg {
+                maxctl: None,
+                maxdat: Some(5),
+                flag: Wanted::Any,
+            };
+            let got = stream.apply(End::A, getmsg);
+            let wrote = write(alloc, stream)?;
+            Ok(service.with(&got).with(&wrote))
+        }
+        Calls::GetRead => {
+            let got = stream.apply(End::A, Request::GetRead);
+            Ok(service.with(&got))
+        }
+    }
+}
+
+/// Makes the calls over and over.
+fn turns(alloc: Global, stream: &mut Stream<Plain>, calls: Calls) -> Result<Service, NoMem> {
+    let mut service = Service { moves: 0, looks: 0 };
+    for _ in 0..ROUNDS {
+        service = turn(alloc, stream, calls, service)?;
+    }
+    Ok(service)
+}
+
+fn main(rt: HostRuntime) -> anyhow::Result<()> {
+    let alloc: Global = rt.alloc();
+    let timed = env::args(&rt)?.any(|word| word.as_str() == "--time");
+    for trial in &TRIALS {
+        let mut stream = made(alloc, trial)?;
+        let start = Instant::now(&rt)?;
+        let service = turns(alloc, &mut stream, trial.calls)?;
+        let taken = start.elapsed(&rt)?;
+        let name = trial.name;
+        let moves = service.moves / u64::from(ROUNDS);
+        let looks = service.looks / u64::from(ROUNDS);
+        print!(rt; "{name}: {ROUNDS} times, moves {moves} and looks {looks} each")?;
+        if timed {
+            print!(rt; ", {} ns each", taken.as_nanos() / u128::from(ROUNDS))?;
+        }
+        println!(rt; "")?;
+    }
+    Ok(())
+}

@@ -1,0 +1,421 @@
+-- No place is forgotten: what enabling keeps.
+use Rattle.std.proofs.Common.{⊎_elim, inl, inr, map, ◌≡◌, ◌≢◌, ◌<◌, ◌≤◌, ◌||◌, ℕ, nat_eq, Bool, true, false, Some, None, List, [], ◌∷◌, length, slice_get, slice_set, is_some, refl, sym, ◌∙◌, ap, suc, zero, arith}
+use Rattle.std.proofs.lemmas.Bool.{cases_eq}
+use Rattle.std.proofs.lemmas.Cmp.{nat_eq_equiv}
+use Rattle.std.proofs.lemmas.List.{length-map}
+use Rattle.std.proofs.lemmas.Map.Made.{length-le_from_is_member}
+use Rattle.std.proofs.lemmas.Bool.Decides.{nat_tests}
+use Rattle.strm_msg.specs.declared.words.End.{End}
+use Rattle.strm_msg.specs.declared.words.End.TheVariants.{A, B}
+use Rattle.strm_qpair.specs.declared.record.Record.{Record}
+use Rattle.strm_queue.specs.Run.{RunList, stands_in, AreOnce, with_place}
+use Rattle.strm_queue.proofs.RunLemmas.{stands_with}
+use Rattle.strm_ends.specs.declared.place.Place.{Place}
+use Rattle.strm_ends.specs.declared.place.NextQueue.{NextQueue}
+use Rattle.strm_ends.specs.declared.place.NextQueue.TheVariants.{Of, Head}
+use Rattle.strm_ends.specs.Image.{Image, end_of, with_state}
+use Rattle.strm_ends.specs.Path.{front_of}
+use Rattle.strm_ends.specs.Flow.{may, is_due}
+use Rattle.strm_ends.specs.Held.{held_by, DiffersIn, AreOrdinary}
+use Rattle.strm_ends.specs.Next.{next_of, modules_at, SameWays}
+use Rattle.strm_ends.proofs.NextLemmas.{next_same, front_same, ways_of_same, next_once}
+use Rattle.strm_ends.specs.Count.{is_place, places_of, place_count}
+use Rattle.strm_ends.proofs.PlaceLemmas.{IsIn, place_in, place_same}
+use Rattle.strm_ends.proofs.DueLemmas.{due_frame, due_fuller, due_holds, may_unless_next}
+use Rattle.strm_chain.specs.Number.{number_of, place_number, place_of}
+use Rattle.strm_chain.specs.Enabled.{Enabled, is_enabled, DueAreEnabled, IsWaiting, IsReady, IsReadyBut, ArePlaces, awaits, Awaits}
+use Rattle.strm_chain.proofs.NumberLemmas.{place_back, number_once}
+
+differ : (C : Type 0) → true ≡ false → C
+differ C e = cc
+
+or_left : (a b : Bool) → (a || b) ≡ false → a ≡ false
+or_left true b h = h
+or_left false b h = refl
+
+or_right : (a b : Bool) → (a || b) ≡ false → b ≡ false
+or_right true b h = cc
+or_right false b h = h
+
+same_number : (a b : ℕ) → a ≡ b → nat_eq a b ≡ true
+same_number a b h = grind (arith, nat_tests)
+
+-- who is not enabled after a place was was not before, and is another
+out_before : (items : List ℕ) (n k : ℕ) → stands_in k (with_place items n) ≡ false → stands_in k items ≡ false
+out_before items n k out = or_left (stands_in k items) (nat_eq k n) (sym (stands_with k n items (stands_in n items) refl) ∙ out)
+
+out_other : (items : List ℕ) (n k : ℕ) → stands_in k (with_place items n) ≡ false → k ≢ n
+out_other items n k out same =
+    differ ⊥ (sym (same_number k n same) ∙ or_right (stands_in k items) (nat_eq k n) (sym (stands_with k n items (stands_in n items) refl) ∙ out))
+
+some_same : {X : Type 0} {a b : X} → Some a ≡ Some b → a ≡ b
+some_same h = cc
+
+some_of : {p r : Place} → Of p ≡ Of r → p ≡ r
+some_of h = cc
+
+nobody : (p : Place) → Some None ≡ Some (Some p) → ⊥
+nobody p h = cc
+
+apart_number : (a b : ℕ) → a ≢ b → nat_eq a b ≡ false
+apart_number a b h = grind (arith, nat_tests)
+
+slice_get_set_other : {X : Type 0} (xs : List X) (i j : ℕ) (x : X) → j ≢ i → slice_get (slice_set xs i x) j ≡ slice_get xs j
+slice_get_set_other [] i j x h = refl
+slice_get_set_other (y ∷ xs) zero zero x h = absurd (h refl)
+slice_get_set_other (y ∷ xs) zero (suc j) x h = refl
+slice_get_set_other (y ∷ xs) (suc i) zero x h = refl
+slice_get_set_other (y ∷ xs) (suc i) (suc j) x h = slice_get_set_other xs i j x (λ e. h (ap suc e))
+
+slice_get_set_same : {X : Type 0} (xs : List X) (i : ℕ) (x : X) → i < length xs → slice_get (slice_set xs i x) i ≡ Some x
+slice_get_set_same [] i x h = absurd (omega arith)
+slice_get_set_same (y ∷ xs) zero x h = refl
+slice_get_set_same (y ∷ xs) (suc i) x h = slice_get_set_same xs i x (omega arith)
+
+-- each place that must move is enabled
+pub due_enabled : {K : Type 0} (image : Image K) (enabled : Enabled) → IsReady image enabled → DueAreEnabled image enabled.run
+due_enabled image enabled r p due =
+    elim (is_enabled enabled.run p) as (λ b. is_enabled enabled.run p ≡ b → b ≡ true) [
+      | true ↦ λ e. refl
+      | false ↦ λ e. let w = r.stands p (due_holds image p due) e in sym w.rests ∙ due
+    ] refl
+
+-- where none is enabled, none must move
+pub quiet_if_none : {K : Type 0} (image : Image K) (enabled : Enabled) → IsReady image enabled → enabled.run.items ≡ [] → (p : Place) → is_due image p ≡ false
+quiet_if_none image enabled r none p =
+    elim (is_due image p) as (λ b. is_due image p ≡ b → b ≡ false) [
+      | false ↦ λ e. refl
+      | true ↦ λ e. sym (due_enabled image enabled r p e) ∙ ap (stands_in (place_number p)) none
+    ] refl
+
+-- nothing changed that flow control sees
+pub ready_same : {K : Type 0} (x y : Image K) (enabled : Enabled) → SameWays x y → ((q : NextQueue) → held_by y q ≡ held_by x q) → IsReady x enabled → IsReady y enabled
+ready_same x y enabled s held r =
+    record {
+      stands = λ p some out.
+          let w = r.stands p (sym (ap is_some (front_same x y p s (held (Of p)))) ∙ some) out in
+          record {
+            queue = w.queue;
+            next = next_same x y p s ∙ w.next;
+            wants = w.wants;
+            rests = due_frame x y p s (held (Of p)) (λ q _. held q) ∙ w.rests;
+          };
+    }
+
+-- what enabled places and wants are ready for, another count of looks is too
+pub ready_again : {K : Type 0} (image : Image K) (old new : Enabled) → new.run.items ≡ old.run.items → new.wanted ≡ old.wanted → IsReady image old → IsReady image new
+ready_again image old new items wanted r =
+    record {
+      stands = λ p some out.
+          let w = r.stands p some (ap (stands_in (place_number p)) (sym items) ∙ out) in
+          record { queue = w.queue; next = w.next; wants = ap (λ l. slice_get l (number_of w.queue)) wanted ∙ w.wants; rests = w.rests };
+    }
+
+-- a queue changed, and its place was enabled: what waits for another queue waits as before
+pub ready_but : {K : Type 0} (x y : Image K) (queue : NextQueue) (old new : Enabled) → DiffersIn x y queue → new.wanted ≡ old.wanted → ((p : Place) → is_enabled new.run p ≡ false → is_enabled old.run p ≡ false) → ((p : Place) → is_some (front_of y p) ≡ true → is_enabled new.run p ≡ false → Of p ≢ queue) → IsReady x old → IsReadyBut y queue new
+ready_but x y queue old new d wanted before other r =
+    let s = ways_of_same x y d.same in
+    record {
+      stands = λ p some out.
+          let own = d.others (Of p) (other p some out) in
+          let w = r.stands p (sym (ap is_some (front_same x y p s own)) ∙ some) (before p out) in
+          record {
+            queue = w.queue;
+            next = next_same x y p s ∙ w.next;
+            wants = ap (λ l. slice_get l (number_of w.queue)) wanted ∙ w.wants;
+            rests = λ apart. due_frame x y p s own (λ q e. d.others q (λ same. apart (let e1 : w.queue ≡ q = some_same (sym w.next ∙ e) in e1 ∙ same))) ∙ w.rests;
+          };
+    }
+
+-- and where the queue holds more, so does what waits for it
+pub ready_more : {K : Type 0} (x y : Image K) (queue : NextQueue) (old new : Enabled) → DiffersIn x y queue → length (held_by x queue) < length (held_by y queue) → new.wanted ≡ old.wanted → ((p : Place) → is_enabled new.run p ≡ false → is_enabled old.run p ≡ false) → ((p : Place) → is_some (front_of y p) ≡ true → is_enabled new.run p ≡ false → Of p ≢ queue) → IsReady x old → IsReady y new
+ready_more x y queue old new d longer wanted before other r =
+    let s = ways_of_same x y d.same in
+    let but = ready_but x y queue old new d wanted before other r in
+    record {
+      stands = λ p some out.
+          let own = d.others (Of p) (other p some out) in
+          let b = but.stands p some out in
+          let w = r.stands p (sym (ap is_some (front_same x y p s own)) ∙ some) (before p out) in
+          let same : b.queue ≡ w.queue = some_same (sym b.next ∙ next_same x y p s ∙ w.next) in
+          record {
+            queue = b.queue;
+            next = b.next;
+            wants = b.wants;
+            rests = ⊎_elim
+                (λ (e : number_of b.queue ≡ number_of queue).
+                let is : w.queue ≡ queue = sym same ∙ number_once b.queue queue e in
+                due_fuller x y p queue s own (w.next ∙ ap Some is) (d.shift.fuller longer) w.rests)
+                (λ (ne : number_of b.queue ≡ number_of queue → ⊥). b.rests (λ e. ne (ap number_of e)))
+                (cases_eq (number_of b.queue) (number_of queue));
+          };
+    }
+
+-- no place waits for the queue that was taken from
+pub ready_unwanted : {K : Type 0} (image : Image K) (queue : NextQueue) (enabled : Enabled) → slice_get enabled.wanted (number_of queue) ≡ Some None → IsReadyBut image queue enabled → IsReady image enabled
+ready_unwanted image queue enabled none r =
+    record {
+      stands = λ p some out.
+          let b = r.stands p some out in
+          record {
+            queue = b.queue;
+            next = b.next;
+            wants = b.wants;
+            rests = b.rests (λ e. nobody p (sym (ap (slice_get enabled.wanted) (ap number_of e) ∙ none) ∙ b.wants));
+          };
+    }
+
+-- the place that waits for it must not move yet
+pub ready_still : {K : Type 0} (image : Image K) (queue : NextQueue) (waiting : Place) (enabled : Enabled) → slice_get enabled.wanted (number_of queue) ≡ Some (Some waiting) → is_due image waiting ≡ false → IsReadyBut image queue enabled → IsReady image enabled
+ready_still image queue waiting enabled wants rests r =
+    record {
+      stands = λ p some out.
+          let b = r.stands p some out in
+          record {
+            queue = b.queue;
+            next = b.next;
+            wants = b.wants;
+            rests = ⊎_elim
+                (λ (e : number_of b.queue ≡ number_of queue).
+                let is : waiting ≡ p = some_same (some_same (sym wants ∙ ap (slice_get enabled.wanted) (sym e) ∙ b.wants)) in
+                ap (is_due image) (sym is) ∙ rests)
+                (λ (ne : number_of b.queue ≡ number_of queue → ⊥). b.rests (λ e. ne (ap number_of e)))
+                (cases_eq (number_of b.queue) (number_of queue));
+          };
+    }
+
+-- the place that waits for it was enabled
+pub ready_woken : {K : Type 0} (image : Image K) (queue : NextQueue) (waiting : Place) (old new : Enabled) → slice_get old.wanted (number_of queue) ≡ Some (Some waiting) → new.wanted ≡ slice_set old.wanted (number_of queue) None → new.run.items ≡ with_place old.run.items (place_number waiting) → IsReadyBut image queue old → IsReady image new
+ready_woken image queue waiting old new wants wanted items r =
+    record {
+      stands = λ p some out.
+          let gone : stands_in (place_number p) (with_place old.run.items (place_number waiting)) ≡ false = ap (stands_in (place_number p)) (sym items) ∙ out in
+          let b = r.stands p some (out_before old.run.items (place_number waiting) (place_number p) gone) in
+          let apart : number_of b.queue ≢ number_of queue = λ e.
+          let is : waiting ≡ p = some_same (some_same (sym wants ∙ ap (slice_get old.wanted) (sym e) ∙ b.wants)) in
+          out_other old.run.items (place_number waiting) (place_number p) gone (ap place_number (sym is)) in
+          record {
+            queue = b.queue;
+            next = b.next;
+            wants = ap (λ l. slice_get l (number_of b.queue)) wanted ∙ slice_get_set_other old.wanted (number_of queue) (number_of b.queue) None apart ∙ b.wants;
+            rests = b.rests (λ e. apart (ap number_of e));
+          };
+    }
+
+-- who is not enabled once the first was given out was not before, or is the first
+first_out : (n k : ℕ) (rest : List ℕ) → k ≢ n → stands_in k rest ≡ false → stands_in k (n ∷ rest) ≡ false
+first_out n k rest ne h = rw (apart_number k n ne, h) refl
+
+-- the first place was given out, and enabled again
+pub ready_moves : {K : Type 0} (image : Image K) (old new : Enabled) (n : ℕ) (rest : List ℕ) → old.run.items ≡ n ∷ rest → new.run.items ≡ with_place rest (place_number (place_of n)) → new.wanted ≡ old.wanted → IsReady image old → IsReady image new
+ready_moves image old new n rest before items wanted r =
+    record {
+      stands = λ p some out.
+          let gone : stands_in (place_number p) (with_place rest (place_number (place_of n))) ≡ false = ap (stands_in (place_number p)) (sym items) ∙ out in
+          let ne : place_number p ≢ n = λ e.
+          out_other rest (place_number (place_of n)) (place_number p) gone (ap place_number (sym (place_back p) ∙ ap place_of e)) in
+          let w = r.stands p some (ap (stands_in (place_number p)) before ∙ first_out n (place_number p) rest ne (out_before rest (place_number (place_of n)) (place_number p) gone)) in
+          record { queue = w.queue; next = w.next; wants = ap (λ l. slice_get l (number_of w.queue)) wanted ∙ w.wants; rests = w.rests };
+    }
+
+-- the first place was given out, and holds no message
+pub ready_empty : {K : Type 0} (image : Image K) (old new : Enabled) (n : ℕ) (rest : List ℕ) → old.run.items ≡ n ∷ rest → new.run.items ≡ rest → new.wanted ≡ old.wanted → is_some (front_of image (place_of n)) ≡ false → IsReady image old → IsReady image new
+ready_empty image old new n rest before items wanted empty r =
+    record {
+      stands = λ p some out.
+          let gone : stands_in (place_number p) rest ≡ false = ap (stands_in (place_number p)) (sym items) ∙ out in
+          let ne : place_number p ≢ n = λ e.
+          differ ⊥ (sym some ∙ ap (λ k. is_some (front_of image k)) (sym (place_back p) ∙ ap place_of e) ∙ empty) in
+          let w = r.stands p some (ap (stands_in (place_number p)) before ∙ first_out n (place_number p) rest ne gone) in
+          record { queue = w.queue; next = w.next; wants = ap (λ l. slice_get l (number_of w.queue)) wanted ∙ w.wants; rests = w.rests };
+    }
+
+-- the first place was given out, may not move, and waits from now on
+waits_now : {K : Type 0} (image : Image K) (old new : Enabled) (n : ℕ) (rest : List ℕ) (queue : NextQueue) → AreOrdinary image → old.run.items ≡ n ∷ rest → new.run.items ≡ rest → new.wanted ≡ slice_set old.wanted (number_of queue) (Some (place_of n)) → number_of queue < length old.wanted → next_of image (place_of n) ≡ Some queue → is_some (front_of image (place_of n)) ≡ true → is_due image (place_of n) ≡ false → IsReady image old → IsReady image new
+waits_now image old new n rest queue ordinary before items wanted inside next holds rests r =
+    record {
+      stands = λ p some out.
+          let gone : stands_in (place_number p) rest ≡ false = ap (stands_in (place_number p)) (sym items) ∙ out in
+          ⊎_elim
+          (λ (e : place_number p ≡ place_number (place_of n)).
+          let is : p ≡ place_of n = some_of (number_once (Of p) (Of (place_of n)) e) in
+          record {
+            queue = queue;
+            next = ap (next_of image) is ∙ next;
+            wants = ap (λ l. slice_get l (number_of queue)) wanted ∙ slice_get_set_same old.wanted (number_of queue) (Some (place_of n)) inside ∙ ap (λ k. Some (Some k)) (sym is);
+            rests = ap (is_due image) is ∙ rests;
+          })
+          (λ (ne : place_number p ≡ place_number (place_of n) → ⊥).
+          let first : place_number p ≢ n = λ e. ne (ap place_number (sym (place_back p) ∙ ap place_of e)) in
+          let w = r.stands p some (ap (stands_in (place_number p)) before ∙ first_out n (place_number p) rest first gone) in
+          let apart : number_of w.queue ≢ number_of queue = λ e.
+          ne (ap place_number (next_once image p (place_of n) queue ordinary some holds (w.next ∙ ap Some (number_once w.queue queue e)) next)) in
+          record {
+            queue = w.queue;
+            next = w.next;
+            wants = ap (λ l. slice_get l (number_of w.queue)) wanted ∙ slice_get_set_other old.wanted (number_of queue) (number_of w.queue) (Some (place_of n)) apart ∙ w.wants;
+            rests = w.rests;
+          })
+          (cases_eq (place_number p) (place_number (place_of n)));
+    }
+
+-- the first place was given out, may not move, and waits for the queue ahead
+pub ready_waits : {K : Type 0} (image : Image K) (old new : Enabled) (n : ℕ) (rest : List ℕ) → AreOrdinary image → ((q : NextQueue) → next_of image (place_of n) ≡ Some q → number_of q < length old.wanted) → old.run.items ≡ n ∷ rest → new.run.items ≡ rest → Awaits image (place_of n) old.wanted new.wanted → is_some (front_of image (place_of n)) ≡ true → may image (place_of n) ≡ false → is_due image (place_of n) ≡ false → IsReady image old → IsReady image new
+ready_waits image old new n rest ordinary few before items wanted holds still rests r =
+    elim (next_of image (place_of n)) as (λ o. next_of image (place_of n) ≡ o → new.wanted ≡ awaits o (place_of n) old.wanted → IsReady image new) [
+      | None ↦ λ e h. differ (IsReady image new) (sym (may_unless_next image (place_of n) e holds) ∙ still)
+      | Some q ↦ λ e h. waits_now image old new n rest q ordinary before items h (few q e) e holds rests r
+    ] refl wanted
+
+-- all places that hold messages are enabled
+pub ready_all : {K : Type 0} (image : Image K) (enabled : Enabled) → ((p : Place) → is_some (front_of image p) ≡ true → is_enabled enabled.run p ≡ true) → IsReady image enabled
+ready_all image enabled all =
+    record { stands = λ p some out. differ (IsWaiting image enabled.wanted p) (sym (all p some) ∙ out) }
+
+state_ways : {K : Type 0} (image : Image K) (e : End) (r : Record) → SameWays image (with_state image e r)
+state_ways image A r =
+    record {
+      driver = refl;
+      is_open = λ e. elim e as (λ e. (end_of (with_state image A r) e).is_open ≡ (end_of image e).is_open) [ A ↦ refl | B ↦ refl ];
+      head_marks = λ e. elim e as (λ e. (end_of (with_state image A r) e).head_marks ≡ (end_of image e).head_marks) [ A ↦ refl | B ↦ refl ];
+      drv_marks = λ e. elim e as (λ e. (end_of (with_state image A r) e).drv_marks ≡ (end_of image e).drv_marks) [ A ↦ refl | B ↦ refl ];
+      modules = λ e. elim e as (λ e. modules_at (with_state image A r) e ≡ modules_at image e) [ A ↦ refl | B ↦ refl ];
+    }
+state_ways image B r =
+    record {
+      driver = refl;
+      is_open = λ e. elim e as (λ e. (end_of (with_state image B r) e).is_open ≡ (end_of image e).is_open) [ A ↦ refl | B ↦ refl ];
+      head_marks = λ e. elim e as (λ e. (end_of (with_state image B r) e).head_marks ≡ (end_of image e).head_marks) [ A ↦ refl | B ↦ refl ];
+      drv_marks = λ e. elim e as (λ e. (end_of (with_state image B r) e).drv_marks ≡ (end_of image e).drv_marks) [ A ↦ refl | B ↦ refl ];
+      modules = λ e. elim e as (λ e. modules_at (with_state image B r) e ≡ modules_at image e) [ A ↦ refl | B ↦ refl ];
+    }
+
+state_held : {K : Type 0} (image : Image K) (e : End) (r : Record) (q : NextQueue) → held_by (with_state image e r) q ≡ held_by image q
+state_held image A r (Of (Place.Wr A i)) = refl
+state_held image A r (Of (Place.Wr B i)) = refl
+state_held image A r (Of (Place.Rd A i)) = refl
+state_held image A r (Of (Place.Rd B i)) = refl
+state_held image A r (Of (Place.Drv A)) = refl
+state_held image A r (Of (Place.Drv B)) = refl
+state_held image A r (Head A) = refl
+state_held image A r (Head B) = refl
+state_held image B r (Of (Place.Wr A i)) = refl
+state_held image B r (Of (Place.Wr B i)) = refl
+state_held image B r (Of (Place.Rd A i)) = refl
+state_held image B r (Of (Place.Rd B i)) = refl
+state_held image B r (Of (Place.Drv A)) = refl
+state_held image B r (Of (Place.Drv B)) = refl
+state_held image B r (Head A) = refl
+state_held image B r (Head B) = refl
+
+-- flow control does not see what a head remembers
+pub ready_state : {K : Type 0} (x y : Image K) (e : End) (r : Record) (enabled : Enabled) → y ≡ with_state x e r → IsReady x enabled → IsReady y enabled
+ready_state x y e r enabled is ready = rw is (ready_same x (with_state x e r) enabled (state_ways x e r) (state_held x e r) ready)
+
+abbrev broken_off : {K : Type 0} → Image K → Image K
+broken_off image = record image { broken = true }
+
+broken_ways : {K : Type 0} (image : Image K) → SameWays image (broken_off image)
+broken_ways image =
+    record {
+      driver = refl;
+      is_open = λ e. elim e as (λ e. (end_of (broken_off image) e).is_open ≡ (end_of image e).is_open) [ A ↦ refl | B ↦ refl ];
+      head_marks = λ e. elim e as (λ e. (end_of (broken_off image) e).head_marks ≡ (end_of image e).head_marks) [ A ↦ refl | B ↦ refl ];
+      drv_marks = λ e. elim e as (λ e. (end_of (broken_off image) e).drv_marks ≡ (end_of image e).drv_marks) [ A ↦ refl | B ↦ refl ];
+      modules = λ e. elim e as (λ e. modules_at (broken_off image) e ≡ modules_at image e) [ A ↦ refl | B ↦ refl ];
+    }
+
+broken_held : {K : Type 0} (image : Image K) (q : NextQueue) → held_by (broken_off image) q ≡ held_by image q
+broken_held image (Of (Place.Wr A i)) = refl
+broken_held image (Of (Place.Wr B i)) = refl
+broken_held image (Of (Place.Rd A i)) = refl
+broken_held image (Of (Place.Rd B i)) = refl
+broken_held image (Of (Place.Drv A)) = refl
+broken_held image (Of (Place.Drv B)) = refl
+broken_held image (Head A) = refl
+broken_held image (Head B) = refl
+
+-- nor that the chain is broken
+pub ready_broken : {K : Type 0} (x y : Image K) (enabled : Enabled) → y ≡ record x { broken = true } → IsReady x enabled → IsReady y enabled
+ready_broken x y enabled is ready = rw is (ready_same x (broken_off x) enabled (broken_ways x) (broken_held x) ready)
+
+-- a queue that has as many messages as before is as before
+pub ready_still_all : {K : Type 0} (x y : Image K) (queue : NextQueue) (enabled : Enabled) → DiffersIn x y queue → length (held_by y queue) ≡ length (held_by x queue) → IsReady x enabled → IsReady y enabled
+ready_still_all x y queue enabled d same ready =
+    ready_same x y enabled (ways_of_same x y d.same)
+    (λ q. ⊎_elim
+    (λ (e : number_of q ≡ number_of queue). let is = number_once q queue e in rw is (d.shift.still same))
+    (λ (ne : number_of q ≡ number_of queue → ⊥). d.others q (λ e. ne (ap number_of e)))
+    (cases_eq (number_of q) (number_of queue)))
+    ready
+
+or_true : (a b : Bool) → b ≡ true → (a || b) ≡ true
+or_true true b h = refl
+or_true false b h = h
+
+or_here : (a b : Bool) → a ≡ true → (a || b) ≡ true
+or_here true b h = refl
+or_here false b h = cc
+
+or_left_true : (a b : Bool) → b ≡ false → (a || b) ≡ true → a ≡ true
+or_left_true true b n h = refl
+or_left_true false b n h = differ (false ≡ true) (sym h ∙ n)
+
+before_with : (items : List ℕ) (m n : ℕ) → n ≢ m → stands_in n (with_place items m) ≡ true → stands_in n items ≡ true
+before_with items m n ne h =
+    or_left_true (stands_in n items) (nat_eq n m) (apart_number n m ne) (sym (stands_with n m items (stands_in m items) refl) ∙ h)
+
+in_numbers : (p : Place) (ps : List Place) → IsIn p ps → stands_in (place_number p) (map place_number ps) ≡ true
+in_numbers p [] h = absurd h
+in_numbers p (x ∷ xs) (inl e) = or_here (nat_eq (place_number p) (place_number x)) (stands_in (place_number p) (map place_number xs)) (same_number (place_number p) (place_number x) (ap place_number e))
+in_numbers p (x ∷ xs) (inr h) = or_true (nat_eq (place_number p) (place_number x)) (stands_in (place_number p) (map place_number xs)) (in_numbers p xs h)
+
+-- a place that is there is enabled
+pub places_with : {K : Type 0} (image : Image K) (items : List ℕ) (p : Place) → is_place image p ≡ true → ArePlaces image items → ArePlaces image (with_place items (place_number p))
+places_with image items p there all =
+    record {
+      there = λ n h.
+          ⊎_elim
+          (λ (e : n ≡ place_number p). let back : place_of n ≡ p = ap place_of e ∙ place_back p in (ap place_number back ∙ sym e, ap (is_place image) back ∙ there))
+          (λ (ne : n ≡ place_number p → ⊥). all.there n (before_with items (place_number p) n ne h))
+          (cases_eq n (place_number p));
+    }
+
+-- so is each of those that are left
+pub places_rest : {K : Type 0} (image : Image K) (n : ℕ) (rest : List ℕ) → ArePlaces image (n ∷ rest) → ArePlaces image rest
+places_rest image n rest all = record { there = λ k h. all.there k (or_true (nat_eq k n) (stands_in k rest) h) }
+
+-- no message changes which places are there
+pub places_same : {K : Type 0} (x y : Image K) (items : List ℕ) → SameWays x y → ArePlaces x items → ArePlaces y items
+places_same x y items s all =
+    record { there = λ n h. let a = all.there n h in (a.0, place_same x y (place_of n) s ∙ a.1) }
+
+pub places_state : {K : Type 0} (x y : Image K) (e : End) (r : Record) (items : List ℕ) → y ≡ with_state x e r → ArePlaces x items → ArePlaces y items
+places_state x y e r items is all = rw is (places_same x (with_state x e r) items (state_ways x e r) all)
+
+pub places_broken : {K : Type 0} (x y : Image K) (items : List ℕ) → y ≡ record x { broken = true } → ArePlaces x items → ArePlaces y items
+places_broken x y items is all = rw is (places_same x (broken_off x) items (broken_ways x) all)
+
+pub places_none : {K : Type 0} (image : Image K) → ArePlaces image []
+places_none image = record { there = λ n h. differ _ (sym h) }
+
+-- the first place is there, and was enabled again
+pub places_moves : {K : Type 0} (image : Image K) (n : ℕ) (old rest new : List ℕ) → old ≡ n ∷ rest → new ≡ with_place rest (place_number (place_of n)) → ArePlaces image old → ArePlaces image new
+places_moves image n old rest new before items all =
+    let here : stands_in n old ≡ true = ap (stands_in n) before ∙ or_here (nat_eq n n) (stands_in n rest) (same_number n n refl) in
+    rw items (places_with image rest (place_of n) (all.there n here).1 (places_rest image n rest (rw (← before) all)))
+
+-- enabled places are at most as many as there are
+pub places_few : {K : Type 0} (image : Image K) (n : ℕ) (items : List ℕ) → AreOnce n items → ArePlaces image items → length items ≤ place_count image
+places_few image n items once all =
+    let few : length items ≤ length (map place_number (places_of image)) =
+    length-le_from_is_member nat_eq_equiv items (map place_number (places_of image)) once.once
+    (λ k h. let a = all.there k h in ap (λ j. stands_in j (map place_number (places_of image))) (sym a.0) ∙ in_numbers (place_of k) (places_of image) (place_in image (place_of k) a.1)) in
+    let less = simp length-map at few in
+    less
+
+-- a place that was enabled is
+pub enabled_with : (run : RunList) (items : List ℕ) (p : Place) → run.items ≡ with_place items (place_number p) → is_enabled run p ≡ true
+enabled_with run items p is =
+    ap (stands_in (place_number p)) is ∙ stands_with (place_number p) (place_number p) items (stands_in (place_number p) items) refl
+    ∙ or_true (stands_in (place_number p) items) (nat_eq (place_number p) (place_number p)) (same_number (place_number p) (place_number p) refl)

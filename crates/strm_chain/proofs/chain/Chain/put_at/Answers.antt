@@ -1,0 +1,44 @@
+use Rattle.strm_ends.specs.declared.place.NextQueue.TheVariants.{Of}
+use Rattle.strm_ends.specs.Held.{DiffersIn}
+use Rattle.strm_ends.proofs.NextLemmas.{ways_of_same}
+use Rattle.strm_chain.proofs.CaseLemmas.{on_result}
+use Rattle.strm_chain.proofs.EnablingLemmas.{places_same}
+use Rattle.std.proofs.Common.{◌≡◌, ◌∙◌, false, sym}
+use Rattle.strm_ends.specs.Held.{is_flush}
+use Rattle.strm_ends.proofs.FrameLemmas.{gets_differs, same_differs}
+use Rattle.strm_ends.specs.Held.{module_place}
+use Rattle.std.proofs.Common.{◌+◌, ◌≤◌, length, ap, arith}
+use Rattle.strm_ends.specs.Held.{held_by}
+use Rattle.strm_chain.proofs.CaseLemmas.{on_ok}
+use Rattle.strm_chain.proofs.CountLemmas.{gets_grows, count_put}
+use Rattle.strm_chain.proofs.chain.Chain.put_at.Goals as goal
+
+pub invariant_of-self-2 : goal.invariant_of-self-2
+invariant_of-self-2 g c =
+    let old = c.self.inside.ends.image in
+    let new = c.put_at-answer.new.self.image in
+    let calm : is_flush c.args.m.kind ≡ false = rw (← c.m.view_is) (sym c.is_flush-flushes.ensures ∙ c.if-flushes.false) in
+    let differs : DiffersIn old new c.in-Some.queue =
+    rw c.in-Some.ensures.some
+    (on_result c.put_at-answer.result _ _ _ c.put_at-answer.ensures.state c.put_at-answer.ensures.err
+    (λ e. gets_differs g.M.Kind.Kinds.means old c.args.end new c.args.i c.args.side c.args.m c.put_at-answer.ensures.same calm e)
+    (λ e. same_differs old new (Of (module_place c.args.side c.args.end c.args.i)) e)) in (
+      c.wake.ensures.ready old c.len-before.ensures c.self.invariant.0 differs,
+      c.wake.ensures.places (places_same old new c.self.inside.enabling.run.items (ways_of_same old new differs.same) c.self.invariant.1),
+    )
+
+pub returns-clause-grows : goal.returns-clause-grows
+returns-clause-grows g c =
+    let old = c.self.inside.ends.image in
+    let new = c.put_at-answer.new.self.image in
+    let calm_kind : is_flush c.args.m.kind ≡ false = rw (← c.m.view_is) (sym c.is_flush-flushes.ensures ∙ c.if-flushes.false) in
+    let queue = Of (module_place c.args.side c.args.end c.args.i) in
+    let is = c.in-Some.ensures.some in
+    on_ok c.put_at-answer.result _ _ c.put_at-answer.ensures.state
+    (λ e kinds calm.
+    let grow = gets_grows g.M.Kind.Kinds.means old new c.args.end c.args.i c.args.side c.args.m kinds calm e in
+    let was : c.len-before.result ≡ length (held_by old queue) = c.len-before.ensures ∙ ap (λ q. length (held_by old q)) is in
+    let now : length (held_by new c.in-Some.queue) ≡ length (held_by new queue) = ap (λ q. length (held_by new q)) is in
+    let put = c.wake.ensures.put (omega (arith, was, now, grow)) in
+    let less : length c.wake.new.self.run.items + length (held_by old queue) ≤ length c.self.inside.enabling.run.items + length (held_by new queue) = omega (arith, put, was, now) in
+    rw (← c.self.view_is) (count_put old new queue (length c.self.inside.enabling.run.items) (length c.wake.new.self.run.items) (gets_differs g.M.Kind.Kinds.means old c.args.end new c.args.i c.args.side c.args.m c.put_at-answer.ensures.same calm_kind e) less))

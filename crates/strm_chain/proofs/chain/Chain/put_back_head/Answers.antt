@@ -1,0 +1,19 @@
+use Rattle.strm_ends.specs.declared.place.NextQueue.TheVariants.{Head}
+use Rattle.strm_ends.specs.Held.{DiffersIn}
+use Rattle.strm_ends.proofs.NextLemmas.{ways_of_same}
+use Rattle.strm_chain.proofs.CaseLemmas.{on_result}
+use Rattle.strm_chain.proofs.EnablingLemmas.{places_same}
+use Rattle.strm_ends.proofs.FrameLemmas.{put_back_differs, same_differs}
+use Rattle.strm_chain.proofs.chain.Chain.put_back_head.Goals as goal
+
+pub invariant_of-self : goal.invariant_of-self
+invariant_of-self g c =
+    let old = c.self.inside.ends.image in
+    let new = c.put_back_head-answer.new.self.image in
+    let differs : DiffersIn old new (Head c.args.end) =
+    on_result c.put_back_head-answer.result _ _ _ c.put_back_head-answer.ensures.ok c.put_back_head-answer.ensures.err
+    (λ e. put_back_differs old c.args.end new c.args.m e)
+    (λ e. same_differs old new (Head c.args.end) e) in (
+      c.wake.ensures.ready old c.len-before.ensures c.self.invariant.0 differs,
+      c.wake.ensures.places (places_same old new c.self.inside.enabling.run.items (ways_of_same old new differs.same) c.self.invariant.1),
+    )

@@ -1,0 +1,35 @@
+use Rattle.strm_ends.specs.Held.{DiffersIn}
+use Rattle.strm_ends.proofs.NextLemmas.{ways_of_same}
+use Rattle.strm_ends.proofs.FrameLemmas.{serves_differs}
+use Rattle.strm_chain.proofs.EnablingLemmas.{places_same}
+use Rattle.std.proofs.Common.{◌≡◌, ◌∙◌, true, length, ap}
+use Rattle.strm_qpair.specs.Modules.{HoldsOrdinary}
+use Rattle.strm_ends.specs.Image.{end_of}
+use Rattle.strm_ends.specs.declared.place.NextQueue.TheVariants.{Of}
+use Rattle.strm_ends.specs.Held.{module_place}
+use Rattle.strm_chain.specs.Enabled.{ChainValue, is_enabled}
+use Rattle.strm_chain.proofs.CountLemmas.{serves_one, count_take}
+use Rattle.strm_chain.proofs.chain.Chain.serve_at.Goals as goal
+
+pub invariant_of-self : goal.invariant_of-self
+invariant_of-self g c =
+    let old = c.self.inside.ends.image in
+    let new = c.serve_at.new.self.image in
+    let differs : DiffersIn old new c.in-Some.queue =
+    rw c.in-Some.ensures.some (serves_differs g.M.Kind.Kinds.means old c.args.end new c.args.i c.args.side c.serve_at.ensures.same c.in-Ok.ensures.state) in (
+      c.wake.ensures.ready old c.len-before.ensures c.self.invariant.0 differs,
+      c.wake.ensures.places (places_same old new c.self.inside.enabling.run.items (ways_of_same old new differs.same) c.self.invariant.1),
+    )
+
+pub returns-in-Ok-clause-moves : goal.returns-in-Ok-clause-moves
+returns-in-Ok-clause-moves g c =
+    let old = c.self.inside.ends.image in
+    let new = c.serve_at.new.self.image in
+    let queue = Of (module_place c.args.side c.args.end c.args.i) in
+    let is = c.in-Some.ensures.some in
+    let ordinary : HoldsOrdinary (end_of old c.args.end) = rw (ap (λ (v : ChainValue _). end_of v.image c.args.end) c.self.view_is) c.in-Some.ensures.ordinary in
+    λ kinds enabled.
+    let was : is_enabled c.self.inside.enabling.run (module_place c.args.side c.args.end c.args.i) ≡ true = ap (λ (v : ChainValue _). is_enabled v.run (module_place c.args.side c.args.end c.args.i)) c.self.view_is ∙ enabled in
+    let less = c.wake.ensures.taken (module_place c.args.side c.args.end c.args.i) is was in
+    let served = serves_one g.M.Kind.Kinds.means old new c.args.end c.args.i c.args.side kinds ordinary c.in-Ok.ensures.state in
+    rw (← c.self.view_is) (count_take old new queue (length c.self.inside.enabling.run.items) (length c.wake.new.self.run.items) (serves_differs g.M.Kind.Kinds.means old c.args.end new c.args.i c.args.side c.serve_at.ensures.same c.in-Ok.ensures.state) served less)

@@ -1,0 +1,16 @@
+use Rattle.strm_ends.specs.declared.place.NextQueue.TheVariants.{Head}
+use Rattle.strm_ends.specs.Held.{DiffersIn}
+use Rattle.strm_ends.proofs.NextLemmas.{ways_of_same}
+use Rattle.strm_chain.proofs.EnablingLemmas.{places_same}
+use Rattle.strm_ends.proofs.FrameLemmas.{take_head_differs}
+use Rattle.strm_chain.proofs.chain.Chain.take_head.Goals as goal
+
+pub invariant_of-self : goal.invariant_of-self
+invariant_of-self g c =
+    let old = c.self.inside.ends.image in
+    let new = c.take_head-first.new.self.image in
+    let differs : DiffersIn old new (Head c.args.end) =
+    take_head_differs old c.args.end new c.take_head-first.ensures.image in (
+      c.wake.ensures.ready old c.len-before.ensures c.self.invariant.0 differs,
+      c.wake.ensures.places (places_same old new c.self.inside.enabling.run.items (ways_of_same old new differs.same) c.self.invariant.1),
+    )

@@ -1,0 +1,13 @@
+use Rattle.std.proofs.Common.{ap}
+use Rattle.strm_ends.specs.Image.{EndsValue}
+use Rattle.strm_chain.proofs.EnablingLemmas.{ready_state, places_state}
+use Rattle.strm_chain.proofs.chain.Chain.undo_ioctl.Goals as goal
+
+pub invariant_of-self : goal.invariant_of-self
+invariant_of-self g c =
+    let old = c.self.inside.ends.image in
+    let new = c.undo_ioctl.new.self.image in
+    let is = ap (λ (v : EndsValue _). v.image) c.undo_ioctl.ensures in (
+      ready_state old new c.args.end _ c.self.inside.enabling is c.self.invariant.0,
+      places_state old new c.args.end _ c.self.inside.enabling.run.items is c.self.invariant.1,
+    )

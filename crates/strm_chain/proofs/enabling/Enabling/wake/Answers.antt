@@ -1,0 +1,20 @@
+use Rattle.std.proofs.Common.{◌<◌, ◌∙◌, sym, arith, length}
+use Rattle.strm_ends.specs.Held.{held_by}
+use Rattle.strm_chain.proofs.EnablingLemmas.{ready_but, ready_more, ready_still_all}
+use Rattle.strm_chain.proofs.enabling.Enabling.wake.Goals as goal
+
+pub returns-then-after-before-clause-ready : goal.returns-then-after-before-clause-ready
+returns-then-after-before-clause-ready g c =
+    λ old before ready differs.
+    ready_still_all old c.args.ends.now.image c.args.queue c.args.self.now differs (sym c.len-after.ensures ∙ c.if-after-before.true ∙ before) ready
+
+pub returns-then-after-before-2-clause-ready : goal.returns-then-after-before-2-clause-ready
+returns-then-after-before-2-clause-ready g c =
+    λ old before ready differs.
+    c.wake_behind.ensures.ready (ready_but old c.args.ends.now.image c.args.queue c.args.self.now c.wake_own.new.self differs c.wake_own.ensures.wanted c.wake_own.ensures.kept c.wake_own.ensures.own ready)
+
+pub returns-else-after-before-2-clause-ready : goal.returns-else-after-before-2-clause-ready
+returns-else-after-before-2-clause-ready g c =
+    λ old before ready differs.
+    let longer : length (held_by old c.args.queue) < length (held_by c.args.ends.now.image c.args.queue) = omega (arith, before, c.len-after.ensures, c.if-after-before.false, c.if-after-before-2.false) in
+    ready_more old c.args.ends.now.image c.args.queue c.args.self.now c.wake_own.new.self differs longer c.wake_own.ensures.wanted c.wake_own.ensures.kept c.wake_own.ensures.own ready

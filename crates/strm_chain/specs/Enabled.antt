@@ -1,0 +1,67 @@
+-- Which places are enabled, and which wait for a queue to drain (Programmer's Guide: STREAMS, "Flow Control": back-enabling;
+-- qenable(9F), QENAB and QWANTW of queue(9S)).
+use Rattle.std.specs.Prelude.{◌≡◌, ◌≢◌, ℕ, Bool, true, false, Option, Some, None, List, is_some, slice_get, slice_set}
+use Rattle.strm_queue.specs.Run.{RunList, stands_in}
+use Rattle.strm_ends.specs.declared.place.Place.{Place}
+use Rattle.strm_ends.specs.declared.place.NextQueue.{NextQueue}
+use Rattle.strm_ends.specs.Image.{Image, Rooms}
+use Rattle.strm_ends.specs.Path.{front_of}
+use Rattle.strm_ends.specs.Flow.{is_due}
+use Rattle.strm_ends.specs.Next.{next_of}
+use Rattle.strm_ends.specs.Count.{is_place}
+use Rattle.strm_chain.specs.Number.{number_of, place_number, place_of}
+
+-- a chain: its image, its rooms, and the places that are enabled
+pub record ChainValue (K : Type 0) : Type 0 where
+  pub image : Image K
+  pub rooms : Rooms
+  pub run : RunList
+
+abbrev pub is_enabled : RunList → Place → Bool
+is_enabled run place = stands_in (place_number place) run.items
+
+-- each place that must move is enabled
+abbrev pub DueAreEnabled : {K : Type 0} → Image K → RunList → Type 0
+DueAreEnabled image run = (place : Place) → is_due image place ≡ true → is_enabled run place ≡ true
+
+-- the places that are enabled, and for each queue the place that found it full
+pub record Enabled : Type 0 where
+  pub run : RunList
+  pub wanted : List (Option Place)
+
+-- a place that must not move yet, and is known to the queue that it waits for
+pub record IsWaiting {K : Type 0} (image : Image K) (wanted : List (Option Place)) (place : Place) : Type 0 where
+  pub queue : NextQueue
+  pub next : next_of image place ≡ Some queue
+  pub wants : slice_get wanted (number_of queue) ≡ Some (Some place)
+  pub rests : is_due image place ≡ false
+
+-- no place is forgotten: one that holds a message is enabled, or waits
+abbrev pub Stands : {K : Type 0} → Image K → Enabled → Place → Type 0
+Stands image enabled place =
+    is_some (front_of image place) ≡ true → is_enabled enabled.run place ≡ false → IsWaiting image enabled.wanted place
+
+pub record IsReady {K : Type 0} (image : Image K) (enabled : Enabled) : Type 0 where
+  pub stands : (place : Place) → Stands image enabled place
+
+-- each place that is enabled is there
+pub record ArePlaces {K : Type 0} (image : Image K) (items : List ℕ) : Type 0 where
+  pub there : (n : ℕ) → stands_in n items ≡ true → (place_number (place_of n) ≡ n) × (is_place image (place_of n) ≡ true)
+
+-- the same where a queue was taken from: whether the place that waits for it must move is not known yet
+pub record IsBehind {K : Type 0} (image : Image K) (wanted : List (Option Place)) (taken : NextQueue) (place : Place) : Type 0 where
+  pub queue : NextQueue
+  pub next : next_of image place ≡ Some queue
+  pub wants : slice_get wanted (number_of queue) ≡ Some (Some place)
+  pub rests : queue ≢ taken → is_due image place ≡ false
+
+pub record IsReadyBut {K : Type 0} (image : Image K) (taken : NextQueue) (enabled : Enabled) : Type 0 where
+  pub stands : (place : Place) → is_some (front_of image place) ≡ true → is_enabled enabled.run place ≡ false → IsBehind image enabled.wanted taken place
+
+-- a place is known to the queue that is next, if there is one
+abbrev pub awaits : Option NextQueue → Place → List (Option Place) → List (Option Place)
+awaits None place wanted = wanted
+awaits (Some queue) place wanted = slice_set wanted (number_of queue) (Some place)
+
+abbrev pub Awaits : {K : Type 0} → Image K → Place → List (Option Place) → List (Option Place) → Type 0
+Awaits image place old new = new ≡ awaits (next_of image place) place old

@@ -1,0 +1,244 @@
+//! Which places are enabled, and which wait for a queue to drain.
+ghost use Rattle.std.specs.Prelude.{◌≡◌, ◌+◌, ◌||◌, ◌==◌, ◌<◌, ◌≤◌, ◌≢◌, [], IfOk, IfSome, IfNone, true, false, length, None, slice_get, slice_set, Some, is_some};
+ghost use Rattle.strm_queue.specs.Run.{AreOnce, one_more, with_place};
+ghost use Rattle.strm_ends.specs.Flow.{may, is_due};
+ghost use Rattle.strm_ends.specs.Held.{held_by, DiffersIn, AreOrdinary};
+ghost use Rattle.strm_ends.specs.Next.{next_of};
+ghost use Rattle.strm_ends.specs.declared.place.NextQueue.{NextQueue};
+ghost use Rattle.strm_ends.specs.Path.{front_of};
+ghost use Rattle.strm_ends.specs.declared.place.Place.{Place};
+ghost use Rattle.strm_ends.specs.declared.place.NextQueue.TheVariants.{Of};
+ghost use Rattle.strm_chain.specs.Number.{number_of, place_number, place_of};
+ghost use Rattle.strm_ends.specs.Image.{Image};
+ghost use Rattle.strm_chain.specs.Enabled.{is_enabled, IsReady, IsReadyBut, ArePlaces, Awaits};
+
+use crate::number::{QUEUES, number_of, place_number, place_of};
+use std::alloc::Global;
+use std::marker::Model;
+use strm_ends::{Ends, NextQueue, Place};
+use strm_module::ModuleOf;
+use strm_msg::{End, NoMem};
+use strm_queue::RunQueue;
+
+/// The places that are enabled, and for each queue the place that found it full and waits until it
+/// has drained (QENAB and QWANTW of queue(9S)).
+#[derive(Drop)]
+pub(crate) struct Enabling {
+    run: RunQueue,
+    wanted: [Option<Place>; QUEUES],
+}
+
+impl Model for Enabling {
+    ghost use Rattle.std.specs.Prelude.{◌≡◌, length};
+    ghost use Rattle.strm_chain.specs.Enabled.{Enabled};
+
+    ghost Value = { Enabled };
+
+    ghost view = { λ e. record { run = e.run; wanted = e.wanted } };
+
+    ghost invariant = { λ e. (e.run.places ≡ 40) × (length e.wanted ≡ 40) };
+}
+
+impl Enabling {
+    /// No place is enabled, and none waits. Refused for want of memory alone, which the run queue
+    /// takes.
+    pub(crate) fn new(alloc: Global) -> Result<Enabling, NoMem>
+        ensures { IfOk result (λ e. e.run.items ≡ []) }
+    {
+        let run = RunQueue::new(alloc, QUEUES)?;
+        Ok(Enabling {
+            run,
+            wanted: [None; QUEUES],
+        })
+    }
+
+    /// How many places were looked at since the count began, u64::MAX if more.
+    pub(crate) fn looks(&self) -> u64
+        ensures { result ≡ self.now.run.given }
+    {
+        self.run.given()
+    }
+
+    /// Counts looks from 0 again.
+    pub(crate) fn restart(&mut self)
+        ensures { self.new ≡ record self.old { run = record self.old.run { given = 0 } } }
+    {
+        self.run.restart()
+    }
+
+    /// How many places are enabled.
+    pub(crate) fn len(&self) -> usize
+        ensures value { result ≡ length self.now.run.items }
+        ensures few { result ≤ 40 }
+        ensures once { AreOnce 40 self.now.run.items }
+    {
+        self.run.len()
+    }
+
+    /// Whether a place is enabled.
+    pub(crate) fn is_enabled(&self, place: Place) -> bool
+        ensures { result ≡ is_enabled self.now.run place }
+    {
+        let number = place_number(place);
+        // The proof learns from the length that no number above is enabled.
+        let _ = self.run.len();
+        number < QUEUES && self.run.is_enabled(number)
+    }
+
+    /// Enables a place that holds a message.
+    fn enable(&mut self, place: Place)
+        requires { place_number place < 40 }
+        ensures items { self.new.run.items ≡ with_place self.old.run.items (place_number place) }
+        ensures enabled { (other : Place) → is_enabled self.new.run other ≡ (is_enabled self.old.run other || (place_number other == place_number place)) }
+        ensures given { self.new.run.given ≡ self.old.run.given }
+        ensures wanted { self.new.wanted ≡ self.old.wanted }
+        ensures more { length self.new.run.items ≤ length self.old.run.items + 1 }
+        ensures same { is_enabled self.old.run place ≡ true → self.new.run.items ≡ self.old.run.items }
+    {
+        self.run.enable(place_number(place))
+    }
+
+    /// Enables each place that holds a message, where what is next may have changed: no place waits
+    /// then.
+    pub(crate) fn wake_all<M: ModuleOf>(&mut self, ends: &Ends<M>)
+        ensures ready { IsReady ends.now.image self.new }
+        ensures places { ArePlaces ends.now.image self.new.run.items }
+        ensures given { self.new.run.given ≡ self.old.run.given }
+    {
+        self.run.clear();
+        self.wanted = [None; QUEUES];
+        // The proof learns from the numbers of modules that there are at most eight.
+        let _ = ends.count(End::A);
+        let _ = ends.count(End::B);
+        for number in 0..QUEUES {
+            self.wake_one(ends, place_of(number));
+        }
+    }
+
+    /// Enables a place, if it holds a message.
+    fn wake_one<M: ModuleOf>(&mut self, ends: &Ends<M>, place: Place)
+        ensures kept { (other : Place) → is_enabled self.old.run other ≡ true → is_enabled self.new.run other ≡ true }
+        ensures own { is_some (front_of ends.now.image place) ≡ true → self.new.run.items ≡ with_place self.old.run.items (place_number place) }
+        ensures none { is_some (front_of ends.now.image place) ≡ false → self.new.run.items ≡ self.old.run.items }
+        ensures places { ArePlaces ends.now.image self.old.run.items → ArePlaces ends.now.image self.new.run.items }
+        ensures more { length self.new.run.items ≤ length self.old.run.items + 1 }
+        ensures same { is_enabled self.old.run place ≡ true → self.new.run.items ≡ self.old.run.items }
+        ensures wanted { self.new.wanted ≡ self.old.wanted }
+        ensures given { self.new.run.given ≡ self.old.run.given }
+    {
+        // The proof learns from the numbers of modules that no high message waits below a head.
+        let _ = ends.count(End::A);
+        let _ = ends.count(End::B);
+        if ends.holds(place) {
+            self.enable(place);
+        }
+    }
+
+    /// A queue had so many messages before it changed. If it has more or fewer now, its place is
+    /// enabled, and if it has fewer, so is the place that waits for it, where that must move now
+    /// (back-enabling).
+    pub(crate) fn wake<M: ModuleOf>(&mut self, ends: &Ends<M>, queue: NextQueue, before: usize)
+        requires { number_of queue < 40 }
+        ensures ready { (old : Image M.Kind) → before ≡ length (held_by old queue) → IsReady old self.old → DiffersIn old ends.now.image queue → IsReady ends.now.image self.new }
+        ensures places { ArePlaces ends.now.image self.old.run.items → ArePlaces ends.now.image self.new.run.items }
+        ensures put { before ≤ length (held_by ends.now.image queue) → length self.new.run.items + before ≤ length self.old.run.items + length (held_by ends.now.image queue) }
+        ensures taken { (place : Place) → queue ≡ Of place → is_enabled self.old.run place ≡ true → length self.new.run.items ≤ length self.old.run.items + 1 }
+        ensures given { self.new.run.given ≡ self.old.run.given }
+    {
+        let after = ends.len(queue);
+        if after == before {
+            return;
+        }
+        self.wake_own(ends, queue);
+        if after < before {
+            self.wake_behind(ends, queue);
+        }
+    }
+
+    /// Enables the place of a queue, if it holds a message; a head has none.
+    fn wake_own<M: ModuleOf>(&mut self, ends: &Ends<M>, queue: NextQueue)
+        requires { number_of queue < 40 }
+        ensures kept { (place : Place) → is_enabled self.new.run place ≡ false → is_enabled self.old.run place ≡ false }
+        ensures own { (place : Place) → is_some (front_of ends.now.image place) ≡ true → is_enabled self.new.run place ≡ false → Of place ≢ queue }
+        ensures places { ArePlaces ends.now.image self.old.run.items → ArePlaces ends.now.image self.new.run.items }
+        ensures more { length self.new.run.items ≤ length self.old.run.items + 1 }
+        ensures same { (place : Place) → queue ≡ Of place → is_enabled self.old.run place ≡ true → self.new.run.items ≡ self.old.run.items }
+        ensures wanted { self.new.wanted ≡ self.old.wanted }
+        ensures given { self.new.run.given ≡ self.old.run.given }
+    {
+        if let NextQueue::Of { place } = queue {
+            self.wake_one(ends, place);
+        }
+    }
+
+    /// Enables the place that waits for a queue, if it must move now.
+    fn wake_behind<M: ModuleOf>(&mut self, ends: &Ends<M>, queue: NextQueue)
+        requires { number_of queue < 40 }
+        ensures ready { IsReadyBut ends.now.image queue self.old → IsReady ends.now.image self.new }
+        ensures places { ArePlaces ends.now.image self.old.run.items → ArePlaces ends.now.image self.new.run.items }
+        ensures more { length self.new.run.items ≤ length self.old.run.items + 1 }
+        ensures given { self.new.run.given ≡ self.old.run.given }
+    {
+        if let Some(place) = self.waiting(queue) {
+            if ends.is_due(place) {
+                self.forget(queue);
+                self.wake_one(ends, place);
+            }
+        }
+    }
+
+    /// The place that waits for a queue.
+    fn waiting(&self, queue: NextQueue) -> Option<Place>
+        requires { number_of queue < 40 }
+        ensures { slice_get self.now.wanted (number_of queue) ≡ Some result }
+    {
+        self.wanted[number_of(queue)]
+    }
+
+    /// No place waits for a queue any longer.
+    fn forget(&mut self, queue: NextQueue)
+        requires { number_of queue < 40 }
+        ensures wanted { self.new.wanted ≡ slice_set self.old.wanted (number_of queue) None }
+        ensures run { self.new.run ≡ self.old.run }
+    {
+        self.wanted[number_of(queue)] = None;
+    }
+
+    /// Looks at the next place: takes it out of the run queue, and says whether it may move. One
+    /// that may is enabled again, behind the others; one that may not waits for the queue ahead.
+    pub(crate) fn look<M: ModuleOf>(&mut self, ends: &Ends<M>) -> Option<(Place, bool)>
+        ensures may { IfSome result (λ seen. may ends.now.image seen.0 ≡ seen.1) }
+        ensures none { IfNone result ((self.old.run.items ≡ []) × (self.new ≡ self.old)) }
+        ensures ready { IsReady ends.now.image self.old → IsReady ends.now.image self.new }
+        ensures places { ArePlaces ends.now.image self.old.run.items → ArePlaces ends.now.image self.new.run.items }
+        ensures enabled { IfSome result (λ seen. seen.1 ≡ true → is_enabled self.new.run seen.0 ≡ true) }
+        ensures moves { IfSome result (λ seen. seen.1 ≡ true → length self.new.run.items ≤ length self.old.run.items) }
+        ensures rests { IfSome result (λ seen. seen.1 ≡ false → length self.new.run.items + 1 ≡ length self.old.run.items) }
+        ensures given { IfSome result (λ _. self.new.run.given ≡ one_more self.old.run.given) }
+    {
+        let place = place_of(self.run.next()?);
+        if ends.may(place) {
+            self.enable(place);
+            return Some((place, true));
+        }
+        if ends.holds(place) {
+            self.wait(ends, place);
+        }
+        Some((place, false))
+    }
+
+    /// A place that may not move waits for the queue ahead.
+    fn wait<M: ModuleOf>(&mut self, ends: &Ends<M>, place: Place)
+        ensures run { self.new.run ≡ self.old.run }
+        ensures wanted { Awaits ends.now.image place self.old.wanted self.new.wanted }
+        ensures few { (queue : NextQueue) → next_of ends.now.image place ≡ Some queue → number_of queue < length self.old.wanted }
+        ensures ordinary { AreOrdinary ends.now.image }
+    {
+        // The proof learns from the numbers of modules that no high message waits below a head.
+        let _ = ends.count(End::A);
+        let _ = ends.count(End::B);
+        if let Some(queue) = ends.next_of(place) {
+            self.wanted[number_of(queue)] = Some(place);
+        }
+    }
+}

@@ -1,0 +1,8 @@
+pub mod FitLemmas
+pub mod NextLemmas
+pub mod DueLemmas
+pub mod FrameLemmas
+pub mod CountLemmas
+pub mod PlaceLemmas
+pub mod CalmLemmas
+mod WorkedExamples

@@ -1,0 +1,41 @@
+-- How many places there are, and how many messages wait.
+use Rattle.std.specs.Prelude.{ℕ, ◌+◌, Bool, List, [], ◌∷◌, ◌++◌, length, sum_by, is_some, if◌then◌else◌}
+use Rattle.strm_msg.specs.declared.words.End.{End}
+use Rattle.strm_msg.specs.declared.words.End.TheVariants.{A, B}
+use Rattle.strm_msg.specs.declared.words.Side.TheVariants.{Rd, Wr}
+use Rattle.strm_qpair.specs.End.{EndState}
+use Rattle.strm_qpair.specs.Modules.{Identity}
+use Rattle.strm_qpair.specs.Next.{has_queue}
+use Rattle.strm_ends.specs.declared.place.Place.{Place}
+use Rattle.strm_ends.specs.declared.place.Place.TheVariants as Places
+use Rattle.strm_ends.specs.Image.{Image, has_end}
+use Rattle.strm_ends.specs.Next.{modules_at}
+
+-- whether a place is there: a queue that a module has, or the driver's list of an end that the driver has
+abbrev pub is_place : {K : Type 0} → Image K → Place → Bool
+is_place image (Place.Wr e i) = has_queue Wr (modules_at image e) i
+is_place image (Place.Drv e) = has_end image.driver e
+is_place image (Place.Rd e i) = has_queue Rd (modules_at image e) i
+
+-- the queues of modules, the first of which has this number
+abbrev pub places_in : End → ℕ → List Identity → List Place
+places_in e i [] = []
+places_in e i (m ∷ rest) =
+    (if is_some m.wr then Places.Wr e i ∷ [] else []) ++ ((if is_some m.rd then Places.Rd e i ∷ [] else []) ++ places_in e (i + 1) rest)
+
+abbrev pub places_at : {K : Type 0} → Image K → End → List Place
+places_at image e = (if has_end image.driver e then Places.Drv e ∷ [] else []) ++ places_in e 1 (modules_at image e)
+
+-- the places that are there
+abbrev pub places_of : {K : Type 0} → Image K → List Place
+places_of image = places_at image A ++ places_at image B
+
+abbrev pub place_count : {K : Type 0} → Image K → ℕ
+place_count image = length (places_of image)
+
+abbrev pub messages_on : {K : Type 0} → EndState K → ℕ
+messages_on e = length e.head + (length e.drv + sum_by (λ s. length s.rd + length s.wr) e.modules)
+
+-- the messages in all queues
+abbrev pub message_count : {K : Type 0} → Image K → ℕ
+message_count image = messages_on image.a + messages_on image.b

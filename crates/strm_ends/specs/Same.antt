@@ -1,0 +1,11 @@
+-- What no message changes about the ends of a stream.
+use Rattle.std.specs.Prelude.{◌≡◌}
+use Rattle.strm_qpair.specs.Modules.{SameEnd}
+use Rattle.strm_ends.specs.Image.{Image}
+
+-- both ends are open or closed as before, with the same marks, modules and ids, over the same driver
+pub record SameModules {K : Type 0} (old new : Image K) : Type 0 where
+  pub driver : new.driver ≡ old.driver
+  pub broken : new.broken ≡ old.broken
+  pub on_a : SameEnd old.a new.a
+  pub on_b : SameEnd old.b new.b

@@ -1,0 +1,176 @@
+//! One or two ends over a driver.
+ghost use Rattle.std.specs.Prelude.{◌≡◌, ◌∷◌, [], ◌≤◌, OnOk, OnErr, IfErr, IfOk, IfSome, IfNone, is_ok, true, map, Some};
+ghost use Rattle.strm_qpair.specs.End.{shapes_of};
+ghost use Rattle.strm_qpair.specs.Modules.{IsFitEnd, HoldsOrdinary};
+ghost use Rattle.strm_qpair.specs.Change.{has_room, inserted, removed, closed};
+ghost use Rattle.strm_ends.specs.Image.{end_of, with_end, count_of, room_of, KeepsHeadRoom, partner, has_end, fresh};
+
+use arrayvec::ArrayVec;
+use std::alloc::Global;
+use std::marker::Model;
+use strm_module::{Instance, ModuleOf};
+use strm_msg::{End, NoMem};
+use strm_qpair::{Driver, MOST_MODULES, StreamEnd};
+use strm_queue::Marks;
+
+mod flow;
+mod head;
+mod line;
+mod message;
+
+/// The queues of a stream, with its modules and what its heads remember.
+///
+/// A contract sees its image: the driver, whether the stream is broken, and for each end whether it
+/// is open, the lists of its head and its driver with their marks, its record, and its modules, each
+/// as its shape with two lists. An end that the driver lacks is a closed one without modules and
+/// messages. Beside the image it sees the room of the heads' lists and of a line's.
+#[derive(Drop)]
+pub struct Ends<M: ModuleOf> {
+    alloc: Global,
+    driver: Driver,
+    broken: bool,
+    a: StreamEnd<M>,
+    b: StreamEnd<M>,
+}
+
+impl<M: ModuleOf> Model for Ends<M> {
+    ghost use Rattle.strm_ends.specs.Image.{EndsValue};
+
+    ghost Value = { EndsValue M.Kind };
+
+    ghost view = { λ c. record { image = record { driver = c.driver; broken = c.broken; a = c.a.state; b = c.b.state }; rooms = record { a = c.a.head_room; b = c.b.head_room; line = c.a.drv_room } } };
+}
+
+/// The end up whose read side a driver sends what came down an end.
+pub fn partner_of(driver: Driver, end: End) -> End
+    ensures { result ≡ partner driver end }
+{
+    match (driver, end) {
+        (Driver::Loop, End::A) => End::B,
+        (Driver::Loop, End::B) => End::A,
+        _ => end,
+    }
+}
+
+/// Whether a driver has an end: each has end A, and a loop has end B too.
+pub fn has_end(driver: Driver, end: End) -> bool
+    ensures { result ≡ has_end driver end }
+{
+    match end {
+        End::A => true,
+        End::B => driver == Driver::Loop,
+    }
+}
+
+impl<M: ModuleOf> Ends<M> {
+    /// Ends without modules, open where the driver has them. Refused for want of memory alone.
+    pub fn new(alloc: Global, driver: Driver, head: Marks, drv: Marks) -> Result<Ends<M>, NoMem>
+        ensures { IfOk result (λ c. c.image ≡ fresh driver head drv) }
+    {
+        let a = StreamEnd::new(alloc, head, drv, has_end(driver, End::A))?;
+        let b = StreamEnd::new(alloc, head, drv, has_end(driver, End::B))?;
+        Ok(Ends {
+            alloc,
+            driver,
+            broken: false,
+            a,
+            b,
+        })
+    }
+
+    /// What takes memory for the stream.
+    pub fn alloc(&self) -> Global {
+        self.alloc
+    }
+
+    /// What stands at the bottom.
+    pub fn driver(&self) -> Driver
+        ensures { result ≡ self.now.image.driver }
+    {
+        self.driver
+    }
+
+    /// Whether memory was wanting after a change. Such a stream neither delivers nor serves.
+    pub fn is_broken(&self) -> bool
+        ensures { result ≡ self.now.image.broken }
+    {
+        self.broken
+    }
+
+    /// Breaks the stream, where memory was wanting after a change. The rest stays as it is.
+    pub fn break_off(&mut self)
+        ensures { self.new ≡ record self.old { image = record self.old.image { broken = true } } }
+    {
+        self.broken = true;
+    }
+
+    /// One end.
+    pub fn end(&self, end: End) -> &StreamEnd<M>
+        ensures state { result.now.state ≡ end_of self.now.image end }
+        ensures room { result.now.head_room ≡ room_of self.now.rooms end }
+    {
+        match end {
+            End::A => &self.a,
+            End::B => &self.b,
+        }
+    }
+
+    /// The number of modules of an end. Each low mark at the end is below its high one, and no high
+    /// message waits below the head.
+    pub fn count(&self, end: End) -> usize
+        ensures value { result ≡ count_of self.now.image end }
+        ensures few { result ≤ MOST_MODULES }
+        ensures fit { IsFitEnd (end_of self.now.image end) }
+        ensures ordinary { HoldsOrdinary (end_of self.now.image end) }
+    {
+        self.end(end).count()
+    }
+
+    /// Puts a module just below the head, with empty queues (I_PUSH). Takes no memory, and no list
+    /// loses room.
+    ///
+    /// Where the end has no room for it the instance comes back, and nothing is changed.
+    pub fn insert(&mut self, end: End, instance: Instance<M>) -> Result<(), Instance<M>>
+        ensures variant { is_ok result ≡ has_room (end_of self.old.image end) }
+        ensures ok { OnOk result (self.new ≡ record self.old { image = with_end self.old.image end (inserted (end_of self.old.image end) instance) }) }
+        ensures err { OnErr result (self.new ≡ self.old) }
+        ensures back { IfErr result (λ same. same ≡ instance) }
+    {
+        if !self.end(end).has_room() {
+            return Err(instance);
+        }
+        match end {
+            End::A => self.a.insert(self.alloc, instance),
+            End::B => self.b.insert(self.alloc, instance),
+        }
+        Ok(())
+    }
+
+    /// Takes the topmost module out, and drops what its queues hold (I_POP). Takes no memory, and no
+    /// list loses room.
+    pub fn remove(&mut self, end: End) -> Option<Instance<M>>
+        ensures some { IfSome result (λ it. shapes_of (end_of self.old.image end) ≡ it ∷ shapes_of (end_of self.new.image end)) }
+        ensures none { IfNone result ((end_of self.old.image end).modules ≡ []) }
+        ensures image { self.new ≡ record self.old { image = with_end self.old.image end (removed (end_of self.old.image end)) } }
+    {
+        match end {
+            End::A => self.a.remove(),
+            End::B => self.b.remove(),
+        }
+    }
+
+    /// Takes all modules of an end out, topmost first, drops what their queues and the head's list
+    /// hold, and closes the end (close(2)). The driver's list stays. Takes no memory, and no list
+    /// loses room.
+    pub fn dismantle(&mut self, end: End) -> ArrayVec<Option<Instance<M>>, MOST_MODULES>
+        ensures instances { result.items ≡ map (λ s. Some s.shape) (end_of self.old.image end).modules }
+        ensures image { self.new.image ≡ with_end self.old.image end (closed (end_of self.old.image end)) }
+        ensures room { KeepsHeadRoom self.old.rooms self.new.rooms }
+        ensures line_room { self.new.rooms.line ≡ self.old.rooms.line }
+    {
+        match end {
+            End::A => self.a.close(),
+            End::B => self.b.close(),
+        }
+    }
+}

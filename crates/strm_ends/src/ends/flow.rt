@@ -1,0 +1,220 @@
+//! Flow control: which queue is next after a place's, and whether a place may or must move.
+ghost use Rattle.std.specs.Prelude.{◌≡◌, ◌≤◌, true, false, IfSome, is_some, length, option_copied, option_map};
+ghost use Rattle.strm_qpair.specs.Canput.{fill_of, below, full_in, slack_in};
+ghost use Rattle.strm_ends.specs.Image.{end_of};
+ghost use Rattle.strm_ends.specs.Path.{ahead, front_of};
+ghost use Rattle.strm_ends.specs.Flow.{may, is_due};
+ghost use Rattle.strm_ends.specs.Held.{held_by};
+ghost use Rattle.strm_ends.specs.Next.{next_of, next_down, next_up, modules_at, IsCounted};
+ghost use Rattle.strm_ends.specs.declared.place.NextQueue.TheVariants.{Of};
+ghost use Rattle.strm_qpair.specs.Next.{next_above};
+
+use super::{Ends, has_end, partner_of};
+use crate::place::{NextQueue, Place};
+use strm_module::ModuleOf;
+use strm_msg::{End, Message, Side};
+use strm_qpair::Driver;
+use strm_queue::BandQueue;
+
+/// The queue below a module, where the first write queue below it was looked for.
+fn next_down(driver: Driver, end: End, next: Option<usize>) -> Option<NextQueue>
+    requires { IfSome next (λ i. i ≤ 8) }
+    ensures value { result ≡ next_down driver end next }
+    ensures few { IfSome result (λ queue. IsCounted queue) }
+{
+    match (next, driver) {
+        (Some(i), _) => Some(NextQueue::Of {
+            place: Place::Wr { end, i: i as u8 },
+        }),
+        (None, Driver::Line) => None,
+        (None, _) => Some(NextQueue::Of {
+            place: Place::Drv { end },
+        }),
+    }
+}
+
+/// The queue above a module, where the first read queue above it was looked for.
+fn next_up(is_open: bool, end: End, next: Option<usize>) -> Option<NextQueue>
+    requires { IfSome next (λ i. i ≤ 8) }
+    ensures value { result ≡ next_up is_open end next }
+    ensures few { IfSome result (λ queue. IsCounted queue) }
+{
+    match next {
+        Some(i) => Some(NextQueue::Of {
+            place: Place::Rd { end, i: i as u8 },
+        }),
+        None if is_open => Some(NextQueue::Head { end }),
+        None => None,
+    }
+}
+
+impl<M: ModuleOf> Ends<M> {
+    /// The queue above a module of an end, and above all k of them where `i` is k + 1.
+    fn next_above(&self, end: End, i: usize) -> Option<NextQueue>
+        ensures few { IfSome result (λ queue. IsCounted queue) }
+        ensures value { result ≡ next_up (end_of self.now.image end).is_open end (next_above (modules_at self.now.image end) i) }
+    {
+        let state = self.end(end);
+        // The proof learns from the number of modules that theirs are at most eight.
+        let _ = state.count();
+        next_up(state.is_open(), end, state.next_above(i))
+    }
+
+    /// The queue in which what leaves a place comes to wait. There is none where a line consumes it
+    /// or a closed end drops it.
+    pub fn next_of(&self, place: Place) -> Option<NextQueue>
+        ensures value { result ≡ next_of self.now.image place }
+        ensures few { IfSome result (λ queue. IsCounted queue) }
+    {
+        match place {
+            Place::Wr { end, i } => {
+                let state = self.end(end);
+                // The proof learns from the number of modules that theirs are at most eight.
+                let _ = state.count();
+                next_down(self.driver, end, state.next_below(usize::from(i)))
+            }
+            Place::Drv { end } => {
+                let partner = partner_of(self.driver, end);
+                self.next_above(partner, self.count(partner) + 1)
+            }
+            Place::Rd { end, i } => self.next_above(end, usize::from(i)),
+        }
+    }
+
+    /// The queue ahead of a place, if there is one.
+    fn queue_ahead(&self, place: Place) -> Option<&BandQueue>
+        ensures { option_map fill_of (option_copied result) ≡ ahead self.now.image place }
+    {
+        match place {
+            Place::Wr { end, i } => self.end(end).queue_below(self.driver, usize::from(i)),
+            Place::Drv { end } => {
+                let partner = partner_of(self.driver, end);
+                self.end(partner).queue_above(self.count(partner) + 1)
+            }
+            Place::Rd { end, i } => self.end(end).queue_above(usize::from(i)),
+        }
+    }
+
+    /// Whether the queue ahead of a place is full in a band.
+    fn full_ahead_of(&self, place: Place, band: u8) -> bool
+        ensures { result ≡ full_in (ahead self.now.image place) band }
+    {
+        match self.queue_ahead(place) {
+            Some(queue) => queue.full(band),
+            None => false,
+        }
+    }
+
+    /// Whether the queue ahead of a place has drained to its low mark in a band.
+    fn slack_ahead_of(&self, place: Place, band: u8) -> bool
+        ensures { result ≡ slack_in (ahead self.now.image place) band }
+    {
+        match self.queue_ahead(place) {
+            Some(queue) => queue.slack(band),
+            None => true,
+        }
+    }
+
+    /// Whether the first write queue of an end is full in a band, where bcanput(9F) would answer the
+    /// opposite: the topmost write queue of its modules, else the list of an echo or a loop. Without
+    /// one it is not.
+    pub fn full_ahead(&self, end: End, band: u8) -> bool
+        ensures { result ≡ full_in (below self.now.image.driver (end_of self.now.image end) 0) band }
+    {
+        match self.end(end).queue_below(self.driver, 0) {
+            Some(queue) => queue.full(band),
+            None => false,
+        }
+    }
+
+    /// The message that a place would move.
+    pub fn front(&self, place: Place) -> Option<&Message>
+        ensures { option_copied result ≡ front_of self.now.image place }
+    {
+        match place {
+            Place::Wr { end, i } => self.end(end).front(i, Side::Wr),
+            Place::Drv { end } => {
+                if has_end(self.driver, end) {
+                    self.end(end).driver_list().first()
+                } else {
+                    None
+                }
+            }
+            Place::Rd { end, i } => self.end(end).front(i, Side::Rd),
+        }
+    }
+
+    /// Whether the first message of a place may move.
+    fn front_may(&self, place: Place) -> bool
+        ensures { result ≡ may self.now.image place }
+    {
+        match self.front(place) {
+            Some(m) => m.is_high() || !self.full_ahead_of(place, m.band),
+            None => false,
+        }
+    }
+
+    /// Whether the first message of a place must move.
+    fn front_is_due(&self, place: Place) -> bool
+        ensures { result ≡ is_due self.now.image place }
+    {
+        match self.front(place) {
+            Some(m) => m.is_high() || self.slack_ahead_of(place, m.band),
+            None => false,
+        }
+    }
+
+    /// Whether a place may move: it holds a message, and the first is high or the queue ahead is not
+    /// full in its band. A place that is not there may not. One that may not must not, since each low
+    /// mark is below its high one.
+    pub fn may(&self, place: Place) -> bool
+        ensures value { result ≡ may self.now.image place }
+        ensures rests { result ≡ false → is_due self.now.image place ≡ false }
+    {
+        // The proof learns from the numbers of modules that each low mark is below its high one.
+        let _ = self.count(End::A);
+        let _ = self.count(End::B);
+        self.front_may(place)
+    }
+
+    /// Whether a place must move: it holds a message, and the first is high or the queue ahead has
+    /// drained to its low mark in its band.
+    pub fn is_due(&self, place: Place) -> bool
+        ensures value { result ≡ is_due self.now.image place }
+        ensures few { result ≡ true → IsCounted (Of place) }
+    {
+        // The proof learns from the numbers of modules that there are at most eight.
+        let _ = self.count(End::A);
+        let _ = self.count(End::B);
+        self.front_is_due(place)
+    }
+
+    /// Whether a place holds a message. Only one that is there does.
+    pub fn holds(&self, place: Place) -> bool
+        ensures value { result ≡ is_some (front_of self.now.image place) }
+        ensures few { result ≡ true → IsCounted (Of place) }
+    {
+        // The proof learns from the numbers of modules that there are at most eight.
+        let _ = self.count(End::A);
+        let _ = self.count(End::B);
+        self.front(place).is_some()
+    }
+
+    /// The number of messages in a queue, 0 in one that is not there.
+    pub fn len(&self, queue: NextQueue) -> usize
+        ensures { result ≡ length (held_by self.now.image queue) }
+    {
+        match queue {
+            NextQueue::Of {
+                place: Place::Wr { end, i },
+            } => self.end(end).len(i, Side::Wr),
+            NextQueue::Of {
+                place: Place::Drv { end },
+            } => self.end(end).driver_list().len(),
+            NextQueue::Of {
+                place: Place::Rd { end, i },
+            } => self.end(end).len(i, Side::Rd),
+            NextQueue::Head { end } => self.end(end).head().len(),
+        }
+    }
+}

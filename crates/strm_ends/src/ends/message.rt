@@ -1,0 +1,84 @@
+//! What a message does to a head, to the driver and to a module, and what their service takes.
+ghost use Rattle.std.specs.Prelude.{◌≡◌, ◌∷◌, [], OnOk, OnErr, IfOk, IfSome, IfNone};
+ghost use Rattle.strm_qpair.specs.End.{end_gets, end_serves};
+ghost use Rattle.strm_qpair.specs.Head.{head_does};
+ghost use Rattle.strm_ends.specs.Image.{end_of, with_end, with_drv, driver_does};
+ghost use Rattle.strm_ends.specs.Same.{SameModules};
+
+use super::{Ends, has_end};
+use strm_module::{ModuleOf, Outs};
+use strm_msg::{End, Message, NoMem, Side};
+use strm_qpair::DriverSends;
+
+impl<M: ModuleOf> Ends<M> {
+    /// What a head does with a message from below, and what it sends down. Refused for want of
+    /// memory alone: then nothing is changed.
+    pub fn head_does(&mut self, end: End, m: Message) -> Result<Option<Message>, NoMem>
+        ensures state { OnOk result (self.new.image ≡ with_end self.old.image end (head_does (end_of self.old.image end) m).state) }
+        ensures sends { IfOk result (λ sends. sends ≡ (head_does (end_of self.old.image end) m).sends) }
+        ensures err { OnErr result (self.new.image ≡ self.old.image) }
+        ensures same { SameModules self.old.image self.new.image }
+    {
+        match end {
+            End::A => self.a.head_does(m),
+            End::B => self.b.head_does(m),
+        }
+    }
+
+    /// What the driver does with a message from above, and what it sends up; at an end that it lacks
+    /// the message is dropped. Refused for want of memory alone: then nothing is changed.
+    pub fn driver_does(&mut self, end: End, m: Message) -> Result<DriverSends, NoMem>
+        ensures state { OnOk result (self.new.image ≡ with_end self.old.image end (driver_does self.old.image.driver end (end_of self.old.image end) m).state) }
+        ensures sends { IfOk result (λ sends. sends ≡ (driver_does self.old.image.driver end (end_of self.old.image end) m).sends) }
+        ensures err { OnErr result (self.new.image ≡ self.old.image) }
+        ensures same { SameModules self.old.image self.new.image }
+    {
+        let driver = self.driver;
+        if !has_end(driver, end) {
+            return Ok(DriverSends::Nothing);
+        }
+        match end {
+            End::A => self.a.driver_does(driver, m),
+            End::B => self.b.driver_does(driver, m),
+        }
+    }
+
+    /// Hands a message to module `i` (put(9E)), and gives what it sends. Refused for want of memory
+    /// alone: then nothing is changed.
+    pub fn put_at(&mut self, end: End, i: usize, side: Side, m: Message) -> Result<Outs, NoMem>
+        ensures state { OnOk result (self.new.image ≡ with_end self.old.image end (end_gets M.Kind.means (end_of self.old.image end) i side m).state) }
+        ensures outs { IfOk result (λ outs. outs.items ≡ (end_gets M.Kind.means (end_of self.old.image end) i side m).outs) }
+        ensures err { OnErr result (self.new.image ≡ self.old.image) }
+        ensures same { SameModules self.old.image self.new.image }
+    {
+        match end {
+            End::A => self.a.put_at(self.alloc, i, side, m),
+            End::B => self.b.put_at(self.alloc, i, side, m),
+        }
+    }
+
+    /// Module `i` serves the first message of its queue of a side (srv(9E)), and gives what it
+    /// sends. Refused for want of memory alone: then the message may be lost.
+    pub fn serve_at(&mut self, end: End, i: usize, side: Side) -> Result<Outs, NoMem>
+        ensures state { OnOk result (self.new.image ≡ with_end self.old.image end (end_serves M.Kind.means (end_of self.old.image end) i side).state) }
+        ensures outs { IfOk result (λ outs. outs.items ≡ (end_serves M.Kind.means (end_of self.old.image end) i side).outs) }
+        ensures same { SameModules self.old.image self.new.image }
+    {
+        match end {
+            End::A => self.a.serve_at(self.alloc, i, side),
+            End::B => self.b.serve_at(self.alloc, i, side),
+        }
+    }
+
+    /// Takes the first message of an end's driver list (getq(9F)).
+    pub fn take_driver(&mut self, end: End) -> Option<Message>
+        ensures some { IfSome result (λ m. ((end_of self.old.image end).drv ≡ m ∷ (end_of self.new.image end).drv) × (self.new.image ≡ with_drv self.old.image end (end_of self.new.image end).drv)) }
+        ensures none { IfNone result (((end_of self.old.image end).drv ≡ []) × (self.new.image ≡ self.old.image)) }
+        ensures same { SameModules self.old.image self.new.image }
+    {
+        match end {
+            End::A => self.a.take_driver(),
+            End::B => self.b.take_driver(),
+        }
+    }
+}

@@ -1,0 +1,10 @@
+//! What the eight kinds promise together, as a law of their definition.
+ghost use Rattle.strm_module.specs.Calm.{IsCalm};
+ghost use Rattle.strm_module.specs.Eight.{eight};
+
+/// A law, which nothing is done for: what the eight kinds make of a calm message is calm. A message is
+/// calm if it flushes nothing on its way: all are but a flush and an error, which a head answers with a
+/// flush.
+pub fn eight_are_calm()
+    ensures { IsCalm eight }
+{}

@@ -1,5 +1,5 @@
-//! Worked examples, from scripts to transcripts, by the public calls alone. What is expected is worked out
-//! by hand from the rules.
+//! What no script says of a play, by the public calls alone. What is expected is worked out by hand from the
+//! rules.
 #![tactic(auto)]
 
 #[cfg(test)]

@@ -1,0 +1,1 @@
+head -c 16385 /dev/zero | tr '\0' '#'

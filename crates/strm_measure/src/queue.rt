@@ -1,10 +1,6 @@
 //! What a put and a get cost while messages wait in a queue.
-//!
-//! Without an argument it says how much it has put through; with `--time` also how long that took.
-#![tactic(auto)]
-
 use std::alloc::Global;
-use std::env;
+use std::rt::Clock;
 use std::time::Instant;
 use strm_msg::{Message, NoMem};
 use strm_queue::{BandQueue, Marks};
@@ -43,16 +39,17 @@ fn turn(alloc: Global, queue: &mut BandQueue) -> Result<(), NoMem> {
     Ok(())
 }
 
-fn main(rt: HostRuntime) -> anyhow::Result<()> {
+/// Says how much is put through queues in which few and many messages wait, and where it is timed how long that
+/// takes.
+pub fn measure<R: Print + Clock + AllocGlobal>(rt: &R, is_timed: bool) -> anyhow::Result<()> {
     let alloc: Global = rt.alloc();
-    let timed = env::args(&rt)?.any(|word| word.as_str() == "--time");
     for waiting in WAITING {
         let mut queue = filled(alloc, waiting)?;
-        let start = Instant::now(&rt)?;
+        let start = Instant::now(rt)?;
         turn(alloc, &mut queue)?;
-        let taken = start.elapsed(&rt)?;
+        let taken = start.elapsed(rt)?;
         print!(rt; "{waiting} wait: {ROUNDS} times a put and a get")?;
-        if timed {
+        if is_timed {
             print!(rt; ", {} ns each", taken.as_nanos() / u128::from(ROUNDS))?;
         }
         println!(rt; "")?;

@@ -1,15 +1,11 @@
-//! How long it takes to read a script, to play it and to print its transcript.
-//!
-//! `script_time FILE WORKERS` prints the three times in milliseconds; without both words it says how it is called.
-#![tactic(auto)]
-
+//! What a script costs to read, to play and to print, and what its transcript does not tell.
 use std::alloc::Global;
+use std::fs;
 use std::io::Read;
 use std::rt::{Clock, Files};
 use std::sync::Wait;
 use std::thread::Threads;
 use std::time::Instant;
-use std::{env, fs};
 use strm_plan::parse;
 use strm_play::play;
 use strm_script::print;
@@ -21,8 +17,8 @@ fn load<R: Files>(alloc: Global, rt: &R, path: &str) -> anyhow::Result<Vec<u8>> 
     Ok(bytes)
 }
 
-/// Reads, plays and prints a script, and prints how long each took.
-fn measure<R: Files + Print + Clock + Threads + Wait + AllocGlobal + Sync>(
+/// Reads, plays and prints a script, and prints how long each took, in milliseconds.
+pub fn measure<R: Files + Print + Clock + Threads + Wait + AllocGlobal + Sync>(
     rt: &R,
     path: &str,
     workers: u32,
@@ -45,13 +41,19 @@ fn measure<R: Files + Print + Clock + Threads + Wait + AllocGlobal + Sync>(
     Ok(())
 }
 
-fn main(rt: HostRuntime) -> anyhow::Result<()> {
-    let words: Vec<String> = env::args(&rt)?.collect(rt.alloc())?;
-    match words.as_slice() {
-        [_, path, workers] => measure(&rt, path.as_str(), workers.parse::<u32>()?),
-        _ => {
-            println!(rt; "script_time FILE WORKERS")?;
-            Ok(())
+/// Plays a script with one worker, and prints a line for each thing that happened, stream by stream and in order: how
+/// many queues moved after it, and at how many places service looked.
+pub fn moves<R: Files + Print + Threads + Wait + AllocGlobal + Sync>(
+    rt: &R,
+    path: &str,
+) -> anyhow::Result<()> {
+    let alloc: Global = rt.alloc();
+    let bytes = load(alloc, rt, path)?;
+    let outcome = play(rt, alloc, bytes.as_slice(), 1)?;
+    for log in &outcome.transcript.streams {
+        for entry in &log.history {
+            println!(rt; "{} {}", entry.moves.len(), entry.looks)?;
         }
     }
+    Ok(())
 }

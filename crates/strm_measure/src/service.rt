@@ -1,11 +1,6 @@
 //! What calls on an echo stream cost, with the service that follows them.
-//!
-//! Without an argument it says which calls it makes, how often, and how many places move and are looked at for them;
-//! with `--time` also how long they take.
-#![tactic(auto)]
-
 use std::alloc::Global;
-use std::env;
+use std::rt::Clock;
 use std::time::Instant;
 use strm_head::{Driver, Outcome, Priority, Request, Stream, Wanted};
 use strm_module::{Instance, Kind, Plain, Shape};
@@ -196,19 +191,20 @@ fn turns(alloc: Global, stream: &mut Stream<Plain>, calls: Calls) -> Result<Serv
     Ok(service)
 }
 
-fn main(rt: HostRuntime) -> anyhow::Result<()> {
+/// Says which calls are made, how often, and how many places move and are looked at for them, and where it is timed
+/// how long they take.
+pub fn measure<R: Print + Clock + AllocGlobal>(rt: &R, is_timed: bool) -> anyhow::Result<()> {
     let alloc: Global = rt.alloc();
-    let timed = env::args(&rt)?.any(|word| word.as_str() == "--time");
     for trial in &TRIALS {
         let mut stream = made(alloc, trial)?;
-        let start = Instant::now(&rt)?;
+        let start = Instant::now(rt)?;
         let service = turns(alloc, &mut stream, trial.calls)?;
-        let taken = start.elapsed(&rt)?;
+        let taken = start.elapsed(rt)?;
         let name = trial.name;
         let moves = service.moves / u64::from(ROUNDS);
         let looks = service.looks / u64::from(ROUNDS);
         print!(rt; "{name}: {ROUNDS} times, moves {moves} and looks {looks} each")?;
-        if timed {
+        if is_timed {
             print!(rt; ", {} ns each", taken.as_nanos() / u128::from(ROUNDS))?;
         }
         println!(rt; "")?;

@@ -10,8 +10,6 @@ mod lanes;
 mod marks;
 mod queue;
 mod run;
-#[cfg(test)]
-mod tests;
 
 pub use marks::Marks;
 pub use queue::BandQueue;

@@ -11,8 +11,6 @@ mod parsing;
 mod plan;
 mod setup;
 mod target;
-#[cfg(test)]
-mod tests;
 
 pub use call::CallDecl;
 pub use fault::ScriptFault;

@@ -9,8 +9,6 @@ mod printing;
 mod reply;
 mod request;
 mod stream;
-#[cfg(test)]
-mod tests;
 
 pub use field::fields_are_read_back;
 pub use printing::print;

@@ -4,8 +4,6 @@
 mod lines;
 mod parts;
 mod spelling;
-#[cfg(test)]
-mod tests;
 mod words;
 
 pub use lines::{fields, first_line, is_allowed, split_once};

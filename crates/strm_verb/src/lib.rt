@@ -6,8 +6,6 @@ mod fault;
 mod field;
 mod push;
 mod request;
-#[cfg(test)]
-mod tests;
 mod verb;
 mod words;
 

@@ -1,0 +1,343 @@
+//! Transcripts of which no script can be the cause: answers that no stream gives to such a call, numbers that do not
+//! fit each other, and a writer that is full.
+use super::plan_of;
+use Ask::{Getband, Nread, Str};
+use Say::{Ack, Broke, Line, Nak, Refused};
+use arrayvec::ArrayVec;
+use std::alloc::Global;
+use std::process::Abort;
+use strm_call::{Acknowledged, Answer, Name, Refusal, Reply, Request};
+use strm_head::{Event, MOST_MODULES, Moves};
+use strm_module::{Kind, Shape};
+use strm_msg::End::{A, B};
+use strm_msg::{Bytes, End, Errno, Message};
+use strm_plan::Plan;
+use strm_run::{StreamLog, Transcript};
+use strm_script::print;
+use strm_shared::{Entry, Who};
+
+/// A part, if there is one.
+type Part = Option<&'static [u8]>;
+
+/// A request, written out.
+#[derive(Clone, Copy, Drop)]
+enum Ask {
+    Nread,
+    Str(u32, Part),
+    Getband,
+}
+
+/// An answer, written out.
+#[derive(Clone, Copy, Drop)]
+enum Say {
+    Line,
+    Ack(u64, Part),
+    Nak(Errno),
+    Refused(Refusal),
+    Broke,
+}
+
+/// Calls at an end, what is answered, and the line that they make.
+const CALLS: [(End, Ask, Say, &str); 17] = [
+    (A, Nread, Line, "p nread s:a : 0\n"),
+    (
+        A,
+        Str(1, Some(b"x y")),
+        Ack(7, Some(b"\x00")),
+        "p str s:a 1 =x%20y : 7 =%00\n",
+    ),
+    (
+        A,
+        Str(4_294_967_295, None),
+        Ack(18_446_744_073_709_551_615, None),
+        "p str s:a 4294967295 - : 18446744073709551615 -\n",
+    ),
+    (
+        B,
+        Str(0, Some(b"")),
+        Ack(0, Some(b"")),
+        "p str s:b 0 = : 0 =\n",
+    ),
+    (
+        B,
+        Str(5, Some(b"-")),
+        Nak(Errno::ETIME),
+        "p str s:b 5 =- : nak ETIME\n",
+    ),
+    (
+        A,
+        Str(7, None),
+        Refused(Refusal::WouldWait),
+        "p str s:a 7 - : EAGAIN\n",
+    ),
+    (
+        A,
+        Getband,
+        Refused(Refusal::Closed),
+        "p getband s:a : EBADF\n",
+    ),
+    (
+        A,
+        Getband,
+        Refused(Refusal::Broken),
+        "p getband s:a : ENOSR\n",
+    ),
+    (
+        A,
+        Getband,
+        Refused(Refusal::Error {
+            errno: Errno::EPROTO,
+        }),
+        "p getband s:a : EPROTO\n",
+    ),
+    (
+        A,
+        Getband,
+        Refused(Refusal::Invalid),
+        "p getband s:a : EINVAL\n",
+    ),
+    (
+        A,
+        Getband,
+        Refused(Refusal::TooLong),
+        "p getband s:a : ERANGE\n",
+    ),
+    (
+        A,
+        Getband,
+        Refused(Refusal::HungUp),
+        "p getband s:a : ENXIO\n",
+    ),
+    (
+        A,
+        Getband,
+        Refused(Refusal::BadMessage),
+        "p getband s:a : EBADMSG\n",
+    ),
+    (
+        A,
+        Getband,
+        Refused(Refusal::NoMessage),
+        "p getband s:a : ENODATA\n",
+    ),
+    (
+        A,
+        Getband,
+        Refused(Refusal::WouldWait),
+        "p getband s:a : EAGAIN\n",
+    ),
+    (
+        A,
+        Getband,
+        Refused(Refusal::NoMemory),
+        "p getband s:a : ENOSR\n",
+    ),
+    (A, Getband, Broke, "p getband s:a : ENOSR broke\n"),
+];
+
+/// What is printed of messages that came in behind them, and of the ends: flushes of one band, which no feed has, and
+/// data that broke the stream.
+const ARRIVED: &str =
+    "line flushband 7 w : 0\nline flushband 0 none : 0\nline data 255 =a%20b : ENOSR broke\n\
+    open a\nopen b\n";
+
+fn part(rt: &impl Abort, alloc: Global, part: Part) -> Option<Bytes> {
+    match part {
+        Some(part) => Some(Bytes::from_slice(alloc, part).expect(rt, "no memory")),
+        None => None,
+    }
+}
+
+fn request(rt: &impl Abort, alloc: Global, ask: Ask) -> Request<Shape> {
+    match ask {
+        Nread => Request::Nread,
+        Str(cmd, dat) => Request::Str {
+            cmd,
+            dat: part(rt, alloc, dat),
+        },
+        Getband => Request::Getband,
+    }
+}
+
+fn acknowledged(answer: Acknowledged) -> Answer {
+    Answer::Done(Reply::Str { answer })
+}
+
+fn answer(rt: &impl Abort, alloc: Global, say: Say) -> Answer {
+    match say {
+        Line => Answer::Done(Reply::Line),
+        Ack(rval, dat) => acknowledged(Acknowledged::Ack {
+            rval,
+            dat: part(rt, alloc, dat),
+        }),
+        Nak(errno) => acknowledged(Acknowledged::Nak { errno }),
+        Refused(refusal) => Answer::Refused(refusal),
+        Broke => Answer::Broke,
+    }
+}
+
+/// A step that somebody made, of which the places that moved are not told.
+fn step(alloc: Global, who: Who, end: End, event: Event<Shape>, answer: Answer) -> Entry<Kind> {
+    Entry {
+        who,
+        end,
+        event,
+        answer,
+        moves: Moves::new(alloc),
+        looks: 0,
+        out: ArrayVec::new(),
+    }
+}
+
+/// A message that came in.
+fn came(alloc: Global, m: Message, answer: Answer) -> Entry<Kind> {
+    step(alloc, Who::Line, A, Event::Arrived(m), answer)
+}
+
+/// The messages that come in.
+fn arrivals(rt: &impl Abort, alloc: Global) -> [Entry<Kind>; 3] {
+    let data = Message::of_data(alloc, 255, b"a b").expect(rt, "no memory");
+    let done = || Answer::Done(Reply::Line);
+    [
+        came(alloc, Message::of_flush(false, true, Some(7)), done()),
+        came(alloc, Message::of_flush(false, false, Some(0)), done()),
+        came(alloc, data, Answer::Broke),
+    ]
+}
+
+/// The names on an end.
+fn names(rt: &impl Abort, names: &[&[u8]]) -> Option<ArrayVec<Name, MOST_MODULES>> {
+    let mut all = ArrayVec::new();
+    for bytes in names {
+        let name = ArrayVec::try_from(*bytes).expect(rt, "a short name");
+        all.try_push(name).expect(rt, "few names");
+    }
+    Some(all)
+}
+
+/// What is left of a stream with end A open under these names, end B open without any, and 3, 2 and 1
+/// messages of its feed accepted, come in and handed back.
+fn log(rt: &impl Abort, alloc: Global, on_a: &[&[u8]]) -> StreamLog<Kind> {
+    StreamLog {
+        history: Vec::new(alloc),
+        a: names(rt, on_a),
+        b: names(rt, &[]),
+        accepted: 3,
+        arrived: 2,
+        overrun: 1,
+    }
+}
+
+/// What is printed of one stream.
+fn printed(rt: &impl Abort, alloc: Global, plan: &Plan, log: StreamLog<Kind>) -> Vec<u8> {
+    let streams = vec![in alloc; log].expect(rt, "no memory");
+    let mut out: Vec<u8> = Vec::new(alloc);
+    assert!(rt; print(&Transcript { streams }, plan, &mut out).is_ok());
+    out
+}
+
+/// The steps, of which each call is made by the second process.
+fn steps(rt: &impl Abort, alloc: Global) -> Vec<Entry<Kind>> {
+    let mut history = Vec::new(alloc);
+    for (end, ask, say, _) in CALLS {
+        let event = Event::Asked(request(rt, alloc, ask));
+        let said = answer(rt, alloc, say);
+        let entry = step(alloc, Who::Caller(1), end, event, said);
+        history.push(entry).expect(rt, "no memory");
+    }
+    for entry in arrivals(rt, alloc) {
+        history.push(entry).expect(rt, "no memory");
+    }
+    history
+}
+
+/// What is to be printed of them.
+fn lines(rt: &impl Abort, alloc: Global) -> Vec<u8> {
+    let mut text = Vec::from_slice(alloc, b"stream s\n").expect(rt, "no memory");
+    for (_, _, _, line) in CALLS {
+        text.extend_from_slice(line.as_bytes())
+            .expect(rt, "no memory");
+    }
+    text.extend_from_slice(ARRIVED.as_bytes())
+        .expect(rt, "no memory");
+    text
+}
+
+#[test]
+fn steps_are_spelt_with_their_answers(rt: HostRuntime) {
+    let alloc: Global = rt.alloc();
+    let plan = plan_of(&rt, alloc, b"stream s loop 16/4 16/4\nprocess q\nprocess p");
+    let mut log = log(&rt, alloc, &[]);
+    log.history = steps(&rt, alloc);
+    assert!(rt; printed(&rt, alloc, &plan, log) == lines(&rt, alloc));
+}
+
+/// Each driver, the names on end A, and what is printed of the stream.
+const STREAMS: [(&[u8], &[&[u8]], &str); 3] = [
+    (
+        b"stream st echo 16/4 16/4",
+        &[b"top", b"low"],
+        "stream st\nopen a top low\n",
+    ),
+    (
+        b"stream st loop 16/4 16/4",
+        &[b"m"],
+        "stream st\nopen a m\nopen b\n",
+    ),
+    (
+        b"stream st line 16/4 16/4 1",
+        &[],
+        "stream st\nopen a\nfeed accepted 3 arrived 2 overrun 1\n",
+    ),
+];
+
+#[test]
+fn ends_and_feeds_follow_the_steps(rt: HostRuntime) {
+    let alloc: Global = rt.alloc();
+    for (stream, on_a, wanted) in STREAMS {
+        let plan = plan_of(&rt, alloc, stream);
+        let text = printed(&rt, alloc, &plan, log(&rt, alloc, on_a));
+        assert!(rt; text.as_slice() == wanted.as_bytes());
+    }
+}
+
+/// A plan with a loop `one` and an echo `two`, and one process, `p`.
+const PLAN: &[u8] = b"stream one loop 16/4 16/4\nstream two echo 16/4 16/4\nprocess p";
+
+/// What is left of the plan's run, in which `p` closed end A of the second stream.
+fn transcript(rt: &impl Abort, alloc: Global) -> Transcript<Kind> {
+    let reply = Reply::Close {
+        names: ArrayVec::new(),
+    };
+    let event = Event::Asked(Request::Close);
+    let entry = step(alloc, Who::Caller(0), A, event, Answer::Done(reply));
+    let mut second = log(rt, alloc, &[]);
+    second.a = None;
+    second.history.push(entry).expect(rt, "no memory");
+    let first = log(rt, alloc, &[]);
+    let third = log(rt, alloc, &[]);
+    Transcript {
+        streams: vec![in alloc; first, second, third].expect(rt, "no memory"),
+    }
+}
+
+/// What is printed of it. The third log is of no stream.
+const PRINTED: &str = "stream one\nopen a\nopen b\nstream two\np close two:a : closed\nclosed a\n";
+
+#[test]
+fn streams_are_printed_in_the_order_of_the_plan(rt: HostRuntime) {
+    let alloc: Global = rt.alloc();
+    let (transcript, plan) = (transcript(&rt, alloc), plan_of(&rt, alloc, PLAN));
+    let mut out: Vec<u8> = Vec::new(alloc);
+    assert!(rt; print(&transcript, &plan, &mut out).is_ok());
+    assert!(rt; out.as_slice() == PRINTED.as_bytes());
+}
+
+#[test]
+fn a_writer_that_is_full_ends_the_printing(rt: HostRuntime) {
+    let alloc: Global = rt.alloc();
+    let (transcript, plan) = (transcript(&rt, alloc), plan_of(&rt, alloc, PLAN));
+    let mut out: ArrayVec<u8, 40> = ArrayVec::new();
+    assert!(rt; print(&transcript, &plan, &mut out).is_err());
+    assert!(rt; PRINTED.as_bytes().starts_with(out.as_slice()));
+}

@@ -1,0 +1,4 @@
+# One process too many.
+awk 'BEGIN {
+    for (i = 0; i < 257; i++) print "process p" i
+}'

@@ -18,8 +18,6 @@ mod running;
 mod script;
 mod streams;
 mod table;
-#[cfg(test)]
-mod tests;
 mod threads;
 mod told;
 mod transcript;
@@ -28,4 +26,5 @@ pub use fault::RunFault;
 pub use judge::{MOST_WORKERS, are_from_line, are_setups};
 pub use running::run;
 pub use script::{Feed, Gate, Script, ScriptCall};
+pub use told::are_all_told;
 pub use transcript::{StreamLog, Transcript};

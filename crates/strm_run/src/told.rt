@@ -44,8 +44,9 @@ fn are_told<K>(history: &[Entry<K>], mut told: Vec<VecDeque<Answer>>) -> bool
     is_nothing_left(told.as_slice())
 }
 
-/// Whether that holds of each stream, in order.
-pub(crate) fn are_all_told<K>(logs: &[StreamLog<K>], told: Vec<Vec<VecDeque<Answer>>>) -> bool
+/// Whether the answers in the history of each stream are those that each caller was told there, in order, and no
+/// others; by the streams' numbers, and then by the callers'.
+pub fn are_all_told<K>(logs: &[StreamLog<K>], told: Vec<Vec<VecDeque<Answer>>>) -> bool
     ensures { result ≡ true → AreAllTold logs.now told.items }
 {
     let mut at: usize = 0;

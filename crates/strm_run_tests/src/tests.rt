@@ -24,6 +24,7 @@ mod long;
 mod order;
 mod streams;
 mod together;
+mod told;
 mod want;
 
 /// How often a gate or a module looks whether what it waits for has come.

@@ -1,0 +1,104 @@
+//! What callers were told, beside what a history has. The lock lets the two never differ, so the lists
+//! are made by hand here.
+use super::{
+    Abort, Answer, End, Entry, Event, Global, Kind, Message, Reply, Request, StreamLog, Who,
+};
+use Told::{Closed, Wrote};
+use arrayvec::ArrayVec;
+use std::collections::VecDeque;
+use strm_head::{Moves, Refusal};
+use strm_run::are_all_told;
+
+/// An answer, written out.
+#[derive(Clone, Copy, Drop)]
+enum Told {
+    /// So many bytes were written.
+    Wrote(u64),
+    /// The end is closed.
+    Closed,
+}
+
+fn answer(told: Told) -> Answer {
+    match told {
+        Wrote(len) => Answer::Done(Reply::Write { len }),
+        Closed => Answer::Refused(Refusal::Closed),
+    }
+}
+
+/// A step that was answered so.
+fn step(alloc: Global, who: Who, event: Event<strm_module::Shape>, answer: Answer) -> Entry<Kind> {
+    Entry {
+        who,
+        end: End::A,
+        event,
+        answer,
+        moves: Moves::new(alloc),
+        looks: 0,
+        out: ArrayVec::new(),
+    }
+}
+
+/// The callers of the calls of a history, and what each was answered.
+const CALLS: [(u32, Told); 3] = [(1, Wrote(5)), (0, Wrote(5)), (1, Wrote(7))];
+
+/// A history of these calls, with a message from a line at the end.
+fn log(rt: &impl Abort, alloc: Global) -> StreamLog<Kind> {
+    let mut history = Vec::new(alloc);
+    for (caller, told) in CALLS {
+        let event = Event::Asked(Request::Look);
+        let entry = step(alloc, Who::Caller(caller), event, answer(told));
+        history.push(entry).expect(rt, "no memory");
+    }
+    let event = Event::Arrived(Message::of_hangup());
+    let came = step(alloc, Who::Line, event, Answer::Done(Reply::Line));
+    history.push(came).expect(rt, "no memory");
+    StreamLog {
+        history,
+        a: None,
+        b: None,
+        accepted: 1,
+        arrived: 1,
+        overrun: 0,
+    }
+}
+
+/// What a caller was told.
+fn answers(rt: &impl Abort, alloc: Global, told: &[Told]) -> VecDeque<Answer> {
+    let mut answers = VecDeque::new(alloc);
+    for one in told {
+        answers.push_back(answer(*one)).expect(rt, "no memory");
+    }
+    answers
+}
+
+/// Whether callers 0 and 1, who were told so on the stream, were told what its history has.
+fn agree(rt: &impl Abort, alloc: Global, first: &[Told], second: &[Told]) -> bool {
+    let callers = vec![in alloc; answers(rt, alloc, first), answers(rt, alloc, second)].expect(
+        rt,
+        "no memory",
+    );
+    let logs = vec![in alloc; log(rt, alloc)].expect(rt, "no memory");
+    are_all_told(
+        logs.as_slice(),
+        vec![in alloc; callers].expect(rt, "no memory"),
+    )
+}
+
+/// What callers 0 and 1 were told, and whether the history has that.
+const ROWS: [(&[Told], &[Told], bool); 8] = [
+    (&[Wrote(5)], &[Wrote(5), Wrote(7)], true),
+    (&[Wrote(6)], &[Wrote(5), Wrote(7)], false),
+    (&[Wrote(5)], &[Wrote(7), Wrote(5)], false),
+    (&[Wrote(5)], &[Wrote(5)], false),
+    (&[], &[Wrote(5), Wrote(7)], false),
+    (&[Wrote(5), Wrote(5)], &[Wrote(5), Wrote(7)], false),
+    (&[Wrote(5)], &[Wrote(5), Wrote(7), Wrote(7)], false),
+    (&[Closed], &[Wrote(5), Wrote(7)], false),
+];
+
+#[test]
+fn callers_are_told_what_the_history_has(rt: HostRuntime) {
+    for (first, second, wanted) in ROWS {
+        assert!(rt; agree(&rt, rt.alloc(), first, second) == wanted);
+    }
+}

@@ -1,10 +1,10 @@
-//! Worked examples, by the public calls alone. What is expected is worked out by hand from the
-//! rules, beside it. Every queue has the high mark 5 and the low mark 4.
+//! Worked examples, by the public calls alone: tables of rows, each with its calls on a new chain and
+//! what they must answer. What is expected is worked out by hand from the rules, beside it.
 use std::alloc::Global;
 use std::process::Abort;
 use strm_chain::{Chain, ChainFault, Driver, Place, Spot};
 use strm_module::{Instance, Kind, ModuleOf, Plain, Shape};
-use strm_msg::{Class, End, Message};
+use strm_msg::{End, Errno, Message, Prot, ReadMode};
 use strm_queue::Marks;
 
 mod enabled;
@@ -15,6 +15,7 @@ mod lists;
 mod objects;
 mod owners;
 mod rows;
+mod steps;
 
 /// A message.
 #[derive(Clone, Copy, Drop)]
@@ -24,6 +25,15 @@ enum Text {
     /// A high protocol message without data.
     High(&'static [u8]),
     Hangup,
+    /// A flush of the read and of the write side, of all bands or of one.
+    Flush(bool, bool, Option<u8>),
+    Error(Errno),
+    /// An ioctl without data: its id and its command.
+    Ioctl(u64, u32),
+    /// An answer without data: its id and its value.
+    Ack(u64, u64),
+    /// A refusal of the ioctl of an id.
+    Nak(u64, Errno),
 }
 
 /// A call, and what it must answer.
@@ -33,14 +43,14 @@ enum Call {
     Write(&'static [u8]),
     /// Data of band 0 is the first message of the head of end A, and is taken.
     Read(&'static [u8]),
+    /// A message is written at an end.
+    Send(End, Text),
     /// A message is handed in.
     Deliver(Spot, Text),
     /// A message is handed in, and refused.
     DeliverFails(Spot, Text, ChainFault),
     /// An ordinary message comes in from the line.
     Comes(Text),
-    /// Whether a place may move.
-    May(Place, bool),
     /// A place that may move does.
     Serve(Place),
     /// A place that may move is refused.
@@ -48,8 +58,23 @@ enum Call {
     /// These places move, until none is enabled, and so many are looked at.
     Settle(&'static [Place], u64),
     SettleFails(ChainFault),
-    /// Another message is the first of the head of end A, and is taken.
-    Take(Text),
+    /// A message is the first of the head of an end, and is taken.
+    Take(End, Text),
+    /// Room is made in band 0 of the head of end A and of the list of the line, and a message is put
+    /// back to that head.
+    PutBack(Text),
+    BreakOff,
+    SetMode(End, ReadMode, Prot),
+    /// An id is taken at end A, which is this one.
+    Begins(u64),
+    /// The id is given back that was taken last at end A.
+    Undoes,
+    /// The answer that has come at end A is taken.
+    Ends(Option<Text>),
+    /// The topmost module of end A is taken out and dropped: its serial.
+    Remove(Option<u64>),
+    /// Whether a place may move.
+    May(Place, bool),
     /// Whether a place is enabled.
     Enabled(Place, bool),
     /// No place is enabled.
@@ -58,11 +83,58 @@ enum Call {
     HeadLen(End, usize),
     /// How many bytes of band 0 the list of a head has.
     HeadHeld(End, u128),
-    /// Whether the first write queue of end A is full in band 0.
-    FullAhead(bool),
+    /// Whether the first write queue of an end is full in band 0.
+    FullAhead(End, bool),
     /// Whether the list of the line is full in band 0.
     LineFull(bool),
+    /// Which lists of an end hold a message: those of two modules on their way down, of the driver, of the
+    /// modules on their way up, and of the head. The number is that of the upper module.
+    Holds(End, u8, [bool; 6]),
+    /// How many modules an end has.
+    Count(End, usize),
+    /// Whether an end is there and was not closed.
+    IsOpen(End, bool),
+    HasSpot(Spot, bool),
+    IsDriver(Driver),
+    IsBroken(bool),
+    /// The serial of a module of end A, counted from 1.
+    Serial(u8, Option<u64>),
+    /// Whether an end has room for a module.
+    HasRoom(End, bool),
+    /// Whether an end was hung up.
+    Hung(End, bool),
+    /// The latest error of an end.
+    Errs(End, Option<Errno>),
+    /// How an end is read.
+    Mode(End, ReadMode, Prot),
+    /// The id of the next ioctl of an end, and that of the one whose answer is awaited.
+    Ids(End, Option<u64>, Option<u64>),
 }
+
+/// A module's kind.
+#[derive(Clone, Copy, Drop)]
+enum Part {
+    Pass,
+    Count,
+    Mute,
+    Tee,
+}
+
+/// A worked example, on a chain for modules that act by their shapes alone.
+#[derive(Clone, Copy, Drop)]
+struct Row {
+    name: &'static str,
+    driver: Driver,
+    /// The marks of the heads and of the driver.
+    marks: (u32, u32),
+    /// What is put in, one above the other: at which end, its kind, and whether it has a queue for its
+    /// read side and for its write side.
+    modules: &'static [(End, Part, bool, bool)],
+    calls: &'static [&'static [Call]],
+}
+
+/// The marks where nothing else is said: a queue is full at 5 bytes and slack at 4.
+const FIVE: (u32, u32) = (5, 4);
 
 const DRV_A: Place = Place::Drv { end: End::A };
 
@@ -84,164 +156,91 @@ const RD_2: Place = Place::Rd { end: End::A, i: 2 };
 
 fn message(rt: &impl Abort, alloc: Global, text: Text) -> Message {
     match text {
-        Text::Data(band, bytes) => Message::of_data(alloc, band, bytes).expect(rt, "no memory"),
-        Text::High(bytes) => Message::of_pcproto(alloc, bytes, None).expect(rt, "no memory"),
-        Text::Hangup => Message::of_hangup(),
+        Text::Data(band, bytes) => Message::of_data(alloc, band, bytes),
+        Text::High(bytes) => Message::of_pcproto(alloc, bytes, None),
+        Text::Hangup => Ok(Message::of_hangup()),
+        Text::Flush(r, w, band) => Ok(Message::of_flush(r, w, band)),
+        Text::Error(errno) => Ok(Message::of_error(errno)),
+        Text::Ioctl(id, cmd) => Message::of_ioctl(alloc, id, cmd, None),
+        Text::Ack(id, rval) => Ok(Message::of_ack(id, rval, None)),
+        Text::Nak(id, errno) => Ok(Message::of_nak(id, errno)),
     }
-}
-
-/// Marks that hold 5 bytes and want 4.
-fn five_and_four(rt: &impl Abort) -> Marks {
-    Marks::new(5, 4).expect(rt, "the low mark is below the high one")
+    .expect(rt, "no memory for a message")
 }
 
 /// A chain for modules of some type.
-fn chain_over<M: ModuleOf>(rt: &impl Abort, alloc: Global, driver: Driver) -> Chain<M> {
-    let marks = five_and_four(rt);
+fn chain_over<M: ModuleOf>(
+    rt: &impl Abort,
+    alloc: Global,
+    driver: Driver,
+    (hi, lo): (u32, u32),
+) -> Chain<M> {
+    let marks = Marks::new(hi, lo).expect(rt, "the low mark is below the high one");
     Chain::new(alloc, driver, marks, marks).expect(rt, "no memory for a chain")
 }
 
-/// A chain for modules that act by their shapes alone.
-fn made(rt: &impl Abort, alloc: Global, driver: Driver) -> Chain<Plain> {
-    chain_over(rt, alloc, driver)
-}
-
-/// Pushes a module with a queue for each side that is named.
-fn push(rt: &impl Abort, chain: &mut Chain<Plain>, end: End, kind: Kind, (rd, wr): (bool, bool)) {
-    let shape = shape_of(rt, 1, kind, (rd, wr));
-    assert!(rt; chain.insert(end, Instance::new(shape, Plain)).is_ok());
+fn kind(part: Part) -> Kind {
+    match part {
+        Part::Pass => Kind::Pass,
+        Part::Count => Kind::Count { n: 0 },
+        Part::Mute => Kind::Mute,
+        Part::Tee => Kind::Tee,
+    }
 }
 
 /// The shape of a module with a queue for each side that is named.
-fn shape_of(rt: &impl Abort, serial: u64, kind: Kind, (rd, wr): (bool, bool)) -> Shape {
-    let five = Some((5, 4));
+fn shape_of(rt: &impl Abort, serial: u64, part: Part, (rd, wr): (bool, bool)) -> Shape {
+    let five = Some(FIVE);
     let rd = if rd { five } else { None };
     let wr = if wr { five } else { None };
-    Shape::new(serial, b"m", rd, wr, kind).expect(rt, "a good name and good marks")
+    Shape::new(serial, b"m", rd, wr, kind(part)).expect(rt, "a good name and good marks")
 }
 
-/// Hands a message in.
-fn deliver<M: ModuleOf>(
-    rt: &impl Abort,
-    chain: &mut Chain<M>,
-    spot: Spot,
-    m: Message,
-) -> Result<(), ChainFault> {
-    assert!(rt; chain.has_spot(spot));
-    chain.deliver(spot, m)
-}
-
-/// Hands a message in, and looks at the answer.
-fn delivers<M: ModuleOf>(
-    rt: &impl Abort,
-    chain: &mut Chain<M>,
-    spot: Spot,
-    text: Text,
-    want: Result<(), ChainFault>,
-    at: usize,
-) {
-    let m = message(rt, chain.alloc(), text);
-    assert_eq!(rt; deliver(rt, chain, spot, m), want, "call {at}");
-}
-
-/// Serves a place that may move, and looks at the answer.
-fn serves<M: ModuleOf>(
-    rt: &impl Abort,
-    chain: &mut Chain<M>,
-    place: Place,
-    want: Result<(), ChainFault>,
-    at: usize,
-) {
-    assert!(rt; chain.may(place), "call {at}");
-    assert_eq!(rt; chain.serve_one(place), want, "call {at}");
-}
-
-/// Takes the first message of the head of end A, which is this.
-fn takes<M: ModuleOf>(rt: &impl Abort, chain: &mut Chain<M>, text: Text, at: usize) {
-    let want = message(rt, chain.alloc(), text);
-    assert_eq!(rt; chain.take_head(End::A), Some(want), "call {at}");
-}
-
-/// Serves until no place is enabled, by these moves and so many looks.
-fn settles<M: ModuleOf>(
-    rt: &impl Abort,
-    chain: &mut Chain<M>,
-    (want, looks): (&[Place], u64),
-    at: usize,
-) {
-    let settled = chain.settle().expect(rt, "no memory to settle");
-    assert_eq!(rt; settled.moves.as_slice(), want, "call {at}");
-    assert_eq!(rt; settled.looks, looks, "the looks of call {at}");
-}
-
-/// An ordinary message comes in from the line.
-fn comes<M: ModuleOf>(rt: &impl Abort, chain: &mut Chain<M>, text: Text) {
-    let m = message(rt, chain.alloc(), text);
-    assert!(rt; chain.driver() == Driver::Line);
-    assert!(rt; m.class() == Class::Ordinary);
-    assert_eq!(rt; chain.line_put(m), Ok(()));
-}
-
-/// Whether any place is enabled, of both ends and of eight modules at each.
-fn any_enabled<M: ModuleOf>(chain: &Chain<M>) -> bool {
-    for end in [End::A, End::B] {
-        if chain.is_enabled(Place::Drv { end }) {
-            return true;
-        }
-        for i in 1..=8_u8 {
-            if chain.is_enabled(Place::Wr { end, i }) || chain.is_enabled(Place::Rd { end, i }) {
-                return true;
-            }
-        }
-    }
-    false
-}
-
-fn line_full<M: ModuleOf>(rt: &impl Abort, chain: &Chain<M>) -> bool {
-    assert!(rt; chain.driver() == Driver::Line);
-    chain.line_full(0)
-}
-
-/// A call that changes something.
-fn acts<M: ModuleOf>(rt: &impl Abort, chain: &mut Chain<M>, call: Call, at: usize) {
-    match call {
-        Call::Write(bytes) => delivers(rt, chain, TOP_A, Text::Data(0, bytes), Ok(()), at),
-        Call::Deliver(spot, text) => delivers(rt, chain, spot, text, Ok(()), at),
-        Call::DeliverFails(spot, text, fault) => delivers(rt, chain, spot, text, Err(fault), at),
-        Call::Comes(text) => comes(rt, chain, text),
-        Call::Serve(place) => serves(rt, chain, place, Ok(()), at),
-        Call::ServeFails(place, fault) => serves(rt, chain, place, Err(fault), at),
-        Call::Settle(want, looks) => settles(rt, chain, (want, looks), at),
-        Call::SettleFails(fault) => {
-            let refused = chain.settle().err();
-            assert_eq!(rt; refused, Some(fault), "call {at}");
-        }
-        Call::Take(text) => takes(rt, chain, text, at),
-        Call::Read(bytes) => takes(rt, chain, Text::Data(0, bytes), at),
-        _ => {}
-    }
-}
-
-/// A call that only looks.
-fn shows<M: ModuleOf>(rt: &impl Abort, chain: &Chain<M>, call: Call, at: usize) {
-    match call {
-        Call::May(place, want) => assert_eq!(rt; chain.may(place), want, "call {at}"),
-        Call::Enabled(place, want) => {
-            assert_eq!(rt; chain.is_enabled(place), want, "call {at}");
-        }
-        Call::NoneEnabled => assert!(rt; !any_enabled(chain), "call {at}"),
-        Call::HeadLen(end, want) => assert_eq!(rt; chain.head(end).len(), want, "call {at}"),
-        Call::HeadHeld(end, want) => assert_eq!(rt; chain.head(end).held(0), want, "call {at}"),
-        Call::FullAhead(want) => assert_eq!(rt; chain.full_ahead(End::A, 0), want, "call {at}"),
-        Call::LineFull(want) => assert_eq!(rt; line_full(rt, chain), want, "call {at}"),
-        _ => {}
-    }
+/// Pushes a module with a queue for each side that is named.
+fn push(rt: &impl Abort, chain: &mut Chain<Plain>, end: End, part: Part, queues: (bool, bool)) {
+    let shape = shape_of(rt, 1, part, queues);
+    assert!(rt; chain.insert(end, Instance::new(shape, Plain)).is_ok());
 }
 
 /// Makes calls in turn, counted from 0.
-fn play<M: ModuleOf>(rt: &impl Abort, chain: &mut Chain<M>, calls: &[Call]) {
+fn play<M: ModuleOf>(
+    rt: &impl Abort,
+    chain: &mut Chain<M>,
+    calls: &[Call],
+    (name, part): (&str, usize),
+) {
     for (at, call) in calls.iter().enumerate() {
-        acts(rt, chain, *call, at);
-        shows(rt, chain, *call, at);
+        let is_so = steps::acts(rt, chain, *call);
+        assert!(rt; is_so, "{name}: table {part}, call {at}");
     }
+}
+
+/// Makes the calls of a row on a new chain, and then these.
+fn play_row(rt: &impl Abort, alloc: Global, row: Row, last: &[Call]) {
+    let mut chain = chain_over(rt, alloc, row.driver, row.marks);
+    for (end, part, rd, wr) in row.modules {
+        push(rt, &mut chain, *end, *part, (*rd, *wr));
+    }
+    for (at, calls) in row.calls.iter().enumerate() {
+        play(rt, &mut chain, calls, (row.name, at));
+    }
+    play(rt, &mut chain, last, (row.name, row.calls.len()));
+}
+
+fn play_rows(rt: &impl Abort, alloc: Global, rows: &[Row]) {
+    for row in rows {
+        play_row(rt, alloc, *row, &[]);
+    }
+}
+
+#[test]
+fn each_row_is_answered(rt: HostRuntime) {
+    let alloc = rt.alloc();
+    play_rows(&rt, alloc, enabled::ROWS);
+    play_rows(&rt, alloc, faults::ROWS);
+    play_rows(&rt, alloc, flushes::ROWS);
+    flushes::play_written(&rt, alloc);
+    play_rows(&rt, alloc, ioctls::ROWS);
+    play_rows(&rt, alloc, lists::ROWS);
+    play_rows(&rt, alloc, rows::ROWS);
 }

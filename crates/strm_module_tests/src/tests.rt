@@ -357,21 +357,29 @@ const EQUAL: Option<(u32, u32)> = Some((4, 4));
 
 const TURNED: Option<(u32, u32)> = Some((4, 5));
 
+/// A name, marks, and the fault of a module with these.
+const FAULTS: &[(
+    &[u8],
+    Option<(u32, u32)>,
+    Option<(u32, u32)>,
+    Option<MakeFault>,
+)] = &[
+    (b"ninebytes", EQUAL, None, Some(MakeFault::Name)),
+    (b"ninebytes", None, None, Some(MakeFault::Name)),
+    (b"ninebytes", MARKS, MARKS, Some(MakeFault::Name)),
+    (b"eightbyt", None, None, None),
+    (b"eightbyt", MARKS, MARKS, None),
+    (b"eightbyt", MARKS, TURNED, Some(MakeFault::Marks)),
+    (b"", None, None, Some(MakeFault::Name)),
+    (b"a-b", None, EQUAL, Some(MakeFault::Name)),
+    (b"a", EQUAL, None, Some(MakeFault::Marks)),
+];
+
 #[test]
 fn faults_are_for_the_name_first(rt: HostRuntime) {
-    for (name, rd, wr, fault) in [
-        (b"ninebytes".as_slice(), EQUAL, None, Some(MakeFault::Name)),
-        (b"ninebytes", None, None, Some(MakeFault::Name)),
-        (b"ninebytes", MARKS, MARKS, Some(MakeFault::Name)),
-        (b"eightbyt", None, None, None),
-        (b"eightbyt", MARKS, MARKS, None),
-        (b"eightbyt", MARKS, TURNED, Some(MakeFault::Marks)),
-        (b"", None, None, Some(MakeFault::Name)),
-        (b"a-b", None, EQUAL, Some(MakeFault::Name)),
-        (b"a", EQUAL, None, Some(MakeFault::Marks)),
-    ] {
-        let made = Pass::new(1, name, rd, wr);
-        assert!(rt; made.err() == fault, "{name:?} {rd:?} {wr:?}");
+    for (at, (name, rd, wr, fault)) in FAULTS.iter().enumerate() {
+        let made = Pass::new(1, name, *rd, *wr);
+        assert!(rt; made.err() == *fault, "row {at}");
     }
 }
 
@@ -390,6 +398,15 @@ const NAME: &[u8] = b"A_z09";
 
 const OTHER: Option<(u32, u32)> = Some((16, 0));
 
+/// Whether a shape is the one that was asked for.
+fn is_asked_for(shape: &Shape, kind: &Kind) -> bool {
+    shape.serial == 9
+        && shape.name.as_slice() == NAME
+        && shape.rd == Marks::new(5, 4)
+        && shape.wr == Marks::new(16, 0)
+        && shape.kind == *kind
+}
+
 /// A new module has the shape that was asked for, and a copy of it is equal.
 fn has_shape<M: Module>(
     rt: &impl Abort,
@@ -399,11 +416,7 @@ fn has_shape<M: Module>(
 ) {
     let it = made(rt, new);
     let shape = it.shape();
-    assert_eq!(rt; shape.serial, 9);
-    assert_eq!(rt; shape.name.as_slice(), NAME);
-    assert_eq!(rt; shape.rd, Marks::new(5, 4));
-    assert_eq!(rt; shape.wr, Marks::new(16, 0));
-    assert_eq!(rt; shape.kind, kind);
+    assert!(rt; is_asked_for(shape, &kind), "the shape of a new module");
     let copy = shape.copy(alloc).expect(rt, "no memory for a shape");
     assert!(rt; copy == *shape, "a copy is equal");
 }

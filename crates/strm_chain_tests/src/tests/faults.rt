@@ -1,131 +1,175 @@
 //! Want of memory, as modules answer it, and chains that are broken.
-use super::Call::{DeliverFails, HeadLen, May, ServeFails, Settle, SettleFails, Write};
-use super::objects::{Boxes, Log, logged, new_log, push_told};
-use super::{Call, DRV_A, TOP_A, Text, WR_1, chain_over, made, play, push, shape_of};
-use std::alloc::Global;
-use std::process::Abort;
+use super::Call::{
+    BreakOff, Count, DeliverFails, HeadLen, Ids, IsBroken, IsDriver, IsOpen, May, Serial,
+    ServeFails, Settle, SettleFails, Write,
+};
+use super::objects::Ask::{Clear, Counted, Do, Push};
+use super::objects::{Ask, NO_QUEUE, Object, Story};
+use super::{Call, DRV_A, FIVE, Part, Row, TOP_A, Text, WR_1};
 use strm_chain::ChainFault::{Broken, NoMem};
 use strm_chain::Driver;
-use strm_module::Kind;
 use strm_msg::End;
 
 const X: Text = Text::Data(0, b"x");
 
-/// An echo under an object that refuses the put and the service of these numbers, and which counts
-/// in its shape. It has a queue on its way down if a service is refused.
-fn counting(rt: &impl Abort, alloc: Global, log: &Log, (put, serve): (u32, u32)) -> Boxes {
-    let mut chain = chain_over(rt, alloc, Driver::Echo);
-    let shape = shape_of(rt, 1, Kind::Count { n: 0 }, (false, serve > 0));
-    push_told(rt, &mut chain, log, (1, shape), (put, serve));
-    chain
-}
+/// Refuses its first put, and counts in its shape.
+const REFUSES_1: Object = Object {
+    part: Part::Count,
+    queues: (false, false),
+    refuses: (1, 0),
+};
 
-/// Whether the topmost module has counted this.
-fn has_counted(chain: &Boxes, n: u64) -> bool {
-    match chain.shape(End::A, 1) {
-        Some(shape) => shape.kind == Kind::Count { n },
-        None => false,
-    }
-}
+/// Refuses its second put.
+const REFUSES_2: Object = Object {
+    part: Part::Count,
+    queues: (false, false),
+    refuses: (2, 0),
+};
 
-const NOTHING_IS_CHANGED_REFUSED: [Call; 3] = [
-    DeliverFails(TOP_A, X, NoMem),
-    May(DRV_A, false),
-    HeadLen(End::A, 0),
+/// Has a queue on its way down, and refuses its first service.
+const REFUSES_SERVICE: Object = Object {
+    part: Part::Count,
+    queues: (false, true),
+    refuses: (0, 1),
+};
+
+// What a broken chain refuses, each without asking an object.
+const PUT: Ask = Do(DeliverFails(TOP_A, X, Broken));
+
+const SETTLE: Ask = Do(SettleFails(Broken));
+
+const PUT_HIGH: Ask = Do(DeliverFails(TOP_A, Text::High(b"h"), Broken));
+
+// The first put is refused before anything is changed, and the object is asked again. The driver's place
+// is looked at twice, before its move and when it is empty.
+const NOTHING_IS_CHANGED: &[(Ask, u64)] = &[
+    (Push(End::A, 1, 1, REFUSES_1), 0),
+    (Do(DeliverFails(TOP_A, X, NoMem)), 1),
+    (Do(May(DRV_A, false)), 1),
+    (Do(HeadLen(End::A, 0)), 1),
+    (Do(IsBroken(false)), 1),
+    (Counted(0), 1),
+    (Do(Write(b"x")), 11),
+    (Do(Settle(&[DRV_A], 2)), 111),
+    (Do(HeadLen(End::A, 1)), 111),
+    (Counted(1), 111),
 ];
 
-/// The first put is refused before anything is changed, and the object is asked again. The driver's place
-/// is looked at twice, before its move and when it is empty.
-#[test]
-fn nothing_is_changed(rt: HostRuntime) {
-    let log = new_log(&rt, rt.alloc());
-    let mut chain = counting(&rt, rt.alloc(), &log, (1, 0));
-    play(&rt, &mut chain, &NOTHING_IS_CHANGED_REFUSED);
-    assert!(rt; !chain.is_broken());
-    assert!(rt; has_counted(&chain, 0));
-    assert_eq!(rt; logged(&log), 1);
-    let taken = [Write(b"x"), Settle(&[DRV_A], 2), HeadLen(End::A, 1)];
-    play(&rt, &mut chain, &taken);
-    assert!(rt; has_counted(&chain, 1));
-    assert_eq!(rt; logged(&log), 111);
-}
+// The second put comes when the driver's message was taken from its list: the chain breaks. Its
+// modules are still taken out.
+const PUT_AFTER_A_CHANGE: &[(Ask, u64)] = &[
+    (Push(End::A, 1, 1, REFUSES_2), 0),
+    (Do(Write(b"x")), 1),
+    (SETTLE, 11),
+    (Do(IsBroken(true)), 11),
+    (PUT, 11),
+    (SETTLE, 11),
+    (PUT_HIGH, 11),
+    (Do(Count(End::A, 1)), 11),
+    (Clear(End::A, 1), 117),
+    (Do(IsBroken(true)), 117),
+];
 
-/// What a broken chain refuses, each without asking an object.
-const REFUSED: [Call; 3] = [
+// The message goes past the topmost module and is refused by the one below.
+const SECOND_PUT: &[(Ask, u64)] = &[
+    (Push(End::A, 1, 1, REFUSES_1), 0),
+    (Push(End::A, 2, 2, NO_QUEUE), 0),
+    (PUT, 21),
+    (Do(IsBroken(true)), 21),
+    (PUT, 21),
+    (SETTLE, 21),
+    (PUT_HIGH, 21),
+];
+
+// A service is refused when its message was taken from its queue.
+const SERVICE: &[(Ask, u64)] = &[
+    (Push(End::A, 1, 1, REFUSES_SERVICE), 0),
+    (Do(Write(b"x")), 1),
+    (Do(ServeFails(WR_1, Broken)), 14),
+    (Do(IsBroken(true)), 14),
+    (Counted(0), 14),
+    (PUT, 14),
+    (SETTLE, 14),
+    (PUT_HIGH, 14),
+];
+
+const SERVICE_BY_SETTLING: &[(Ask, u64)] = &[
+    (Push(End::A, 1, 1, REFUSES_SERVICE), 0),
+    (Do(Write(b"x")), 1),
+    (SETTLE, 14),
+    (Do(IsBroken(true)), 14),
+    (Counted(0), 14),
+    (PUT, 14),
+    (SETTLE, 14),
+    (PUT_HIGH, 14),
+];
+
+pub(super) const STORIES: &[Story<'static>] = &[
+    Story {
+        name: "nothing is changed",
+        driver: Driver::Echo,
+        asks: NOTHING_IS_CHANGED,
+        end: None,
+    },
+    Story {
+        name: "a put after a change breaks the chain",
+        driver: Driver::Echo,
+        asks: PUT_AFTER_A_CHANGE,
+        end: None,
+    },
+    Story {
+        name: "a second put breaks the chain",
+        driver: Driver::Echo,
+        asks: SECOND_PUT,
+        end: None,
+    },
+    Story {
+        name: "a service breaks the chain",
+        driver: Driver::Echo,
+        asks: SERVICE,
+        end: None,
+    },
+    Story {
+        name: "a service of settling breaks the chain",
+        driver: Driver::Echo,
+        asks: SERVICE_BY_SETTLING,
+        end: None,
+    },
+];
+
+const BROKEN_OFF: &[Call] = &[
+    Write(b"x"),
+    May(WR_1, true),
+    IsBroken(false),
+    BreakOff,
+    IsBroken(true),
     DeliverFails(TOP_A, X, Broken),
     SettleFails(Broken),
     DeliverFails(TOP_A, Text::High(b"h"), Broken),
+    ServeFails(WR_1, Broken),
+    May(WR_1, true),
+    IsDriver(Driver::Loop),
+    IsOpen(End::A, true),
+    Count(End::A, 1),
+    Ids(End::A, Some(1), None),
+    HeadLen(End::A, 0),
+    IsOpen(End::B, true),
+    Count(End::B, 0),
+    Ids(End::B, Some(1), None),
+    HeadLen(End::B, 0),
+    Serial(1, Some(1)),
 ];
 
-/// The second put comes when the driver's message was taken from its list: the chain breaks. Its
-/// modules are still taken out.
-#[test]
-fn put_after_a_change_breaks_the_chain(rt: HostRuntime) {
-    let log = new_log(&rt, rt.alloc());
-    let mut chain = counting(&rt, rt.alloc(), &log, (2, 0));
-    play(&rt, &mut chain, &[Write(b"x"), SettleFails(Broken)]);
-    assert!(rt; chain.is_broken());
-    assert_eq!(rt; logged(&log), 11);
-    play(&rt, &mut chain, &REFUSED);
-    assert_eq!(rt; logged(&log), 11);
-    assert_eq!(rt; chain.count(End::A), 1);
-    assert_eq!(rt; chain.dismantle(End::A).len(), 1);
-    assert_eq!(rt; logged(&log), 117);
-    assert!(rt; chain.is_broken());
-}
-
-/// The message goes past the topmost module and is refused by the one below.
-#[test]
-fn second_put_breaks_the_chain(rt: HostRuntime) {
-    let log = new_log(&rt, rt.alloc());
-    let mut chain = counting(&rt, rt.alloc(), &log, (1, 0));
-    let shape = shape_of(&rt, 2, Kind::Pass, (false, false));
-    push_told(&rt, &mut chain, &log, (2, shape), (0, 0));
-    play(&rt, &mut chain, &[DeliverFails(TOP_A, X, Broken)]);
-    assert!(rt; chain.is_broken());
-    play(&rt, &mut chain, &REFUSED);
-    assert_eq!(rt; logged(&log), 21);
-}
-
-/// A service is refused when its message was taken from its queue.
-#[test]
-fn service_breaks_the_chain(rt: HostRuntime) {
-    for call in [ServeFails(WR_1, Broken), SettleFails(Broken)] {
-        let log = new_log(&rt, rt.alloc());
-        let mut chain = counting(&rt, rt.alloc(), &log, (0, 1));
-        play(&rt, &mut chain, &[Write(b"x"), call]);
-        assert!(rt; chain.is_broken());
-        assert!(rt; has_counted(&chain, 0));
-        assert_eq!(rt; logged(&log), 14);
-        play(&rt, &mut chain, &REFUSED);
-        assert_eq!(rt; logged(&log), 14);
-    }
-}
-
-/// A chain that its owner breaks neither delivers nor serves, and shows what it has.
-#[test]
-fn broken_off_chain_shows_what_it_has(rt: HostRuntime) {
-    let mut chain = made(&rt, rt.alloc(), Driver::Loop);
-    push(&rt, &mut chain, End::A, Kind::Pass, (false, true));
-    play(&rt, &mut chain, &[Write(b"x"), May(WR_1, true)]);
-    assert!(rt; !chain.is_broken());
-    chain.break_off();
-    assert!(rt; chain.is_broken());
-    play(&rt, &mut chain, &REFUSED);
-    play(
-        &rt,
-        &mut chain,
-        &[ServeFails(WR_1, Broken), May(WR_1, true)],
-    );
-    assert!(rt; chain.driver() == Driver::Loop);
-    for (end, count) in [(End::A, 1), (End::B, 0)] {
-        assert!(rt; chain.is_open(end));
-        assert_eq!(rt; chain.count(end), count);
-        assert_eq!(rt; chain.state(end).next, Some(1));
-        assert_eq!(rt; chain.head(end).len(), 0);
-    }
-    assert_eq!(rt; chain.shape(End::A, 1).map(|s| s.serial), Some(1));
-}
+pub(super) const ROWS: &[Row] = &[
+    // A chain that its owner breaks neither delivers nor serves, and shows what it has.
+    Row {
+        name: "a chain that is broken off shows what it has",
+        driver: Driver::Loop,
+        marks: FIVE,
+        modules: &[(End::A, Part::Pass, false, true)],
+        calls: &[BROKEN_OFF],
+    },
+];
 
 #[test]
 fn faults_have_names_and_numbers(rt: HostRuntime) {

@@ -1,128 +1,187 @@
 //! Flushes, as they pass modules, drivers and heads.
-use super::Call::{Comes, Deliver};
-use super::{Text, deliver, made, play, push};
+use super::Call::{Comes, Deliver, Errs, HeadLen, Holds, May, Send};
+use super::{Call, DRV_A, FIVE, HEAD_A, Part, RD_1, RD_2, Row, TOP_A, Text, WR_1, WR_2, play_row};
 use std::alloc::Global;
 use std::process::Abort;
-use strm_chain::{Chain, Driver, Place, Spot};
-use strm_module::{Kind, Plain};
-use strm_msg::{End, Errno, Message};
+use strm_chain::{Driver, Place, Spot};
+use strm_msg::{End, Errno};
 
-/// The places of an end with two modules.
-fn places(end: End) -> [Place; 5] {
-    [
-        Place::Wr { end, i: 1 },
-        Place::Wr { end, i: 2 },
-        Place::Drv { end },
-        Place::Rd { end, i: 1 },
-        Place::Rd { end, i: 2 },
-    ]
-}
+const DOWN_2: Spot = Spot::Down { end: End::A, i: 2 };
 
-/// Two modules with queues on both sides, and a message of a band in each list of an end.
-fn fill(rt: &impl Abort, chain: &mut Chain<Plain>, end: End, band: u8) {
-    push(rt, chain, end, Kind::Pass, (true, true));
-    push(rt, chain, end, Kind::Pass, (true, true));
-    let x = Text::Data(band, b"x");
-    let lists = [
-        Deliver(Spot::Down { end, i: 1 }, x),
-        Deliver(Spot::Down { end, i: 2 }, x),
-        Deliver(Spot::Up { end, i: 1 }, x),
-        Deliver(Spot::Up { end, i: 2 }, x),
-        Deliver(Spot::Up { end, i: 0 }, x),
-    ];
-    play(rt, chain, &lists);
-    let driver = match chain.driver() {
-        Driver::Line => Comes(x),
-        _ => Deliver(Spot::Down { end, i: 3 }, x),
-    };
-    play(rt, chain, &[driver]);
-}
+const DOWN_3: Spot = Spot::Down { end: End::A, i: 3 };
 
-/// Which lists of an end hold a message: those of its places, and the head's.
-fn holds(chain: &Chain<Plain>, end: End) -> [bool; 6] {
-    let [wr_1, wr_2, drv, rd_1, rd_2] = places(end);
-    [
-        chain.may(wr_1),
-        chain.may(wr_2),
-        chain.may(drv),
-        chain.may(rd_1),
-        chain.may(rd_2),
-        chain.head(end).len() > 0,
-    ]
-}
+const UP_1: Spot = Spot::Up { end: End::A, i: 1 };
 
-/// A flush is written.
-fn flush(rt: &impl Abort, chain: &mut Chain<Plain>, end: End, m: Message) {
-    assert_eq!(rt; deliver(rt, chain, Spot::top(end), m), Ok(()));
-}
+const UP_2: Spot = Spot::Up { end: End::A, i: 2 };
 
-/// Which lists hold a message after a flush that was written.
-fn left(
-    rt: &impl Abort,
-    alloc: Global,
-    driver: Driver,
-    (r, w): (bool, bool),
-    band: Option<u8>,
-) -> [bool; 6] {
-    let mut chain = made(rt, alloc, driver);
-    fill(rt, &mut chain, End::A, 1);
-    assert_eq!(rt; holds(&chain, End::A), [true; 6]);
-    flush(rt, &mut chain, End::A, Message::of_flush(r, w, band));
-    holds(&chain, End::A)
-}
+const UP_3: Spot = Spot::Up { end: End::A, i: 3 };
 
-/// Written with FLUSHW it empties the write queues, and the list of an echo or a loop. With FLUSHR
-/// it empties the read queues on its way down, and the list of a line, and is sent up, where it
-/// empties the head's list. One of another band leaves all.
-#[test]
-fn flush_is_written(rt: HostRuntime) {
-    let alloc = rt.alloc();
-    for driver in [Driver::Echo, Driver::Loop, Driver::Line] {
-        let is_line = driver == Driver::Line;
-        assert_eq!(rt; left(&rt, alloc, driver, (true, true), None), [false; 6]);
-        assert_eq!(rt; left(&rt, alloc, driver, (true, true), Some(1)), [false; 6]);
-        assert_eq!(rt; left(&rt, alloc, driver, (true, true), Some(0)), [true; 6]);
-        assert_eq!(rt;
-            left(&rt, alloc, driver, (false, true), None),
-            [false, false, is_line, true, true, true]
-        );
-        assert_eq!(rt;
-            left(&rt, alloc, driver, (true, false), None),
-            [true, true, !is_line, false, false, false]
-        );
-        assert_eq!(rt; left(&rt, alloc, driver, (false, false), None), [true; 6]);
+/// A module of end A with a queue on both sides.
+const AT_A: (End, Part, bool, bool) = (End::A, Part::Pass, true, true);
+
+const AT_B: (End, Part, bool, bool) = (End::B, Part::Pass, true, true);
+
+/// Data of band 1.
+const X: Text = Text::Data(1, b"x");
+
+const ALL: [bool; 6] = [true; 6];
+
+const NONE: [bool; 6] = [false; 6];
+
+// What FLUSHW leaves in an end with an echo or a loop, and with a line: what was on its way up.
+const UP: [bool; 6] = [false, false, false, true, true, true];
+
+const UP_AND_LINE: [bool; 6] = [false, false, true, true, true, true];
+
+// What FLUSHR leaves.
+const DOWN: [bool; 6] = [true, true, true, false, false, false];
+
+const DOWN_BUT_LINE: [bool; 6] = [true, true, false, false, false, false];
+
+// A message in each list of an end with two modules, but for that of the driver.
+const MODULES_ARE_FILLED: &[Call] = &[
+    Deliver(TOP_A, X),
+    Deliver(DOWN_2, X),
+    Deliver(UP_1, X),
+    Deliver(UP_2, X),
+    Deliver(HEAD_A, X),
+];
+
+// And in that of the driver.
+const FILLED: &[&[Call]] = &[
+    MODULES_ARE_FILLED,
+    &[Deliver(DOWN_3, X), Holds(End::A, 1, ALL)],
+];
+
+const LINE_IS_FILLED: &[&[Call]] = &[MODULES_ARE_FILLED, &[Comes(X), Holds(End::A, 1, ALL)]];
+
+const RW: Text = Text::Flush(true, true, None);
+
+const RW_OF_0: Text = Text::Flush(true, true, Some(0));
+
+const RW_OF_1: Text = Text::Flush(true, true, Some(1));
+
+const W: Text = Text::Flush(false, true, None);
+
+const R: Text = Text::Flush(true, false, None);
+
+const NEITHER: Text = Text::Flush(false, false, None);
+
+/// Each driver, a flush that is written at end A, and which lists hold their message then, which is of
+/// band 1.
+///
+/// With FLUSHW it empties the write queues, and the list of an echo or a loop. With FLUSHR it empties the
+/// read queues on its way down, and the list of a line, and is sent up, where it empties the head's
+/// list. One of another band leaves all.
+const WRITTEN: &[(&str, Driver, Text, [bool; 6])] = &[
+    ("an echo is flushed", Driver::Echo, RW, NONE),
+    ("band 1 of an echo", Driver::Echo, RW_OF_1, NONE),
+    ("band 0 of an echo", Driver::Echo, RW_OF_0, ALL),
+    ("the write side of an echo", Driver::Echo, W, UP),
+    ("the read side of an echo", Driver::Echo, R, DOWN),
+    ("neither side of an echo", Driver::Echo, NEITHER, ALL),
+    ("a loop is flushed", Driver::Loop, RW, NONE),
+    ("band 1 of a loop", Driver::Loop, RW_OF_1, NONE),
+    ("band 0 of a loop", Driver::Loop, RW_OF_0, ALL),
+    ("the write side of a loop", Driver::Loop, W, UP),
+    ("the read side of a loop", Driver::Loop, R, DOWN),
+    ("neither side of a loop", Driver::Loop, NEITHER, ALL),
+    ("a line is flushed", Driver::Line, RW, NONE),
+    ("band 1 of a line", Driver::Line, RW_OF_1, NONE),
+    ("band 0 of a line", Driver::Line, RW_OF_0, ALL),
+    ("the write side of a line", Driver::Line, W, UP_AND_LINE),
+    ("the read side of a line", Driver::Line, R, DOWN_BUT_LINE),
+    ("neither side of a line", Driver::Line, NEITHER, ALL),
+];
+
+/// Writes each flush at an end whose lists all hold a message.
+pub(super) fn play_written(rt: &impl Abort, alloc: Global) {
+    for (name, driver, flush, left) in WRITTEN {
+        let calls = match driver {
+            Driver::Line => LINE_IS_FILLED,
+            _ => FILLED,
+        };
+        let row = Row {
+            name: *name,
+            driver: *driver,
+            marks: FIVE,
+            modules: &[AT_A, AT_A],
+            calls,
+        };
+        let flushed = [Send(End::A, *flush), Holds(End::A, 1, *left)];
+        play_row(rt, alloc, row, &flushed);
     }
 }
 
-/// The far end of a loop keeps what it has: the driver's answer goes up the end that it came down.
-#[test]
-fn flush_stays_on_its_end(rt: HostRuntime) {
-    let mut chain = made(&rt, rt.alloc(), Driver::Loop);
-    fill(&rt, &mut chain, End::A, 0);
-    fill(&rt, &mut chain, End::B, 0);
-    flush(&rt, &mut chain, End::B, Message::of_flush(true, true, None));
-    assert_eq!(rt; holds(&chain, End::A), [true; 6]);
-    assert_eq!(rt; holds(&chain, End::B), [false; 6]);
-}
+/// Data of band 0.
+const Y: Text = Text::Data(0, b"x");
 
-/// The head keeps the error and flushes all queues: its flush goes down past the modules to the
-/// line, whose list it empties, and comes back up to empty the head's list.
-#[test]
-fn error_flushes_all(rt: HostRuntime) {
-    let mut chain = made(&rt, rt.alloc(), Driver::Line);
-    fill(&rt, &mut chain, End::A, 3);
-    push(&rt, &mut chain, End::A, Kind::Mute, (false, false));
-    let up = Spot::Up { end: End::A, i: 3 };
-    let error = Message::of_error(Errno::EPROTO);
-    assert_eq!(rt; deliver(&rt, &mut chain, up, error), Ok(()));
-    assert_eq!(rt; chain.state(End::A).errno, Some(Errno::EPROTO));
-    for i in [1, 2, 3] {
-        assert!(rt; !chain.may(Place::Wr { end: End::A, i }));
-        assert!(rt; !chain.may(Place::Rd { end: End::A, i }));
-    }
-    assert!(rt; !chain.may(Place::Drv { end: End::A }));
-    assert_eq!(rt; chain.head(End::A).len(), 0);
-    let error = Message::of_error(Errno::EIO);
-    assert_eq!(rt; deliver(&rt, &mut chain, up, error), Ok(()));
-    assert_eq!(rt; chain.state(End::A).errno, Some(Errno::EIO));
-}
+const BOTH_ENDS_ARE_FILLED: &[Call] = &[
+    Deliver(TOP_A, Y),
+    Deliver(DOWN_2, Y),
+    Deliver(UP_1, Y),
+    Deliver(UP_2, Y),
+    Deliver(HEAD_A, Y),
+    Deliver(DOWN_3, Y),
+    Deliver(Spot::Down { end: End::B, i: 1 }, Y),
+    Deliver(Spot::Down { end: End::B, i: 2 }, Y),
+    Deliver(Spot::Up { end: End::B, i: 1 }, Y),
+    Deliver(Spot::Up { end: End::B, i: 2 }, Y),
+    Deliver(Spot::Up { end: End::B, i: 0 }, Y),
+    Deliver(Spot::Down { end: End::B, i: 3 }, Y),
+];
+
+const END_B_IS_FLUSHED: &[Call] = &[
+    Send(End::B, RW),
+    Holds(End::A, 1, ALL),
+    Holds(End::B, 1, NONE),
+];
+
+/// Data of band 3.
+const Z: Text = Text::Data(3, b"x");
+
+// Below a module without queues, which is the first.
+const LINE_IS_FILLED_BELOW: &[Call] = &[
+    Deliver(DOWN_2, Z),
+    Deliver(DOWN_3, Z),
+    Deliver(UP_2, Z),
+    Deliver(UP_3, Z),
+    Deliver(HEAD_A, Z),
+    Comes(Z),
+    Holds(End::A, 2, ALL),
+];
+
+const ERRORS_COME: &[Call] = &[
+    Deliver(UP_3, Text::Error(Errno::EPROTO)),
+    Errs(End::A, Some(Errno::EPROTO)),
+    May(WR_1, false),
+    May(RD_1, false),
+    May(WR_2, false),
+    May(RD_2, false),
+    May(Place::Wr { end: End::A, i: 3 }, false),
+    May(Place::Rd { end: End::A, i: 3 }, false),
+    May(DRV_A, false),
+    HeadLen(End::A, 0),
+    Deliver(UP_3, Text::Error(Errno::EIO)),
+    Errs(End::A, Some(Errno::EIO)),
+];
+
+pub(super) const ROWS: &[Row] = &[
+    // The far end of a loop keeps what it has: the driver's answer goes up the end that it came down.
+    Row {
+        name: "a flush stays on its end",
+        driver: Driver::Loop,
+        marks: FIVE,
+        modules: &[AT_A, AT_A, AT_B, AT_B],
+        calls: &[BOTH_ENDS_ARE_FILLED, END_B_IS_FLUSHED],
+    },
+    // The head keeps the error and flushes all queues: its flush goes down past the modules to the
+    // line, whose list it empties, and comes back up to empty the head's list.
+    Row {
+        name: "an error flushes all",
+        driver: Driver::Line,
+        marks: FIVE,
+        modules: &[AT_A, AT_A, (End::A, Part::Mute, false, false)],
+        calls: &[LINE_IS_FILLED_BELOW, ERRORS_COME],
+    },
+];

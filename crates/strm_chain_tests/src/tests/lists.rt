@@ -1,37 +1,46 @@
 //! What a chain shows of itself: its spots, its modes and its moves.
-use super::{DRV_A, made, push};
+use super::Call::{Count, Errs, HasSpot, Hung, Mode, SetMode};
+use super::{Call, DRV_A, FIVE, Part, Row};
 use strm_chain::{Driver, Moves, Spot};
-use strm_module::Kind;
 use strm_msg::{End, Prot, ReadMode};
 
-#[test]
-fn reads_as_it_was_set(rt: HostRuntime) {
-    let mut chain = made(&rt, rt.alloc(), Driver::Loop);
-    chain.set_mode(End::B, ReadMode::Rmsgd, Prot::Dis);
-    let state = chain.state(End::B);
-    assert_eq!(rt; (state.mode, state.prot), (ReadMode::Rmsgd, Prot::Dis));
-    let state = chain.state(End::A);
-    assert_eq!(rt; (state.mode, state.prot), (ReadMode::Rnorm, Prot::Norm));
-    assert_eq!(rt; (state.hung, state.errno), (false, None));
-}
+const READS_AS_IT_WAS_SET: &[Call] = &[
+    SetMode(End::B, ReadMode::Rmsgd, Prot::Dis),
+    Mode(End::B, ReadMode::Rmsgd, Prot::Dis),
+    Mode(End::A, ReadMode::Rnorm, Prot::Norm),
+    Hung(End::A, false),
+    Errs(End::A, None),
+];
 
-/// With one module there are the spots 1 and 2 down, and 0 and 1 up.
-#[test]
-fn end_has_its_spots(rt: HostRuntime) {
-    let mut chain = made(&rt, rt.alloc(), Driver::Line);
-    push(&rt, &mut chain, End::A, Kind::Pass, (false, false));
-    assert_eq!(rt; chain.count(End::A), 1);
-    let end = End::A;
-    for (i, down, up) in [
-        (0, false, true),
-        (1, true, true),
-        (2, true, false),
-        (3, false, false),
-    ] {
-        assert_eq!(rt; chain.has_spot(Spot::Down { end, i }), down, "down {i}");
-        assert_eq!(rt; chain.has_spot(Spot::Up { end, i }), up, "up {i}");
-    }
-}
+// With one module there are the spots 1 and 2 down, and 0 and 1 up.
+const END_HAS_ITS_SPOTS: &[Call] = &[
+    Count(End::A, 1),
+    HasSpot(Spot::Down { end: End::A, i: 0 }, false),
+    HasSpot(Spot::Up { end: End::A, i: 0 }, true),
+    HasSpot(Spot::Down { end: End::A, i: 1 }, true),
+    HasSpot(Spot::Up { end: End::A, i: 1 }, true),
+    HasSpot(Spot::Down { end: End::A, i: 2 }, true),
+    HasSpot(Spot::Up { end: End::A, i: 2 }, false),
+    HasSpot(Spot::Down { end: End::A, i: 3 }, false),
+    HasSpot(Spot::Up { end: End::A, i: 3 }, false),
+];
+
+pub(super) const ROWS: &[Row] = &[
+    Row {
+        name: "an end reads as it was set",
+        driver: Driver::Loop,
+        marks: FIVE,
+        modules: &[],
+        calls: &[READS_AS_IT_WAS_SET],
+    },
+    Row {
+        name: "an end has its spots",
+        driver: Driver::Line,
+        marks: FIVE,
+        modules: &[(End::A, Part::Pass, false, false)],
+        calls: &[END_HAS_ITS_SPOTS],
+    },
+];
 
 #[test]
 fn moves_are_a_list(rt: HostRuntime) {

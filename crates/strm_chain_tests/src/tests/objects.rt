@@ -1,17 +1,21 @@
 //! Objects that can be told apart: which of them is asked, and which comes back.
 use super::Call::{Deliver, HeadLen, Serve, Settle, Write};
-use super::{Call, DRV_A, RD_1, RD_2, Text, WR_1, WR_2, acts, chain_over, shape_of, shows};
+use super::{
+    Call, DRV_A, FIVE, Part, RD_1, RD_2, Text, WR_1, WR_2, chain_over, faults, owners, shape_of,
+    steps,
+};
+use Ask::{Dismantle, Do, Push, Remove};
 use std::alloc::Global;
 use std::process::Abort;
 use std::sync::Arc;
 use std::sync::atomic::{AtomicU64, Ordering};
 use strm_chain::{Chain, Driver, Spot};
-use strm_module::{Instance, Kind, Module, Outs, Put, Shape};
+use strm_module::{Instance, Kind, Module, Outs, Pass, Put, Shape};
 use strm_msg::{End, Message, NoMem, Side};
 
 /// What was asked of the objects 1 to 3, in order, a digit for each call: the object's number where
 /// a message was put to it, 3 more where it served one, and 6 more where it was closed.
-pub(super) type Log = Arc<AtomicU64, Global>;
+type Log = Arc<AtomicU64, Global>;
 
 const PUT: u64 = 0;
 
@@ -19,7 +23,7 @@ const SERVED: u64 = 3;
 
 const CLOSED: u64 = 6;
 
-pub(super) type Boxes = Chain<Box<dyn Module>>;
+type Boxes = Chain<Box<dyn Module>>;
 
 /// Acts by its shape and writes what it is asked on the log, but refuses the put and the service of
 /// these numbers, counted from 1.
@@ -88,144 +92,350 @@ impl Module for Told {
     }
 }
 
-pub(super) fn new_log(rt: &impl Abort, alloc: Global) -> Log {
+/// An object, in a module of a kind with these queues on its read side and on its write side.
+#[derive(Clone, Copy, Drop)]
+pub(super) struct Object {
+    pub(super) part: Part,
+    pub(super) queues: (bool, bool),
+    /// The put and the service that it refuses, counted from 1.
+    pub(super) refuses: (u32, u32),
+}
+
+/// A step, and what must come of it.
+#[derive(Clone, Copy, Drop)]
+pub(super) enum Ask {
+    Do(Call),
+    /// An object is put in at an end: its module's serial, and its number.
+    Push(End, u64, u64, Object),
+    /// An object is handed back by an end, still open, and is dropped.
+    Refused(End, u64, u64, Object),
+    /// An object of another type, which passes everything on, is put in at end A in a module of this serial.
+    PushPass(u64),
+    /// The topmost module of end A has counted this.
+    Counted(u64),
+    /// The topmost module of end A comes out, of this serial; its object is taken out of it and dropped.
+    Remove(u64),
+    /// The topmost module of end A comes out, of this serial and of the kind `Pass`, and is dropped.
+    RemovePass(u64),
+    /// So many modules of an end come out, with nothing closed, and are dropped.
+    Clear(End, usize),
+    /// The modules of end A come out, with nothing closed: the serial of each, and what stands on the log
+    /// once its object is dropped.
+    Dismantle(&'static [(u64, u64)]),
+}
+
+/// A worked example: steps on a new chain, and what stands on the log after each. In the end the chain
+/// is dropped, and this stands there.
+#[derive(Clone, Copy, Drop)]
+pub(super) struct Story<'a> {
+    pub(super) name: &'a str,
+    pub(super) driver: Driver,
+    pub(super) asks: &'a [(Ask, u64)],
+    pub(super) end: Option<u64>,
+}
+
+fn new_log(rt: &impl Abort, alloc: Global) -> Log {
     Arc::new(alloc, AtomicU64::new(0)).expect(rt, "no memory for a log")
 }
 
 /// What stands on the log.
-pub(super) fn logged(log: &Log) -> u64 {
+fn logged(log: &Log) -> u64 {
     log.load(Ordering::SeqCst)
 }
 
-/// Pushes the object of this number in a box, with its number as the module's serial. It refuses the
-/// put and the service of these numbers.
-pub(super) fn push_told(
+/// A module in a box, with the object of a number.
+fn with_object(
     rt: &impl Abort,
-    chain: &mut Boxes,
+    alloc: Global,
     log: &Log,
-    (number, shape): (u64, Shape),
-    (refused_put, refused_serve): (u32, u32),
-) {
+    (serial, number): (u64, u64),
+    object: Object,
+) -> Instance<Box<dyn Module>> {
+    let (refused_put, refused_serve) = object.refuses;
     let told = Told {
         number,
         log: Arc::try_clone(log).expect(rt, "the log has few owners"),
         refused_put,
         refused_serve,
     };
-    let object: Box<dyn Module> = Box::new(chain.alloc(), told).expect(rt, "no memory for a box");
-    assert!(rt; chain.insert(End::A, Instance::new(shape, object)).is_ok());
+    let boxed: Box<dyn Module> = Box::new(alloc, told).expect(rt, "no memory for a box");
+    Instance::new(shape_of(rt, serial, object.part, object.queues), boxed)
 }
 
-/// Modules 1 up to `most` over an echo, the greatest topmost, each with these queues.
-fn stack(rt: &impl Abort, log: &Log, alloc: Global, most: u64, queues: bool) -> Boxes {
-    let mut chain = chain_over(rt, alloc, Driver::Echo);
-    for number in 1..=most {
-        let shape = shape_of(rt, number, Kind::Pass, (queues, queues));
-        push_told(rt, &mut chain, log, (number, shape), (0, 0));
+/// A module that passes everything on, with a queue on its way down.
+fn passing(rt: &impl Abort, alloc: Global, serial: u64) -> Instance<Box<dyn Module>> {
+    let pass = Pass::new(serial, b"pass", None, Some(FIVE)).expect(rt, "a good name");
+    let shape = pass.shape().copy(alloc).expect(rt, "no memory for a shape");
+    let boxed: Box<dyn Module> = Box::new(alloc, pass.into_object()).expect(
+        rt,
+        "no memory for a box",
+    );
+    Instance::new(shape, boxed)
+}
+
+/// Hands a module in that comes back, with nothing closed.
+fn comes_back(
+    chain: &mut Boxes,
+    log: &Log,
+    end: End,
+    serial: u64,
+    instance: Instance<Box<dyn Module>>,
+) -> bool {
+    let before = logged(log);
+    match chain.insert(end, instance) {
+        Ok(()) => false,
+        Err(back) => back.shape().serial == serial && logged(log) == before,
     }
-    chain
 }
 
-/// Makes calls in turn, and looks at the log after each.
-fn asks(rt: &impl Abort, chain: &mut Boxes, log: &Log, rows: &[(Call, u64)]) {
-    for (at, row) in rows.iter().enumerate() {
-        let (call, want) = *row;
-        acts(rt, chain, call, at);
-        shows(rt, chain, call, at);
-        assert_eq!(rt; logged(log), want, "call {at}");
+/// Whether the topmost module has counted this.
+fn has_counted(chain: &Boxes, n: u64) -> bool {
+    match chain.shape(End::A, 1) {
+        Some(shape) => shape.kind == Kind::Count { n },
+        None => false,
     }
 }
 
-const EACH_QUEUE_IS_SERVED_BY_ITS_OBJECT: [(Call, u64); 7] = [
-    (Write(b"x"), 2),
-    (Serve(WR_1), 251),
-    (Serve(WR_2), 2514),
-    (Serve(DRV_A), 25141),
-    (Serve(RD_2), 2514142),
-    (Serve(RD_1), 25141425),
-    (HeadLen(End::A, 1), 25141425),
+/// Whether this is the module of a serial, with nothing closed since.
+fn is_whole(log: &Log, before: u64, instance: &Instance<Box<dyn Module>>, serial: u64) -> bool {
+    instance.shape().serial == serial && logged(log) == before
+}
+
+/// The topmost comes out, and its object is dropped.
+fn removes(chain: &mut Boxes, log: &Log, serial: u64) -> bool {
+    let before = logged(log);
+    match chain.remove(End::A) {
+        Some(instance) => {
+            let is_so = is_whole(log, before, &instance, serial);
+            drop(instance.into_object());
+            is_so
+        }
+        None => false,
+    }
+}
+
+/// The topmost comes out, and is dropped.
+fn removes_pass(chain: &mut Boxes, log: &Log, serial: u64) -> bool {
+    let before = logged(log);
+    match chain.remove(End::A) {
+        Some(instance) => {
+            is_whole(log, before, &instance, serial) && instance.shape().kind == Kind::Pass
+        }
+        None => false,
+    }
+}
+
+/// All come out, and are dropped.
+fn clears(chain: &mut Boxes, log: &Log, end: End, want: usize) -> bool {
+    let before = logged(log);
+    let instances = chain.dismantle(end);
+    instances.len() == want && logged(log) == before
+}
+
+/// A module that came out is the one of this serial, and its object is dropped.
+fn closes(
+    log: &Log,
+    instance: Option<Instance<Box<dyn Module>>>,
+    (serial, want): (u64, u64),
+) -> bool {
+    match instance {
+        Some(instance) => {
+            let is_so = instance.shape().serial == serial;
+            drop(instance.into_object());
+            is_so && logged(log) == want
+        }
+        None => false,
+    }
+}
+
+/// All come out, and are dropped one after the other.
+fn dismantles(rt: &impl Abort, chain: &mut Boxes, log: &Log, wants: &[(u64, u64)]) -> bool {
+    let before = logged(log);
+    let instances = chain.dismantle(End::A);
+    let is_so = instances.len() == wants.len() && logged(log) == before;
+    for (instance, want) in instances.into_iter().zip(wants.iter()) {
+        assert!(rt; closes(log, instance, *want));
+    }
+    is_so
+}
+
+/// Does a step, and says whether it came to what it must.
+fn asks(rt: &impl Abort, chain: &mut Boxes, log: &Log, ask: Ask) -> bool {
+    let alloc = chain.alloc();
+    match ask {
+        Ask::Do(call) => steps::acts(rt, chain, call),
+        Ask::Push(end, serial, number, object) => {
+            let instance = with_object(rt, alloc, log, (serial, number), object);
+            chain.insert(end, instance).is_ok()
+        }
+        Ask::Refused(end, serial, number, object) => {
+            let instance = with_object(rt, alloc, log, (serial, number), object);
+            comes_back(chain, log, end, serial, instance)
+        }
+        Ask::PushPass(serial) => chain.insert(End::A, passing(rt, alloc, serial)).is_ok(),
+        Ask::Counted(n) => has_counted(chain, n),
+        Ask::Remove(serial) => removes(chain, log, serial),
+        Ask::RemovePass(serial) => removes_pass(chain, log, serial),
+        Ask::Clear(end, want) => clears(chain, log, end, want),
+        Ask::Dismantle(wants) => dismantles(rt, chain, log, wants),
+    }
+}
+
+/// Does steps in turn, and looks at the log after each.
+fn tell(rt: &impl Abort, chain: &mut Boxes, log: &Log, name: &str, rows: &[(Ask, u64)]) {
+    for (at, (ask, want)) in rows.iter().enumerate() {
+        let is_so = asks(rt, chain, log, *ask);
+        assert!(rt; is_so, "{name}: step {at}");
+        assert_eq!(rt; logged(log), *want, "{name}: the log after step {at}");
+    }
+}
+
+fn tell_story(rt: &impl Abort, alloc: Global, story: Story<'_>) {
+    let log = new_log(rt, alloc);
+    let mut chain = chain_over(rt, alloc, story.driver, FIVE);
+    tell(rt, &mut chain, &log, story.name, story.asks);
+    drop(chain);
+    let want = story.end.unwrap_or(logged(&log));
+    assert_eq!(rt; logged(&log), want, "{}: the log in the end", story.name);
+}
+
+pub(super) fn tell_stories(rt: &impl Abort, alloc: Global, stories: &[Story<'_>]) {
+    for story in stories {
+        tell_story(rt, alloc, *story);
+    }
+}
+
+/// Passes everything on, without a queue.
+pub(super) const NO_QUEUE: Object = Object {
+    part: Part::Pass,
+    queues: (false, false),
+    refuses: (0, 0),
+};
+
+/// Passes everything on, with a queue on both sides.
+const TWO_QUEUES: Object = Object {
+    part: Part::Pass,
+    queues: (true, true),
+    refuses: (0, 0),
+};
+
+// A message goes down through the queues of 2 and then 1, and up through those of 1 and then 2.
+const EACH_QUEUE_IS_SERVED_BY_ITS_OBJECT: &[(Ask, u64)] = &[
+    (Push(End::A, 1, 1, TWO_QUEUES), 0),
+    (Push(End::A, 2, 2, TWO_QUEUES), 0),
+    (Do(Write(b"x")), 2),
+    (Do(Serve(WR_1)), 251),
+    (Do(Serve(WR_2)), 2514),
+    (Do(Serve(DRV_A)), 25141),
+    (Do(Serve(RD_2)), 2514142),
+    (Do(Serve(RD_1)), 25141425),
+    (Do(HeadLen(End::A, 1)), 25141425),
 ];
 
-/// A message goes down through the queues of 2 and then 1, and up through those of 1 and then 2.
-#[test]
-fn each_queue_is_served_by_its_object(rt: HostRuntime) {
-    let alloc = rt.alloc();
-    let log = new_log(&rt, alloc);
-    let mut chain = stack(&rt, &log, alloc, 2, true);
-    asks(&rt, &mut chain, &log, &EACH_QUEUE_IS_SERVED_BY_ITS_OBJECT);
-}
-
-const EACH_MESSAGE_IS_PUT_TO_ITS_OBJECTS: [(Call, u64); 5] = [
+// What is handed in below the topmost of three goes down past 2 and 1, and up past 1, 2 and 3. What
+// is handed in from below to the second goes up past 2 and 3. The only queue is the driver's: its place
+// is looked at before its move and when it is empty.
+const EACH_MESSAGE_IS_PUT_TO_ITS_OBJECTS: &[(Ask, u64)] = &[
+    (Push(End::A, 1, 1, NO_QUEUE), 0),
+    (Push(End::A, 2, 2, NO_QUEUE), 0),
+    (Push(End::A, 3, 3, NO_QUEUE), 0),
     (
-        Deliver(Spot::Down { end: End::A, i: 2 }, Text::Data(0, b"x")),
+        Do(Deliver(Spot::Down { end: End::A, i: 2 }, Text::Data(0, b"x"))),
         21,
     ),
-    (Settle(&[DRV_A], 2), 21123),
+    (Do(Settle(&[DRV_A], 2)), 21123),
     (
-        Deliver(Spot::Up { end: End::A, i: 2 }, Text::Data(0, b"y")),
+        Do(Deliver(Spot::Up { end: End::A, i: 2 }, Text::Data(0, b"y"))),
         2112323,
     ),
     (
-        Deliver(Spot::Down { end: End::A, i: 3 }, Text::High(b"h")),
+        Do(Deliver(Spot::Down { end: End::A, i: 3 }, Text::High(b"h"))),
         21123231123,
     ),
-    (HeadLen(End::A, 3), 21123231123),
+    (Do(HeadLen(End::A, 3)), 21123231123),
 ];
 
-/// What is handed in below the topmost of three goes down past 2 and 1, and up past 1, 2 and 3. What
-/// is handed in from below to the second goes up past 2 and 3. The only queue is the driver's: its place
-/// is looked at before its move and when it is empty.
+// The topmost comes out first. Objects that are taken out of their instances are closed by that.
+const REMOVED_OBJECTS_ARE_THE_TOPMOST: &[(Ask, u64)] = &[
+    (Push(End::A, 1, 1, TWO_QUEUES), 0),
+    (Push(End::A, 2, 2, TWO_QUEUES), 0),
+    (Push(End::A, 3, 3, TWO_QUEUES), 0),
+    (Remove(3), 9),
+    (Remove(2), 98),
+    (Remove(1), 987),
+    (Do(Call::Remove(None)), 987),
+];
+
+// All come out at once, topmost first, each with its object, and nothing is closed before.
+const DISMANTLED_OBJECTS_COME_TOPMOST_FIRST: &[(Ask, u64)] = &[
+    (Push(End::A, 1, 1, TWO_QUEUES), 0),
+    (Push(End::A, 2, 2, TWO_QUEUES), 0),
+    (Push(End::A, 3, 3, TWO_QUEUES), 0),
+    (Dismantle(&[(3, 9), (2, 98), (1, 987)]), 987),
+];
+
+const STORIES: &[Story<'static>] = &[
+    Story {
+        name: "each queue is served by its object",
+        driver: Driver::Echo,
+        asks: EACH_QUEUE_IS_SERVED_BY_ITS_OBJECT,
+        end: None,
+    },
+    Story {
+        name: "each message is put to its objects",
+        driver: Driver::Echo,
+        asks: EACH_MESSAGE_IS_PUT_TO_ITS_OBJECTS,
+        end: None,
+    },
+    Story {
+        name: "removed objects are the topmost",
+        driver: Driver::Echo,
+        asks: REMOVED_OBJECTS_ARE_THE_TOPMOST,
+        end: None,
+    },
+    Story {
+        name: "dismantled objects come topmost first",
+        driver: Driver::Echo,
+        asks: DISMANTLED_OBJECTS_COME_TOPMOST_FIRST,
+        end: None,
+    },
+];
+
 #[test]
-fn each_message_is_put_to_its_objects(rt: HostRuntime) {
+fn each_story_goes_as_told(rt: HostRuntime) {
     let alloc = rt.alloc();
-    let log = new_log(&rt, alloc);
-    let mut chain = stack(&rt, &log, alloc, 3, false);
-    asks(&rt, &mut chain, &log, &EACH_MESSAGE_IS_PUT_TO_ITS_OBJECTS);
+    tell_stories(&rt, alloc, STORIES);
+    tell_stories(&rt, alloc, faults::STORIES);
+    tell_stories(&rt, alloc, owners::STORIES);
 }
 
-/// The topmost comes out first. Objects that are taken out of their instances are closed by that.
-#[test]
-fn removed_objects_are_the_topmost(rt: HostRuntime) {
-    let alloc = rt.alloc();
-    let log = new_log(&rt, alloc);
-    let mut chain = stack(&rt, &log, alloc, 3, true);
-    for (serial, want) in [(3, 9), (2, 98), (1, 987)] {
-        let removed = chain.remove(End::A).expect(&rt, "a module");
-        assert_eq!(rt; removed.shape().serial, serial);
-        drop(removed.into_object());
-        assert_eq!(rt; logged(&log), want);
-    }
-    assert!(rt; chain.remove(End::A).is_none());
-}
+// The object that came back is asked, and no other, once its module stands in another chain.
+const TWO_ARE_PUT_IN: &[(Ask, u64)] = &[
+    (Push(End::A, 1, 1, NO_QUEUE), 0),
+    (Push(End::A, 2, 2, NO_QUEUE), 0),
+];
 
-/// All come out at once, topmost first, each with its object, and nothing is closed before.
-#[test]
-fn dismantled_objects_come_topmost_first(rt: HostRuntime) {
-    let alloc = rt.alloc();
-    let log = new_log(&rt, alloc);
-    let mut chain = stack(&rt, &log, alloc, 3, true);
-    let instances = chain.dismantle(End::A);
-    assert_eq!(rt; (instances.len(), logged(&log)), (3, 0));
-    let mut serial: u64 = 3;
-    for instance in instances {
-        let instance = instance.expect(&rt, "a module");
-        assert_eq!(rt; instance.shape().serial, serial);
-        drop(instance.into_object());
-        assert_eq!(rt; logged(&log) % 10, serial.saturating_add(CLOSED));
-        serial = serial.saturating_sub(1);
-    }
-    assert_eq!(rt; logged(&log), 987);
-}
-
-/// The object that came back is asked, and no other, once its module stands in another chain.
 #[test]
 fn object_goes_on_in_another_chain(rt: HostRuntime) {
     let alloc = rt.alloc();
     let log = new_log(&rt, alloc);
-    let mut first = stack(&rt, &log, alloc, 2, false);
+    let mut first: Boxes = chain_over(&rt, alloc, Driver::Echo, FIVE);
+    let mut second: Boxes = chain_over(&rt, alloc, Driver::Echo, FIVE);
+    tell(&rt, &mut first, &log, "two are put in", TWO_ARE_PUT_IN);
     let moved = first.remove(End::A).expect(&rt, "a module");
-    let mut second: Boxes = chain_over(&rt, alloc, Driver::Echo);
     assert!(rt; second.insert(End::A, moved).is_ok());
-    asks(&rt, &mut second, &log, &[(Write(b"x"), 2)]);
-    asks(&rt, &mut first, &log, &[(Write(b"x"), 21)]);
+    tell(
+        &rt,
+        &mut second,
+        &log,
+        "in another chain",
+        &[(Do(Write(b"x")), 2)],
+    );
+    tell(
+        &rt,
+        &mut first,
+        &log,
+        "in the first chain",
+        &[(Do(Write(b"x")), 21)],
+    );
 }

@@ -1,118 +1,155 @@
 //! Boxed modules are handed in and back, and none is lost or dropped twice.
-use super::{chain_over, shape_of};
-use std::alloc::Global;
-use std::process::Abort;
-use std::sync::Arc;
-use std::sync::atomic::{AtomicU64, Ordering};
-use strm_chain::{Chain, Driver};
-use strm_module::{Instance, Kind, Module};
+use super::Call::{
+    Deliver, Enabled, FullAhead, HasRoom, HeadHeld, HeadLen, Hung, IsOpen, May, Read, Serial,
+    Serve, Settle, Write,
+};
+use super::objects::Ask::{Clear, Do, Push, PushPass, Refused, RemovePass};
+use super::objects::{Ask, Object, Story};
+use super::{Call, DRV_A, HEAD_A, Part, Text, WR_1};
+use strm_chain::Driver;
 use strm_msg::End;
 
-type Counter = Arc<AtomicU64, Global>;
+/// Passes everything on, with a queue on its way down.
+const PASS: Object = Object {
+    part: Part::Pass,
+    queues: (false, true),
+    refuses: (0, 0),
+};
 
-type Boxes = Chain<Box<dyn Module>>;
+// The topmost of two is removed and dropped; the other comes back from a dismantled end.
+const TAKEN_OUT: &[(Ask, u64)] = &[
+    (Push(End::A, 1, 1, PASS), 0),
+    (Push(End::A, 2, 2, PASS), 0),
+    (Do(Serial(0, None)), 0),
+    (Do(Serial(1, Some(2))), 0),
+    (Do(Serial(2, Some(1))), 0),
+    (Do(Serial(3, None)), 0),
+    (RemovePass(2), 8),
+    (Clear(End::A, 1), 87),
+];
 
-/// Counts its closings, each as a power of ten.
-struct Watch {
-    closed: Counter,
-    adds: u64,
-}
+// A closed end hands a module back. One that stands in the other end is closed with the chain.
+const REFUSED_AND_LEFT: &[(Ask, u64)] = &[
+    (Push(End::B, 4, 1, PASS), 0),
+    (Clear(End::A, 0), 0),
+    (Refused(End::A, 3, 3, PASS), 9),
+];
 
-impl Drop for Watch {
-    fn drop(self) {
-        self.closed.fetch_add(self.adds, Ordering::SeqCst);
-        let Watch { closed: _, adds: _ } = self;
-    }
-}
+// An end has room for eight modules, and hands the ninth back, whose object is the only one of number 2.
+const NINTH_COMES_BACK: &[(Ask, u64)] = &[
+    (Do(HasRoom(End::A, true)), 0),
+    (Push(End::A, 1, 1, PASS), 0),
+    (Do(HasRoom(End::A, true)), 0),
+    (Push(End::A, 2, 1, PASS), 0),
+    (Do(HasRoom(End::A, true)), 0),
+    (Push(End::A, 3, 1, PASS), 0),
+    (Do(HasRoom(End::A, true)), 0),
+    (Push(End::A, 4, 1, PASS), 0),
+    (Do(HasRoom(End::A, true)), 0),
+    (Push(End::A, 5, 1, PASS), 0),
+    (Do(HasRoom(End::A, true)), 0),
+    (Push(End::A, 6, 1, PASS), 0),
+    (Do(HasRoom(End::A, true)), 0),
+    (Push(End::A, 7, 1, PASS), 0),
+    (Do(HasRoom(End::A, true)), 0),
+    (Push(End::A, 8, 1, PASS), 0),
+    (Do(HasRoom(End::A, false)), 0),
+    (Refused(End::A, 9, 2, PASS), 8),
+    (
+        Ask::Dismantle(&[
+            (8, 87),
+            (7, 877),
+            (6, 8777),
+            (5, 87777),
+            (4, 877777),
+            (3, 8777777),
+            (2, 87777777),
+            (1, 877777777),
+        ]),
+        877777777,
+    ),
+];
 
-impl Module for Watch {}
+// A boxed module comes between and is taken out again: what is written waits in it and then in the
+// driver, and comes to the head behind what was there.
+//
+// The head holds 5 bytes after the first move, which is its high mark, so the second message waits
+// in the driver until the first is taken. The driver's place is looked at once in vain; then once
+// before its move, and once more when it is empty.
+//
+// The module's place stays enabled when it was served, and is found empty; then the driver's is looked
+// at twice.
+const ECHO_WAITS_FOR_ITS_HEAD: &[(Ask, u64)] = &[
+    (Do(Write(b"aaaaa")), 0),
+    (Do(May(DRV_A, true)), 0),
+    (Do(Serve(DRV_A)), 0),
+    (Do(HeadHeld(End::A, 5)), 0),
+    (Do(Write(b"b")), 0),
+    (Do(May(DRV_A, false)), 0),
+    (Do(Settle(&[], 1)), 0),
+    (Do(Read(b"aaaaa")), 0),
+    (Do(Settle(&[DRV_A], 2)), 0),
+    (PushPass(7), 0),
+    (Do(Write(b"c")), 0),
+    (Do(May(DRV_A, false)), 0),
+    (Do(Serve(WR_1)), 0),
+    (Do(Settle(&[DRV_A], 3)), 0),
+    (Do(Read(b"b")), 0),
+    (Do(Read(b"c")), 0),
+    (RemovePass(7), 0),
+    (Do(Call::Remove(None)), 0),
+];
 
-fn counter(rt: &impl Abort, alloc: Global) -> Counter {
-    Arc::new(alloc, AtomicU64::new(0)).expect(rt, "no memory for a counter")
-}
+// What waits for the far end's head moves on once that end is closed, and is dropped there.
+const FAR_END_OF_A_LOOP_IS_CLOSED: &[(Ask, u64)] = &[
+    (Do(Write(b"aaaaa")), 0),
+    (Do(Settle(&[DRV_A], 2)), 0),
+    (Do(Write(b"bbbbb")), 0),
+    (Do(Settle(&[], 1)), 0),
+    (Do(Enabled(DRV_A, false)), 0),
+    (Do(FullAhead(End::A, true)), 0),
+    (Do(HeadLen(End::A, 0)), 0),
+    (Do(HeadLen(End::B, 1)), 0),
+    (Clear(End::B, 0), 0),
+    (Do(IsOpen(End::B, false)), 0),
+    (Do(HeadLen(End::B, 0)), 0),
+    (Do(Enabled(DRV_A, true)), 0),
+    (Do(Settle(&[DRV_A], 2)), 0),
+    (Do(FullAhead(End::A, false)), 0),
+    (Do(HeadLen(End::B, 0)), 0),
+    (Do(Deliver(HEAD_A, Text::Hangup)), 0),
+    (Do(Hung(End::A, true)), 0),
+];
 
-fn count_of(closed: &Counter) -> u64 {
-    closed.load(Ordering::SeqCst)
-}
-
-/// Hands a boxed module in, and says whether it was taken. One that comes back is still open, and is
-/// dropped.
-fn is_taken(
-    rt: &impl Abort,
-    chain: &mut Boxes,
-    (end, serial): (End, u64),
-    counter: &Counter,
-    adds: u64,
-) -> bool {
-    let before = count_of(counter);
-    let closed = Arc::try_clone(counter).expect(rt, "the counter has few owners");
-    let watch = Watch { closed, adds };
-    let object: Box<dyn Module> = Box::new(chain.alloc(), watch).expect(rt, "no memory for a box");
-    let shape = shape_of(rt, serial, Kind::Pass, (false, true));
-    match chain.insert(end, Instance::new(shape, object)) {
-        Ok(()) => true,
-        Err(back) => {
-            assert_eq!(rt; back.shape().serial, serial);
-            assert_eq!(rt; count_of(counter), before);
-            false
-        }
-    }
-}
-
-/// The serials of the first modules of end A, topmost first.
-fn serials(chain: &Boxes) -> [Option<u64>; 4] {
-    [0, 1, 2, 3].map(|i| chain.shape(End::A, i).map(|s| s.serial))
-}
-
-/// The topmost of two is removed and dropped; the other comes back from a dismantled end.
-#[test]
-fn boxes_taken_out_are_closed_once(rt: HostRuntime) {
-    let closed = counter(&rt, rt.alloc());
-    let mut chain: Boxes = chain_over(&rt, rt.alloc(), Driver::Loop);
-    assert!(rt; is_taken(&rt, &mut chain, (End::A, 1), &closed, 1));
-    assert!(rt; is_taken(&rt, &mut chain, (End::A, 2), &closed, 10));
-    assert_eq!(rt; serials(&chain), [None, Some(2), Some(1), None]);
-    let removed = chain.remove(End::A).expect(&rt, "a module");
-    assert_eq!(rt; (removed.shape().serial, count_of(&closed)), (2, 0));
-    drop(removed);
-    assert_eq!(rt; count_of(&closed), 10);
-    let instances = chain.dismantle(End::A);
-    assert_eq!(rt; (instances.len(), count_of(&closed)), (1, 10));
-    drop(instances);
-    assert_eq!(rt; count_of(&closed), 11);
-    drop(chain);
-    assert_eq!(rt; count_of(&closed), 11);
-}
-
-/// A closed end hands a module back. One that stands in the other end is closed with the chain.
-#[test]
-fn boxes_refused_and_left_are_closed_once(rt: HostRuntime) {
-    let closed = counter(&rt, rt.alloc());
-    let mut chain: Boxes = chain_over(&rt, rt.alloc(), Driver::Loop);
-    assert!(rt; is_taken(&rt, &mut chain, (End::B, 4), &closed, 1000));
-    assert_eq!(rt; chain.dismantle(End::A).len(), 0);
-    assert!(rt; !is_taken(&rt, &mut chain, (End::A, 3), &closed, 100));
-    assert_eq!(rt; count_of(&closed), 100);
-    drop(chain);
-    assert_eq!(rt; count_of(&closed), 1100);
-}
-
-/// An end has room for eight modules, and hands the ninth back.
-#[test]
-fn ninth_module_comes_back(rt: HostRuntime) {
-    let closed = counter(&rt, rt.alloc());
-    let mut chain: Boxes = chain_over(&rt, rt.alloc(), Driver::Echo);
-    for serial in 1..9 {
-        assert!(rt; chain.has_room(End::A));
-        assert!(rt; is_taken(&rt, &mut chain, (End::A, serial), &closed, 1));
-    }
-    assert!(rt; !chain.has_room(End::A));
-    assert!(rt; !is_taken(&rt, &mut chain, (End::A, 9), &closed, 100));
-    assert_eq!(rt; count_of(&closed), 100);
-    let mut want: u64 = 8;
-    for instance in chain.dismantle(End::A) {
-        assert_eq!(rt; instance.map(|i| i.shape().serial), Some(want));
-        want = want.saturating_sub(1);
-    }
-    assert_eq!(rt; count_of(&closed), 108);
-}
+pub(super) const STORIES: &[Story<'static>] = &[
+    Story {
+        name: "boxes that are taken out are closed once",
+        driver: Driver::Loop,
+        asks: TAKEN_OUT,
+        end: Some(87),
+    },
+    Story {
+        name: "boxes that are refused and left are closed once",
+        driver: Driver::Loop,
+        asks: REFUSED_AND_LEFT,
+        end: Some(97),
+    },
+    Story {
+        name: "the ninth module comes back",
+        driver: Driver::Echo,
+        asks: NINTH_COMES_BACK,
+        end: Some(877777777),
+    },
+    Story {
+        name: "an echo waits for its head",
+        driver: Driver::Echo,
+        asks: ECHO_WAITS_FOR_ITS_HEAD,
+        end: Some(0),
+    },
+    Story {
+        name: "the far end of a loop is closed",
+        driver: Driver::Loop,
+        asks: FAR_END_OF_A_LOOP_IS_CLOSED,
+        end: Some(0),
+    },
+];

@@ -83,25 +83,18 @@ fn read(tally: &Tally) -> u64 {
     tally.load(Ordering::SeqCst)
 }
 
-/// An object with this tally.
-fn watching(rt: &impl Abort, tally: &Tally) -> Watch {
+/// An object with this tally that refuses its first put or its first service.
+fn watching(rt: &impl Abort, tally: &Tally, (refuses_put, refuses_serve): (bool, bool)) -> Watch {
     Watch {
         tally: Arc::try_clone(tally).expect(rt, "the tally has few owners"),
-        refuses_put: false,
-        refuses_serve: false,
+        refuses_put,
+        refuses_serve,
         seen: 0,
     }
 }
 
-/// An object with this tally that refuses this procedure's first call.
-fn refusing(rt: &impl Abort, tally: &Tally, call: Call) -> Watch {
-    let mut watch = watching(rt, tally);
-    match call {
-        Call::Put => watch.refuses_put = true,
-        Call::Serve => watch.refuses_serve = true,
-    }
-    watch
-}
+/// An object that refuses nothing.
+const NEVER: (bool, bool) = (false, false);
 
 fn boxed(rt: &impl Abort, alloc: Global, watch: Watch) -> Box<dyn Module> {
     Box::new(alloc, watch).expect(rt, "no memory for a box")
@@ -137,7 +130,7 @@ fn asks_each<M: Module>(
 fn object_of_the_instance_is_called_and_closed_once(rt: HostRuntime) {
     let alloc = rt.alloc();
     let (one, other) = (new_tally(&rt, alloc), new_tally(&rt, alloc));
-    let objects = (watching(&rt, &one), watching(&rt, &other));
+    let objects = (watching(&rt, &one, NEVER), watching(&rt, &other, NEVER));
     asks_each(&rt, alloc, objects, (&one, &other));
     assert_eq!(rt; read(&other), SERVED + CLOSED);
 }
@@ -146,8 +139,8 @@ fn object_of_the_instance_is_called_and_closed_once(rt: HostRuntime) {
 fn object_in_the_box_is_called_and_closed_once(rt: HostRuntime) {
     let alloc = rt.alloc();
     let (one, other) = (new_tally(&rt, alloc), new_tally(&rt, alloc));
-    let first = boxed(&rt, alloc, watching(&rt, &one));
-    let second = boxed(&rt, alloc, watching(&rt, &other));
+    let first = boxed(&rt, alloc, watching(&rt, &one, NEVER));
+    let second = boxed(&rt, alloc, watching(&rt, &other, NEVER));
     asks_each(&rt, alloc, (first, second), (&one, &other));
     assert_eq!(rt; read(&other), SERVED + CLOSED);
 }
@@ -165,12 +158,15 @@ fn answers_the_second_time<M: Module>(rt: &impl Abort, alloc: Global, object: M,
 #[test]
 fn object_that_refused_is_asked_again(rt: HostRuntime) {
     let alloc = rt.alloc();
-    for (call, asked) in [(Call::Put, PUT), (Call::Serve, SERVED)] {
+    for (call, refuses, asked) in [
+        (Call::Put, (true, false), PUT),
+        (Call::Serve, (false, true), SERVED),
+    ] {
         let tally = new_tally(&rt, alloc);
-        let object = refusing(&rt, &tally, call);
+        let object = watching(&rt, &tally, refuses);
         answers_the_second_time(&rt, alloc, object, call);
         assert_eq!(rt; read(&tally), 2 * asked + CLOSED);
-        let object = boxed(&rt, alloc, refusing(&rt, &tally, call));
+        let object = boxed(&rt, alloc, watching(&rt, &tally, refuses));
         answers_the_second_time(&rt, alloc, object, call);
         assert_eq!(rt; read(&tally), 2 * (2 * asked + CLOSED));
     }
@@ -180,7 +176,7 @@ fn object_that_refused_is_asked_again(rt: HostRuntime) {
 fn object_comes_back_with_its_private_data(rt: HostRuntime) {
     let alloc = rt.alloc();
     let tally = new_tally(&rt, alloc);
-    let mut it = counting(&rt, watching(&rt, &tally));
+    let mut it = counting(&rt, watching(&rt, &tally, NEVER));
     assert!(rt; it.put(alloc, Wr, message(&rt, alloc, X)).is_ok());
     let watch = it.into_object();
     assert_eq!(rt; watch.seen, 1);
@@ -227,17 +223,28 @@ impl ModuleOf for Turner {
     type Kind = Turn;
 }
 
+/// A message is put to such a module, which answers this.
+fn puts_turned(rt: &impl Abort, it: &mut Instance<Turner>, alloc: Global, side: Side, want: Put) {
+    let answer = it.put(alloc, side, message(rt, alloc, X));
+    assert!(rt; answer == Ok(want));
+}
+
+/// What is served is turned round.
+fn serves_turned(rt: &impl Abort, it: &mut Instance<Turner>, alloc: Global) {
+    let served = it.serve(alloc, Rd, message(rt, alloc, X));
+    assert!(rt; served == Ok(reply(message(rt, alloc, X))));
+}
+
 #[test]
 fn kind_of_another_vocabulary_acts_by_its_meaning(rt: HostRuntime) {
     let alloc = rt.alloc();
     let shape = Shape::new(4, b"turn", Some((5, 4)), None, Turn).expect(&rt, "a good name");
     let mut it = Instance::new(shape, Turner);
     let before = it.shape().copy(alloc).expect(&rt, "no memory for a shape");
-    let sent = it.put(alloc, Wr, message(&rt, alloc, X));
-    assert_eq!(rt; sent, Ok(Put::Sent(reply(message(&rt, alloc, X)))));
-    let queued = it.put(alloc, Rd, message(&rt, alloc, X));
-    assert_eq!(rt; queued, Ok(Put::Queue(message(&rt, alloc, X))));
-    let served = it.serve(alloc, Rd, message(&rt, alloc, X));
-    assert_eq!(rt; served, Ok(reply(message(&rt, alloc, X))));
+    let turned = Put::Sent(reply(message(&rt, alloc, X)));
+    puts_turned(&rt, &mut it, alloc, Wr, turned);
+    let queued = Put::Queue(message(&rt, alloc, X));
+    puts_turned(&rt, &mut it, alloc, Rd, queued);
+    serves_turned(&rt, &mut it, alloc);
     assert!(rt; *it.shape() == before);
 }

@@ -1,0 +1,200 @@
+//! What a call of a table does, and whether it answers what it must.
+use super::{Call, TOP_A, Text, message};
+use std::process::Abort;
+use strm_chain::{Chain, ChainFault, Driver, Place, Spot};
+use strm_module::ModuleOf;
+use strm_msg::{Class, End};
+
+/// Hands a message in, and says whether the answer is this.
+fn puts<M: ModuleOf>(
+    rt: &impl Abort,
+    chain: &mut Chain<M>,
+    spot: Spot,
+    text: Text,
+    want: Result<(), ChainFault>,
+) -> bool {
+    let m = message(rt, chain.alloc(), text);
+    assert!(rt; chain.has_spot(spot));
+    chain.deliver(spot, m) == want
+}
+
+/// Serves a place that may move.
+fn serves<M: ModuleOf>(chain: &mut Chain<M>, place: Place, want: Result<(), ChainFault>) -> bool {
+    chain.may(place) && chain.serve_one(place) == want
+}
+
+/// Takes the first message of the head of an end, which is to be this.
+fn takes<M: ModuleOf>(rt: &impl Abort, chain: &mut Chain<M>, end: End, text: Text) -> bool {
+    let want = message(rt, chain.alloc(), text);
+    chain.take_head(end) == Some(want)
+}
+
+/// Serves until no place is enabled, by these moves and so many looks.
+fn settles<M: ModuleOf>(chain: &mut Chain<M>, moves: &[Place], looks: u64) -> bool {
+    match chain.settle() {
+        Ok(settled) => settled.moves.as_slice() == moves && settled.looks == looks,
+        Err(_) => false,
+    }
+}
+
+/// An ordinary message comes in from the line.
+fn comes<M: ModuleOf>(rt: &impl Abort, chain: &mut Chain<M>, text: Text) -> bool {
+    let m = message(rt, chain.alloc(), text);
+    if chain.driver() != Driver::Line || m.class() != Class::Ordinary {
+        return false;
+    }
+    chain.line_put(m).is_ok()
+}
+
+/// A call that hands a message in, moves it or takes it.
+pub(super) fn acts<M: ModuleOf>(rt: &impl Abort, chain: &mut Chain<M>, call: Call) -> bool {
+    match call {
+        Call::Write(bytes) => puts(rt, chain, TOP_A, Text::Data(0, bytes), Ok(())),
+        Call::Send(end, text) => puts(rt, chain, Spot::top(end), text, Ok(())),
+        Call::Deliver(spot, text) => puts(rt, chain, spot, text, Ok(())),
+        Call::DeliverFails(spot, text, fault) => puts(rt, chain, spot, text, Err(fault)),
+        Call::Comes(text) => comes(rt, chain, text),
+        Call::Serve(place) => serves(chain, place, Ok(())),
+        Call::ServeFails(place, fault) => serves(chain, place, Err(fault)),
+        Call::Settle(moves, looks) => settles(chain, moves, looks),
+        Call::SettleFails(fault) => chain.settle().err() == Some(fault),
+        Call::Read(bytes) => takes(rt, chain, End::A, Text::Data(0, bytes)),
+        Call::Take(end, text) => takes(rt, chain, end, text),
+        _ => sets(rt, chain, call),
+    }
+}
+
+/// Room is made for a message, which is put back.
+fn puts_back<M: ModuleOf>(rt: &impl Abort, chain: &mut Chain<M>, text: Text) -> bool {
+    let has_room = chain.head_room(End::A, 0).is_ok();
+    let line_has_room = chain.driver() == Driver::Line && chain.line_room(0).is_ok();
+    let m = message(rt, chain.alloc(), text);
+    let is_back = chain.put_back_head(End::A, m).is_ok();
+    has_room && line_has_room && is_back
+}
+
+/// Takes an id, which is to be this one.
+fn begins<M: ModuleOf>(chain: &mut Chain<M>, want: u64) -> bool {
+    chain.state(End::A).pending.is_none() && chain.begin_ioctl(End::A) == Some(want)
+}
+
+/// Gives the id back that was taken last.
+fn undoes<M: ModuleOf>(chain: &mut Chain<M>) -> bool {
+    let state = chain.state(End::A);
+    let is_unanswered = state.pending.is_some() && state.kept.is_none();
+    if is_unanswered {
+        chain.undo_ioctl(End::A);
+    }
+    is_unanswered
+}
+
+/// Takes the answer that has come.
+fn ends<M: ModuleOf>(rt: &impl Abort, chain: &mut Chain<M>, want: Option<Text>) -> bool {
+    let answer = chain.end_ioctl(End::A);
+    match want {
+        Some(text) => answer == Some(message(rt, chain.alloc(), text)),
+        None => answer.is_none(),
+    }
+}
+
+/// Takes the topmost module out.
+fn removes<M: ModuleOf>(chain: &mut Chain<M>) -> Option<u64> {
+    match chain.remove(End::A) {
+        Some(instance) => Some(instance.shape().serial),
+        None => None,
+    }
+}
+
+/// A call that changes something else.
+fn sets<M: ModuleOf>(rt: &impl Abort, chain: &mut Chain<M>, call: Call) -> bool {
+    match call {
+        Call::PutBack(text) => puts_back(rt, chain, text),
+        Call::BreakOff => {
+            chain.break_off();
+            true
+        }
+        Call::SetMode(end, mode, prot) => {
+            chain.set_mode(end, mode, prot);
+            true
+        }
+        Call::Begins(id) => begins(chain, id),
+        Call::Undoes => undoes(chain),
+        Call::Ends(want) => ends(rt, chain, want),
+        Call::Remove(want) => removes(chain) == want,
+        _ => shows(chain, call),
+    }
+}
+
+/// Whether any place is enabled, of both ends and of eight modules at each.
+fn any_enabled<M: ModuleOf>(chain: &Chain<M>) -> bool {
+    for end in [End::A, End::B] {
+        if chain.is_enabled(Place::Drv { end }) {
+            return true;
+        }
+        for i in 1..=8_u8 {
+            if chain.is_enabled(Place::Wr { end, i }) || chain.is_enabled(Place::Rd { end, i }) {
+                return true;
+            }
+        }
+    }
+    false
+}
+
+/// Which lists of an end hold a message, where these are the two modules.
+fn held<M: ModuleOf>(chain: &Chain<M>, end: End, i: u8, j: u8) -> [bool; 6] {
+    [
+        chain.may(Place::Wr { end, i }),
+        chain.may(Place::Wr { end, i: j }),
+        chain.may(Place::Drv { end }),
+        chain.may(Place::Rd { end, i }),
+        chain.may(Place::Rd { end, i: j }),
+        chain.head(end).len() > 0,
+    ]
+}
+
+/// A call that looks at queues and places.
+fn shows<M: ModuleOf>(chain: &Chain<M>, call: Call) -> bool {
+    match call {
+        Call::May(place, want) => chain.may(place) == want,
+        Call::Enabled(place, want) => chain.is_enabled(place) == want,
+        Call::NoneEnabled => !any_enabled(chain),
+        Call::HeadLen(end, want) => chain.head(end).len() == want,
+        Call::HeadHeld(end, want) => chain.head(end).held(0) == want,
+        Call::FullAhead(end, want) => chain.full_ahead(end, 0) == want,
+        Call::LineFull(want) => chain.driver() == Driver::Line && chain.line_full(0) == want,
+        Call::Holds(end, i, want) => held(chain, end, i, i.saturating_add(1)) == want,
+        Call::HasSpot(spot, want) => chain.has_spot(spot) == want,
+        _ => tells(chain, call),
+    }
+}
+
+/// A call that looks at something else.
+fn tells<M: ModuleOf>(chain: &Chain<M>, call: Call) -> bool {
+    match call {
+        Call::Count(end, want) => chain.count(end) == want,
+        Call::IsOpen(end, want) => chain.is_open(end) == want,
+        Call::IsDriver(want) => chain.driver() == want,
+        Call::IsBroken(want) => chain.is_broken() == want,
+        Call::Serial(i, want) => serial(chain, i) == want,
+        Call::HasRoom(end, want) => chain.has_room(end) == want,
+        Call::Hung(end, want) => chain.state(end).hung == want,
+        Call::Errs(end, want) => chain.state(end).errno == want,
+        Call::Mode(end, mode, prot) => {
+            let state = chain.state(end);
+            state.mode == mode && state.prot == prot
+        }
+        Call::Ids(end, next, pending) => {
+            let state = chain.state(end);
+            state.next == next && state.pending == pending
+        }
+        _ => false,
+    }
+}
+
+/// The serial of a module of end A.
+fn serial<M: ModuleOf>(chain: &Chain<M>, i: u8) -> Option<u64> {
+    match chain.shape(End::A, i) {
+        Some(shape) => Some(shape.serial),
+        None => None,
+    }
+}

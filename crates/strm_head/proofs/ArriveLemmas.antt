@@ -1,5 +1,5 @@
 -- What a stream keeps when a message comes in from a line.
-use Rattle.std.proofs.Common.{◌≡◌, [], refl}
+use Rattle.std.proofs.Common.{[]}
 use Rattle.strm_msg.specs.Message.{Msg}
 use Rattle.strm_msg.specs.declared.words.End.TheVariants.{A}
 use Rattle.strm_module.specs.Kinds.{Meaning}
@@ -8,9 +8,7 @@ use Rattle.strm_call.specs.declared.answer.Reply.TheVariants.{Line}
 use Rattle.strm_call.specs.declared.answer.Answer.TheVariants as Answers
 use Rattle.strm_head.specs.declared.outcome.Arrived.{Arrived}
 use Rattle.strm_head.specs.declared.outcome.Arrived.TheVariants.{Taken, Full, NoMem, Broke}
-use Rattle.strm_head.specs.declared.history.Event.TheVariants as Events
 use Rattle.strm_head.specs.Inside.{IsKept}
-use Rattle.strm_head.specs.Played.{happened, line_played, Plays}
 use Rattle.strm_head.specs.Arrive.{Arrives}
 use Rattle.strm_head.proofs.KeptLemmas.{landed_kept}
 
@@ -22,16 +20,3 @@ module _ {K : Type 0} (means : Meaning K) where
   arrived_kept image m (Full same) after kept arrives = rw arrives.2 kept
   arrived_kept image m (NoMem same) after kept arrives = rw arrives.2 kept
   arrived_kept image m Broke after kept arrives = landed_kept means image A m Answers.Broke [] [] after kept arrives
-
-  -- a message that came in from a line is a step, or was left
-  pub line_plays : (image : Image K) (m copy : Msg) (arrived : Arrived) (after : Image K) → copy ≡ m → Arrives means image m arrived after → Plays means image (line_played copy arrived) after
-  line_plays image m copy (Taken moves looks) after same arrives = (rw same arrives.0, refl)
-  line_plays image m copy (Full back) after same arrives = arrives.2
-  line_plays image m copy (NoMem back) after same arrives = arrives.2
-  line_plays image m copy Broke after same arrives = (rw same arrives, refl)
-
-  pub line_happened : (P : Type 0) (image : Image K) (m copy : Msg) (arrived : Arrived) (after : Image K) → copy ≡ m → Arrives means image m arrived after → happened {K = K} {P = P} (line_played copy arrived) ≡ (A, Events.Arrived m)
-  line_happened P image m copy (Taken moves looks) after same arrives = rw same refl
-  line_happened P image m copy (Full back) after same arrives = rw arrives.1 refl
-  line_happened P image m copy (NoMem back) after same arrives = rw arrives.1 refl
-  line_happened P image m copy Broke after same arrives = rw same refl

@@ -4,5 +4,3 @@ pub mod Fault
 pub mod Inside
 pub mod Step
 pub mod Arrive
-pub mod Serials
-pub mod Played

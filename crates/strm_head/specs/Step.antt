@@ -1,5 +1,5 @@
--- One step of a stream, and the histories that steps make.
-use Rattle.std.specs.Prelude.{ℕ, ◌≡◌, ◌&&◌, ◌||◌, not, Bool, true, false, Option, Some, None, List, [], ◌∷◌, if◌then◌else◌}
+-- One step of a stream.
+use Rattle.std.specs.Prelude.{ℕ, ◌≡◌, ◌&&◌, ◌||◌, not, Bool, true, false, Option, Some, None, List, [], if◌then◌else◌}
 use Rattle.strm_msg.specs.Kind.{is_high, is_from_line}
 use Rattle.strm_msg.specs.Message.{Msg}
 use Rattle.strm_msg.specs.declared.words.End.{End}
@@ -23,9 +23,8 @@ use Rattle.strm_call.specs.declared.answer.Reply.{Reply}
 use Rattle.strm_call.specs.declared.answer.Answer.{Answer}
 use Rattle.strm_call.specs.declared.answer.Answer.TheVariants.{Done, Refused, Broke}
 use Rattle.strm_call.specs.Begun.{Begun, begun, reply_after}
-use Rattle.strm_head.specs.declared.history.Event.{Event}
-use Rattle.strm_head.specs.declared.history.Event.TheVariants.{Asked, Arrived}
-use Rattle.strm_head.specs.declared.history.Entry.{Entry}
+use Rattle.strm_head.specs.declared.event.Event.{Event}
+use Rattle.strm_head.specs.declared.event.Event.TheVariants.{Asked, Arrived}
 use Rattle.strm_head.specs.Begin.{refusal_of, begun_of, changes_no_queue, can_lack_memory, serials_of}
 
 -- the refusal that a call has: the first that holds, and where none does want of memory, of a call that it can refuse
@@ -126,12 +125,3 @@ module _ {K : Type 0} (means : Meaning K) where
   abbrev pub Step : Image K → End → Event (Shape K) → Answer → List Place → List ℕ → Image K → Type 0
   Step image e (Asked request) answer moves out after = Answers image e request answer moves out after
   Step image e (Arrived m) answer moves out after = Lands image e m answer moves out after
-
-  -- an entry of a history is a step
-  abbrev pub IsStep : Image K → Entry K → Image K → Type 0
-  IsStep image entry after = Step image entry.end entry.event entry.answer entry.moves entry.out.items after
-
-  -- there are images, from the first to the last, with a step from each to the next
-  abbrev pub Legal : Image K → List (Entry K) → Image K → Type 0
-  Legal image [] after = after ≡ image
-  Legal image (entry ∷ entries) after = (next : Image K) × IsStep image entry next × Legal next entries after

@@ -1,4 +1,4 @@
-//! What a call answered, before it is known what comes back.
+//! What a call answered, beside what comes back of it.
 ghost use Rattle.std.specs.Prelude.{◌≡◌, []};
 ghost use Rattle.strm_call.specs.declared.answer.Answer.TheVariants as Answers;
 
@@ -7,10 +7,10 @@ use std::marker::Model;
 use strm_call::{Answer, Refusal, Twins};
 use strm_chain::Settled;
 
-/// What a call answered, an equal answer for a record, and what its service did. A contract sees the
-/// answer, the moves, and the number of looks.
+/// What a call answered, an equal answer for a record of the call, and what its service did. A contract
+/// sees the answer, the moves, and the number of looks.
 #[derive(Drop)]
-pub(crate) struct Answered {
+pub struct Answered {
     answer: Answer,
     twin: Answer,
     settled: Settled,
@@ -69,7 +69,7 @@ impl Answered {
     }
 
     /// The answer, the equal one, and what the service did.
-    pub(crate) fn into_parts(self) -> (Answer, Answer, Settled)
+    pub fn into_parts(self) -> (Answer, Answer, Settled)
         ensures answer { result.0 ≡ self.answer }
         ensures twin { result.1 ≡ self.answer }
         ensures moves { result.2.moves ≡ self.moves }

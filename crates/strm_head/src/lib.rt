@@ -7,13 +7,14 @@
 mod answered;
 mod arriving;
 mod call;
+mod event;
 mod fault;
-mod history;
 mod outcome;
 mod stream;
 
+pub use answered::Answered;
+pub use event::Event;
 pub use fault::NewFault;
-pub use history::{Entry, Event, Played, copy_request};
 pub use outcome::{Arrived, Outcome};
 pub use stream::Stream;
 pub use strm_call::{

@@ -1,6 +1,6 @@
 //! Worked examples of what no script can say, by the public calls alone: messages that come in at a known
-//! point between the calls, histories that are played at once, the serials of modules that come back, the
-//! twin of each answer. What is expected is worked out by hand from the rules.
+//! point between the calls, the histories that they leave, the serials of modules that come back, the twin of
+//! each answer. What is expected is worked out by hand from the rules.
 use arrayvec::ArrayVec;
 use std::alloc::Global;
 use std::process::Abort;

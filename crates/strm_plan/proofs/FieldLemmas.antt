@@ -8,9 +8,9 @@ use Rattle.strm_call.specs.declared.request.TheConstants.{MAX_CONTROL, MAX_DATA}
 use Rattle.strm_qpair.specs.declared.driver.Driver.{Driver}
 use Rattle.strm_qpair.specs.declared.driver.Driver.TheVariants.{Echo, Loop, Line}
 use Rattle.strm_head.specs.Step.{is_line}
-use Rattle.strm_shared.specs.Setup.{is_fit, is_ring}
-use Rattle.strm_shared.specs.declared.setup.Setup.{Setup}
-use Rattle.strm_shared.specs.declared.setup.TheConstants.{MOST_RING}
+use Rattle.strm_history.specs.Setup.{is_fit, is_ring}
+use Rattle.strm_history.specs.declared.setup.Setup.{Setup}
+use Rattle.strm_history.specs.declared.setup.TheConstants.{MOST_RING}
 use Rattle.strm_text.specs.Text.{number_of, number_from, halves_of}
 use Rattle.strm_verb.specs.Fault.{or_fault}
 use Rattle.strm_verb.specs.Field.{number_at, marks_at, part_upto, optional_upto, errno_at}

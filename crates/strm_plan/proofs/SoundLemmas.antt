@@ -8,8 +8,8 @@ use Rattle.std.proofs.lemmas.List.Elements.{All-nil, All-push}
 use Rattle.strm_msg.specs.Message.{Msg}
 use Rattle.strm_msg.specs.Kind.{is_from_line}
 use Rattle.strm_qpair.specs.declared.driver.Driver.{Driver}
-use Rattle.strm_shared.specs.Setup.{is_fit, is_ring}
-use Rattle.strm_shared.specs.declared.setup.Setup.{Setup}
+use Rattle.strm_history.specs.Setup.{is_fit, is_ring}
+use Rattle.strm_history.specs.declared.setup.Setup.{Setup}
 use Rattle.strm_text.specs.Bytes.{is_allowed}
 use Rattle.strm_text.specs.Text.{fields_of}
 use Rattle.strm_verb.specs.Fault.{◌>>=◌, or_fault}

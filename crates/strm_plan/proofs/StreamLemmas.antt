@@ -7,7 +7,7 @@ use Rattle.std.specs.Str.{bytes_eq}
 use Rattle.indexmap.specs.IndexMap.{insert_entry}
 use Rattle.std.proofs.lemmas.Option.{slice_get-map}
 use Rattle.strm_qpair.specs.declared.driver.Driver.{Driver}
-use Rattle.strm_shared.specs.declared.setup.Setup.{Setup}
+use Rattle.strm_history.specs.declared.setup.Setup.{Setup}
 use Rattle.strm_plan.specs.Plan.{Streams, process_view, feed_view}
 use Rattle.strm_plan.specs.Reading.{has_feed}
 use Rattle.strm_plan.specs.Targets.{stream_names, stream_of}

@@ -7,8 +7,8 @@ use Rattle.strm_msg.specs.Message.{Msg}
 use Rattle.strm_qpair.specs.declared.driver.Driver.{Driver}
 use Rattle.strm_qpair.specs.declared.driver.Driver.TheVariants.{Echo, Loop, Line}
 use Rattle.strm_head.specs.Step.{is_line}
-use Rattle.strm_shared.specs.declared.setup.Setup.{Setup}
-use Rattle.strm_shared.specs.declared.setup.TheConstants.{MOST_RING}
+use Rattle.strm_history.specs.declared.setup.Setup.{Setup}
+use Rattle.strm_history.specs.declared.setup.TheConstants.{MOST_RING}
 use Rattle.strm_text.specs.Bytes.{is_allowed}
 use Rattle.strm_text.specs.Text.{name_of, fields_of}
 use Rattle.strm_verb.specs.Fault.{◌>>=◌, or_fault}

@@ -1,7 +1,7 @@
 -- What each plan meets that is read from a script: all that a run asks for.
 use Rattle.std.specs.Prelude.{◌≡◌, ◌≤◌, true, List, length, All}
 use Rattle.strm_msg.specs.Kind.{is_from_line}
-use Rattle.strm_shared.specs.Setup.{is_fit, is_ring}
+use Rattle.strm_history.specs.Setup.{is_fit, is_ring}
 use Rattle.strm_plan.specs.Plan.{Streams, Fed, Whole}
 use Rattle.strm_plan.specs.declared.draft.TheConstants.{MOST_STREAMS, MOST_PROCESSES}
 

@@ -4,8 +4,8 @@ ghost use Rattle.std.specs.Option.{option_map};
 ghost use Rattle.strm_plan.specs.Calls.{plain_of, pushed_of};
 
 use strm_call::Request;
+use strm_history::Call;
 use strm_msg::End;
-use strm_shared::Call;
 use strm_verb::PushDecl;
 
 /// A call on an end of some stream, with the shape of the module where it is a push.

@@ -14,7 +14,7 @@ use indexmap::IndexMap;
 use std::alloc::Global;
 use std::mem;
 use strm_head::Driver;
-use strm_shared::Setup;
+use strm_history::Setup;
 use strm_text::{fields, is_allowed};
 use strm_verb::{Cause, MessageWord, ReadError, Verb, message_at};
 

@@ -2,8 +2,8 @@
 use crate::call::CallDecl;
 use arrayvec::ArrayVec;
 use indexmap::IndexMap;
+use strm_history::Setup;
 use strm_msg::Message;
-use strm_shared::Setup;
 
 /// The longest name of a stream or a process, in bytes.
 pub const LONGEST: usize = 16;

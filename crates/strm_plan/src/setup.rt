@@ -4,7 +4,7 @@ ghost use Rattle.strm_plan.specs.Reading as reading;
 ghost use Rattle.strm_verb.specs.Fault.{Gives};
 
 use strm_head::Driver;
-use strm_shared::{MOST_RING, Setup};
+use strm_history::{MOST_RING, Setup};
 use strm_verb::{Cause, ReadError, marks_at, number_at};
 
 /// The driver that a word names.

@@ -7,8 +7,8 @@ ghost use Rattle.strm_plan.specs.declared.draft.TheConstants.{MOST_STREAMS};
 use crate::plan::{LONGEST, Name};
 use indexmap::IndexMap;
 use strm_head::Driver;
+use strm_history::Setup;
 use strm_msg::End;
-use strm_shared::Setup;
 use strm_text::{name, split_once};
 
 /// The end that a word names: `a`, or `b` of a loop stream; nothing for another word.

@@ -4,9 +4,9 @@ use Rattle.strm_msg.specs.Message.{Msg}
 use Rattle.strm_module.specs.declared.kind.Kind.{Kind}
 use Rattle.strm_module.specs.declared.shape.Shape.{Shape}
 use Rattle.strm_module.specs.Eight.{eight}
-use Rattle.strm_shared.specs.declared.setup.Setup.{Setup}
-use Rattle.strm_shared.specs.History.{own}
-use Rattle.strm_shared.specs.Turns.{asked_of}
+use Rattle.strm_history.specs.declared.setup.Setup.{Setup}
+use Rattle.strm_history.specs.History.{own}
+use Rattle.strm_history.specs.Entry.{asked_of}
 use Rattle.strm_run.specs.declared.script.ScriptCall.{ScriptCall}
 use Rattle.strm_run.specs.declared.transcript.StreamLog.{StreamLog}
 use Rattle.strm_run.specs.Scripts.{calls_on}

@@ -3,8 +3,8 @@ use Rattle.std.specs.Prelude.{ℕ, List, map}
 use Rattle.strm_msg.specs.Message.{Msg}
 use Rattle.strm_module.specs.declared.kind.Kind.{Kind}
 use Rattle.strm_module.specs.declared.shape.Shape.{Shape}
-use Rattle.strm_shared.specs.declared.setup.Setup.{Setup}
-use Rattle.strm_shared.specs.declared.call.Call.{Call}
+use Rattle.strm_history.specs.declared.setup.Setup.{Setup}
+use Rattle.strm_history.specs.declared.call.Call.{Call}
 use Rattle.strm_run.specs.declared.script.ScriptCall.{ScriptCall}
 use Rattle.strm_run.specs.declared.script.Script.{Script}
 use Rattle.strm_run.specs.declared.script.Feed.{Feed}

@@ -4,11 +4,11 @@ ghost use Rattle.strm_play.specs.Playing.{setups_of, played_call, played_line, c
 
 use indexmap::IndexMap;
 use std::alloc::Global;
+use strm_history::{Call, Setup};
 use strm_module::{Instance, Plain};
 use strm_msg::NoMem;
 use strm_plan::{CallDecl, CallLine, FeedDecl, Name, Plan, ProcessDecl};
 use strm_run::{Feed, Script, ScriptCall};
-use strm_shared::{Call, Setup};
 
 /// The modules of scripts: each acts by its shape alone.
 pub type Module = Instance<Plain>;

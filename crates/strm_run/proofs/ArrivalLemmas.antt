@@ -3,10 +3,11 @@ use Rattle.std.proofs.Common.{◌≡◌, ◌+◌, cond, List, ◌++◌, length, 
 use Rattle.std.specs.Prelude.{count_by}
 use Rattle.std.proofs.lemmas.List.Recursion.{is_count_by}
 use Rattle.strm_msg.specs.Message.{Msg}
-use Rattle.strm_head.specs.declared.history.Event.{Event}
-use Rattle.strm_head.specs.declared.history.Event.TheVariants.{Asked, Arrived}
-use Rattle.strm_shared.specs.declared.entry.Entry.{Entry}
-use Rattle.strm_shared.specs.History.{came_in, arrivals}
+use Rattle.strm_head.specs.declared.event.Event.{Event}
+use Rattle.strm_head.specs.declared.event.Event.TheVariants.{Asked, Arrived}
+use Rattle.strm_history.specs.declared.entry.Entry.{Entry}
+use Rattle.strm_history.specs.Entry.{came_in}
+use Rattle.strm_history.specs.History.{arrivals}
 use Rattle.strm_run.specs.Transcript.{has_come_in}
 
 one_more : {P : Type 0} (event : Event P) (others : List Msg) → length (came_in event ++ others) ≡ cond (has_come_in event) (1 + length others) (length others)

@@ -5,7 +5,7 @@ use Rattle.std.proofs.Math.Nat.{mod-lt}
 use Rattle.std.proofs.lemmas.Bool.{eqb-true, eqb-false}
 use Rattle.std.proofs.lemmas.List.{length-set, get_or-set_same, get_or-set_other}
 use Rattle.strm_module.specs.declared.shape.Shape.{Shape}
-use Rattle.strm_shared.specs.Log.{SeatValue}
+use Rattle.strm_shared.specs.Seat.{SeatValue}
 use Rattle.strm_run.specs.declared.script.ScriptCall.{ScriptCall}
 use Rattle.strm_run.specs.declared.script.Script.{Script}
 use Rattle.strm_run.specs.Scripts.{calls_on, script_of}

@@ -7,14 +7,16 @@ use Rattle.std.proofs.lemmas.List.{take_all, length-set, length_push, get_or-set
 use Rattle.strm_msg.specs.Message.{Msg}
 use Rattle.strm_module.specs.Kinds.{Meaning}
 use Rattle.strm_head.specs.Step.{is_line}
-use Rattle.strm_shared.specs.declared.setup.Setup.{Setup}
-use Rattle.strm_shared.specs.declared.entry.Entry.{Entry}
+use Rattle.strm_history.specs.declared.setup.Setup.{Setup}
+use Rattle.strm_history.specs.declared.entry.Entry.{Entry}
 use Rattle.strm_shared.specs.declared.fault.EndFault.{EndFault}
 use Rattle.strm_shared.specs.declared.shared.Ended.{Ended}
-use Rattle.strm_shared.specs.Setup.{opened}
-use Rattle.strm_shared.specs.History.{own, calls_of, arrivals, AreAccounted, Legal}
-use Rattle.strm_shared.specs.Log.{SeatValue}
-use Rattle.strm_shared.specs.Turns.{asked_of, AreFirstOf}
+use Rattle.strm_history.specs.Setup.{opened}
+use Rattle.strm_history.specs.History.{own, calls_of, arrivals, Legal}
+use Rattle.strm_history.specs.Serials.{AreAccounted}
+use Rattle.strm_shared.specs.Seat.{SeatValue}
+use Rattle.strm_history.specs.Entry.{asked_of}
+use Rattle.strm_shared.specs.Turns.{AreFirstOf}
 use Rattle.strm_shared.specs.Ending.{SharedValue, FeedValue, AreSeats, CountsAgree, accepted_of, is_fed}
 use Rattle.strm_run.specs.declared.fault.RunFault.{RunFault}
 use Rattle.strm_run.specs.declared.script.Script.{Script}

@@ -1,9 +1,9 @@
 -- Streams that are made, one more at a time, and who sits there.
 use Rattle.std.proofs.Common.{◌≡◌, ℕ, zero, suc, ◌+◌, ◌<◌, Option, List, [], ◌∷◌, ◌++◌, length, get_or, Vec, Global, All, refl, sym, ◌∙◌, ap, subst, arith, below_more, Result, Ok, Err, IfOk, IsOk}
 use Rattle.std.proofs.lemmas.List.{length_push, get_or_push, get_or_append_left, get_or_default}
-use Rattle.strm_shared.specs.declared.setup.Setup.{Setup}
+use Rattle.strm_history.specs.declared.setup.Setup.{Setup}
 use Rattle.strm_shared.specs.declared.fault.SharedFault.{SharedFault}
-use Rattle.strm_shared.specs.Log.{SeatValue}
+use Rattle.strm_shared.specs.Seat.{SeatValue}
 use Rattle.strm_shared.specs.Ending.{fresh_seats, fresh_feed, FeedValue, SharedValue}
 use Rattle.strm_run.specs.Table.{IsTransposed}
 use Rattle.strm_run.specs.Run.{RunValue}

@@ -3,11 +3,12 @@ use Rattle.std.proofs.Common.{◌≡◌, ℕ, zero, suc, ◌+◌, ◌<◌, ◌==
 use Rattle.std.proofs.lemmas.List.{length-set, get_or-set_same, get_or-set_other}
 use Rattle.std.proofs.lemmas.Bool.{eqb-true, eqb-false, eq-eqb}
 use Rattle.strm_module.specs.declared.shape.Shape.{Shape}
-use Rattle.strm_head.specs.declared.history.Event.TheVariants.{Asked}
-use Rattle.strm_shared.specs.declared.call.Call.{Call}
-use Rattle.strm_shared.specs.declared.call.Called.{Called}
-use Rattle.strm_shared.specs.declared.call.Called.TheVariants.{Done, NoRoom}
-use Rattle.strm_shared.specs.Log.{SeatValue, is_done}
+use Rattle.strm_head.specs.declared.event.Event.TheVariants.{Asked}
+use Rattle.strm_history.specs.declared.call.Call.{Call}
+use Rattle.strm_history.specs.declared.call.Called.{Called}
+use Rattle.strm_history.specs.declared.call.Called.TheVariants.{Done, NoRoom}
+use Rattle.strm_history.specs.Log.{is_done}
+use Rattle.strm_shared.specs.Seat.{SeatValue}
 use Rattle.strm_shared.specs.Ending.{SharedValue, Counted}
 use Rattle.strm_run.specs.declared.script.ScriptCall.{ScriptCall}
 use Rattle.strm_run.specs.Scripts.{calls_on, script_of}

@@ -2,7 +2,7 @@
 use Rattle.std.proofs.Common.{Result, Ok, Err}
 use Rattle.std.specs.Prelude.{IfOk}
 use Rattle.strm_qpair.specs.declared.driver.Driver.TheVariants.{Echo}
-use Rattle.strm_shared.specs.declared.setup.Setup.{Setup}
+use Rattle.strm_history.specs.declared.setup.Setup.{Setup}
 
 -- what follows from a fact about a value follows where there is one
 pub if_ok : {T E : Type 0} (P Q : T → Type 0) (r : Result T E) → ((x : T) → P x → Q x) → IfOk r P → IfOk r Q

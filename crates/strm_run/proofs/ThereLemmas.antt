@@ -7,7 +7,7 @@ use Rattle.strm_msg.specs.Message.{Msg}
 use Rattle.strm_msg.specs.Kind.{is_from_line}
 use Rattle.strm_msg.specs.declared.words.End.{End}
 use Rattle.strm_head.specs.Step.{is_line}
-use Rattle.strm_shared.specs.declared.setup.Setup.{Setup}
+use Rattle.strm_history.specs.declared.setup.Setup.{Setup}
 use Rattle.strm_run.specs.declared.script.Script.{Script}
 use Rattle.strm_run.specs.declared.script.Feed.{Feed}
 use Rattle.strm_run.specs.Scripts.{end_is_there, feed_of, line_is_there, AreThere}

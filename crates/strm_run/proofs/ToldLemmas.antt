@@ -6,9 +6,10 @@ use Rattle.std.proofs.lemmas.List.{length-append, length_push, get_or_append_lef
 use Rattle.std.proofs.lemmas.List.Elements.{filter-append}
 use Rattle.std.proofs.lemmas.Bool.{eqb-true, eqb-false}
 use Rattle.strm_call.specs.declared.answer.Answer.{Answer}
-use Rattle.strm_shared.specs.declared.entry.Who.TheVariants.{Caller}
-use Rattle.strm_shared.specs.declared.entry.Entry.{Entry}
-use Rattle.strm_shared.specs.History.{is_caller, calls_of}
+use Rattle.strm_history.specs.declared.entry.Who.TheVariants.{Caller}
+use Rattle.strm_history.specs.declared.entry.Entry.{Entry}
+use Rattle.strm_history.specs.Entry.{is_caller}
+use Rattle.strm_history.specs.History.{calls_of}
 use Rattle.strm_run.specs.declared.transcript.StreamLog.{StreamLog}
 use Rattle.strm_run.specs.Told.{answers_of, AreAllTold, LeavesTold}
 

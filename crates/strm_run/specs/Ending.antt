@@ -5,13 +5,13 @@ use Rattle.strm_msg.specs.declared.words.End.TheVariants.{A, B}
 use Rattle.strm_module.specs.Kinds.{Meaning}
 use Rattle.strm_ends.specs.Image.{Image, end_of}
 use Rattle.strm_head.specs.Step.{is_line}
-use Rattle.strm_shared.specs.declared.setup.Setup.{Setup}
-use Rattle.strm_shared.specs.declared.entry.Entry.{Entry}
+use Rattle.strm_history.specs.declared.setup.Setup.{Setup}
+use Rattle.strm_history.specs.declared.entry.Entry.{Entry}
 use Rattle.strm_shared.specs.declared.fault.EndFault.{EndFault}
 use Rattle.strm_shared.specs.declared.fault.EndFault.TheVariants as EndFaults
-use Rattle.strm_shared.specs.History.{own, arrivals}
-use Rattle.strm_shared.specs.Log.{SeatValue}
-use Rattle.strm_shared.specs.Turns.{asked_of}
+use Rattle.strm_history.specs.History.{own, arrivals}
+use Rattle.strm_shared.specs.Seat.{SeatValue}
+use Rattle.strm_history.specs.Entry.{asked_of}
 use Rattle.strm_shared.specs.Ending.{FeedValue, SharedValue}
 use Rattle.strm_run.specs.declared.fault.RunFault.{RunFault}
 use Rattle.strm_run.specs.declared.fault.RunFault.TheVariants as RunFaults

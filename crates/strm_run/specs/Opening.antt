@@ -2,8 +2,8 @@
 use Rattle.std.specs.Prelude.{◌≡◌, ℕ, zero, suc, ◌<◌, ◌==◌, ◌%◌, Option, List, [], ◌∷◌, ◌++◌, filter, get_or, length, slice_get, Vec}
 use Rattle.std.specs.Global.{Global}
 use Rattle.strm_msg.specs.Message.{Msg}
-use Rattle.strm_shared.specs.declared.setup.Setup.{Setup}
-use Rattle.strm_shared.specs.Log.{SeatValue}
+use Rattle.strm_history.specs.declared.setup.Setup.{Setup}
+use Rattle.strm_shared.specs.Seat.{SeatValue}
 use Rattle.strm_shared.specs.Ending.{fresh_seats, fresh_feed, FeedValue, SharedValue}
 use Rattle.strm_run.specs.declared.script.Feed.{Feed}
 use Rattle.strm_run.specs.Scripts.{feed_of, line_is_there}

@@ -9,12 +9,12 @@ use Rattle.strm_msg.specs.Message.{Msg}
 use Rattle.strm_module.specs.declared.shape.Shape.{Shape}
 use Rattle.strm_module.specs.declared.vocabulary.Kinds.{Ghosts}
 use Rattle.strm_module.specs.contracts.instance.Instance as instance
-use Rattle.strm_shared.specs.contracts.call.Called as called
-use Rattle.strm_shared.specs.declared.call.Called.{Called}
-use Rattle.strm_shared.specs.declared.call.Called.TheVariants.{Done, NoRoom}
+use Rattle.strm_history.specs.contracts.call.Called as called
+use Rattle.strm_history.specs.declared.call.Called.{Called}
+use Rattle.strm_history.specs.declared.call.Called.TheVariants.{Done, NoRoom}
 use Rattle.strm_call.specs.declared.answer.Answer.{Answer}
-use Rattle.strm_shared.specs.declared.setup.Setup.{Setup}
-use Rattle.strm_shared.specs.Log.{SeatValue}
+use Rattle.strm_history.specs.declared.setup.Setup.{Setup}
+use Rattle.strm_shared.specs.Seat.{SeatValue}
 use Rattle.strm_shared.specs.Ending.{FeedValue, SharedValue}
 use Rattle.strm_run.specs.declared.script.ScriptCall.{ScriptCall}
 use Rattle.strm_run.specs.declared.script.Script.{Script}

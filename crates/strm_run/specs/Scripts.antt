@@ -5,11 +5,11 @@ use Rattle.strm_msg.specs.declared.words.End.{End}
 use Rattle.strm_module.specs.declared.shape.Shape.{Shape}
 use Rattle.strm_ends.specs.Image.{has_end}
 use Rattle.strm_head.specs.Step.{is_line}
-use Rattle.strm_head.specs.declared.history.Event.{Event}
-use Rattle.strm_head.specs.declared.history.Event.TheVariants.{Asked}
+use Rattle.strm_head.specs.declared.event.Event.{Event}
+use Rattle.strm_head.specs.declared.event.Event.TheVariants.{Asked}
 use Rattle.strm_msg.specs.Kind.{is_from_line}
-use Rattle.strm_shared.specs.declared.setup.Setup.{Setup}
-use Rattle.strm_shared.specs.Setup.{is_fit, is_ring}
+use Rattle.strm_history.specs.declared.setup.Setup.{Setup}
+use Rattle.strm_history.specs.Setup.{is_fit, is_ring}
 use Rattle.strm_run.specs.declared.script.ScriptCall.{ScriptCall}
 use Rattle.strm_run.specs.declared.script.Script.{Script}
 use Rattle.strm_run.specs.declared.script.Feed.{Feed}

@@ -7,11 +7,12 @@ use Rattle.strm_module.specs.Kinds.{Meaning}
 use Rattle.strm_qpair.specs.End.{EndState}
 use Rattle.strm_ends.specs.Image.{Image, end_of}
 use Rattle.strm_ioctl.specs.Names.{names_of}
-use Rattle.strm_head.specs.declared.history.Event.{Event}
-use Rattle.strm_head.specs.declared.history.Event.TheVariants.{Asked, Arrived}
-use Rattle.strm_shared.specs.declared.setup.Setup.{Setup}
-use Rattle.strm_shared.specs.Setup.{opened}
-use Rattle.strm_shared.specs.History.{arrivals, AreAccounted, Legal}
+use Rattle.strm_head.specs.declared.event.Event.{Event}
+use Rattle.strm_head.specs.declared.event.Event.TheVariants.{Asked, Arrived}
+use Rattle.strm_history.specs.declared.setup.Setup.{Setup}
+use Rattle.strm_history.specs.Setup.{opened}
+use Rattle.strm_history.specs.History.{arrivals, Legal}
+use Rattle.strm_history.specs.Serials.{AreAccounted}
 use Rattle.strm_run.specs.declared.transcript.StreamLog.{StreamLog}
 
 -- the names of the modules on an end that is open, topmost first

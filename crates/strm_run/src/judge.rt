@@ -4,8 +4,8 @@ ghost use Rattle.strm_run.specs.Scripts.{end_is_there, line_is_there, is_crew, i
 
 use crate::script::{Feed, Script, ScriptCall};
 use strm_chain::has_end;
+use strm_history::Setup;
 use strm_msg::End;
-use strm_shared::Setup;
 
 /// The most workers that a run has.
 pub const MOST_WORKERS: u32 = 64;

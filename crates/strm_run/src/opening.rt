@@ -1,13 +1,14 @@
 //! The streams of a run, as they are made.
 ghost use Rattle.std.specs.Prelude.{◌≡◌, ◌<◌, ◌^◌, ◌∷◌, ◌++◌, [], true, length, All, IfOk, IsErrOf, IsOk, OnOk};
-ghost use Rattle.strm_shared.specs.Setup.{is_fit, is_ring};
+ghost use Rattle.strm_history.specs.Setup.{is_fit, is_ring};
 ghost use Rattle.strm_run.specs.Opening.{AreOpened};
 
 use crate::about::{Of, Plays};
 use std::alloc::Global;
+use strm_history::Setup;
 use strm_module::ModuleOf;
 use strm_msg::NoMem;
-use strm_shared::{Feeder, Seat, Setup, Shared, SharedFault};
+use strm_shared::{Feeder, Seat, Shared, SharedFault};
 
 /// One stream more that was made, with its seats, and its feeder if it has one. Refused for want of memory
 /// alone.

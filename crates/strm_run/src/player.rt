@@ -1,8 +1,8 @@
 //! A caller that plays its script.
 ghost use Rattle.std.specs.Prelude.{◌≡◌, ◌+◌, ◌++◌, true, length, slice_get, OnOk, Some};
-ghost use Rattle.strm_head.specs.declared.history.Event.TheVariants.{Asked};
+ghost use Rattle.strm_head.specs.declared.event.Event.TheVariants.{Asked};
 ghost use Rattle.strm_run.specs.Scripts.{calls_on, script_of};
-ghost use Rattle.strm_shared.specs.Log.{is_done};
+ghost use Rattle.strm_history.specs.Log.{is_done};
 ghost use Rattle.strm_run.specs.Run.{told_of, ArePlayed, CallsDoFit, IsPlayer};
 
 use crate::about::{Of, Plays};
@@ -12,9 +12,10 @@ use std::collections::VecDeque;
 use std::marker::{Model, PhantomData};
 use std::sync::Wait;
 use strm_head::Answer;
+use strm_history::{Call, Called};
 use strm_module::{Instance, ModuleOf};
 use strm_msg::NoMem;
-use strm_shared::{Call, Called, Seat, Shared};
+use strm_shared::{Seat, Shared};
 
 /// A caller with what is left of its script, and with a seat and the answers so far on each stream.
 #[derive(Drop)]

@@ -1,7 +1,7 @@
 //! A run.
 ghost use Rattle.std.specs.Prelude.{◌≡◌, ◌↔◌, ◌<◌, ◌^◌, ℕ, true, false, length, get_or, map, All, IfOk, IfErr, IsErrOf};
-ghost use Rattle.strm_shared.specs.History.{own};
-ghost use Rattle.strm_shared.specs.Turns.{asked_of};
+ghost use Rattle.strm_history.specs.History.{own};
+ghost use Rattle.strm_history.specs.Entry.{asked_of};
 ghost use Rattle.strm_run.specs.Fault.{is_late};
 ghost use Rattle.strm_run.specs.Scripts.{calls_on, script_of, feed_of, is_crew, is_setup, AreFromLine, AreThere};
 ghost use Rattle.strm_run.specs.Run.{CallsDoFit, CallsFit};
@@ -24,8 +24,8 @@ use std::alloc::Global;
 use std::marker::Brand;
 use std::sync::Wait;
 use std::thread::Threads;
+use strm_history::Setup;
 use strm_module::{Instance, ModuleOf};
-use strm_shared::Setup;
 
 /// A run of which all is there, under its name.
 fn run_named<M: ModuleOf, N: Plays<M::Kind> + Send + Sync, R: Threads + Wait + Sync, G: Gate>(

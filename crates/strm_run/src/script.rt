@@ -1,6 +1,6 @@
 //! What a run plays.
+use strm_history::Call;
 use strm_msg::Message;
-use strm_shared::Call;
 
 /// One call of a script. A push carries `P`, the module.
 #[derive(Drop)]

@@ -5,7 +5,7 @@ ghost use Rattle.strm_run.specs.Told.{AreAllTold, LeavesTold};
 use crate::transcript::StreamLog;
 use std::collections::VecDeque;
 use strm_head::Answer;
-use strm_shared::{Entry, Who};
+use strm_history::{Entry, Who};
 
 /// Whether a step is of a line, or its answer is the next one that its caller was told, which is taken out.
 fn is_told<K>(entry: &Entry<K>, told: &mut Vec<VecDeque<Answer>>) -> bool

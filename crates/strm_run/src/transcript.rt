@@ -2,14 +2,15 @@
 ghost use Rattle.std.specs.Prelude.{◌≡◌, length, count_by};
 ghost use Rattle.strm_msg.specs.declared.words.End.TheVariants.{A, B};
 ghost use Rattle.strm_ends.specs.Image.{end_of};
-ghost use Rattle.strm_shared.specs.History.{arrivals};
+ghost use Rattle.strm_history.specs.History.{arrivals};
 ghost use Rattle.strm_run.specs.Transcript.{names_at, has_come_in};
 
 use arrayvec::ArrayVec;
 use strm_head::{Event, MOST_MODULES, Name, Stream};
+use strm_history::Entry;
 use strm_module::ModuleOf;
 use strm_msg::End;
-use strm_shared::{Ended, Entry};
+use strm_shared::Ended;
 
 /// What a run leaves of a stream.
 #[derive(Drop)]

@@ -8,12 +8,12 @@ use std::sync::{OnceLock, Wait};
 use std::thread;
 use std::thread::Threads;
 use strm_head::{Answer, Driver, Event, Reply, Request};
+use strm_history::{Call, Entry, Setup, Who};
 use strm_module::{Instance, Kind, ModuleOf, Plain};
 use strm_msg::{Bytes, End, Message};
 use strm_run::{
     Feed, Gate, RunFault, Script, ScriptCall, StreamLog, Transcript, are_from_line, are_setups, run,
 };
-use strm_shared::{Call, Entry, Setup, Who};
 
 mod beside;
 mod crews;

@@ -10,12 +10,12 @@ use Rattle.strm_qpair.specs.declared.driver.Driver.{Driver}
 use Rattle.strm_qpair.specs.declared.driver.Driver.TheVariants.{Loop, Line}
 use Rattle.strm_call.specs.declared.request.Request.{Request}
 use Rattle.strm_call.specs.declared.answer.Answer.{Answer}
-use Rattle.strm_head.specs.declared.history.Event.{Event}
-use Rattle.strm_head.specs.declared.history.Event.TheVariants.{Asked, Arrived}
-use Rattle.strm_shared.specs.declared.setup.Setup.{Setup}
-use Rattle.strm_shared.specs.declared.entry.Who.{Who}
-use Rattle.strm_shared.specs.declared.entry.Who.TheVariants as whos
-use Rattle.strm_shared.specs.declared.entry.Entry.{Entry}
+use Rattle.strm_head.specs.declared.event.Event.{Event}
+use Rattle.strm_head.specs.declared.event.Event.TheVariants.{Asked, Arrived}
+use Rattle.strm_history.specs.declared.setup.Setup.{Setup}
+use Rattle.strm_history.specs.declared.entry.Who.{Who}
+use Rattle.strm_history.specs.declared.entry.Who.TheVariants as whos
+use Rattle.strm_history.specs.declared.entry.Entry.{Entry}
 use Rattle.strm_run.specs.declared.transcript.StreamLog.{StreamLog}
 use Rattle.strm_verb.specs.Field.{Field, Number, Word}
 use Rattle.strm_verb.specs.Table.{word_of, asked_of}

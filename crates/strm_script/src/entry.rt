@@ -13,10 +13,10 @@ use crate::request::{put_fields, verb_of};
 use std::io::{self, Write};
 use strm_call::Request;
 use strm_head::Event;
+use strm_history::{Entry, Who};
 use strm_module::{Kind, Shape};
 use strm_msg::End;
 use strm_plan::ProcessDecl;
-use strm_shared::{Entry, Who};
 
 /// The word of an end.
 pub(crate) fn end_word(end: End) -> &'static [u8]

@@ -1,2 +1,2 @@
-pub mod HistoryLemmas
+pub mod FoundLemmas
 pub mod TurnLemmas

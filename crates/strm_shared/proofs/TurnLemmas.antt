@@ -9,20 +9,23 @@ use Rattle.strm_msg.specs.Message.{Msg}
 use Rattle.strm_module.specs.Kinds.{Meaning}
 use Rattle.strm_module.specs.declared.shape.Shape.{Shape}
 use Rattle.strm_call.specs.declared.answer.Answer.{Answer}
-use Rattle.strm_head.specs.declared.history.Event.{Event}
-use Rattle.strm_head.specs.declared.history.Event.TheVariants.{Asked}
-use Rattle.strm_shared.specs.declared.entry.Who.TheVariants.{Caller, Line}
-use Rattle.strm_shared.specs.declared.entry.Entry.{Entry}
+use Rattle.strm_head.specs.declared.event.Event.{Event}
+use Rattle.strm_head.specs.declared.event.Event.TheVariants.{Asked}
+use Rattle.strm_history.specs.declared.entry.Who.TheVariants.{Caller, Line}
+use Rattle.strm_history.specs.declared.entry.Entry.{Entry}
 use Rattle.strm_shared.specs.declared.fault.EndFault.TheVariants as EndFaults
-use Rattle.strm_shared.specs.declared.call.Call.{Call}
-use Rattle.strm_shared.specs.declared.call.Called.{Called}
-use Rattle.strm_shared.specs.declared.call.Called.TheVariants.{Done, NoRoom}
-use Rattle.strm_shared.specs.declared.call.Landed.{Landed}
-use Rattle.strm_shared.specs.declared.call.Landed.TheVariants.{Entered, Full, NoMem}
-use Rattle.strm_shared.specs.Log.{LogValue, SeatValue, Enters, CallsBy, Lands, is_done}
-use Rattle.strm_shared.specs.History.{is_caller, own, calls_of}
-use Rattle.strm_shared.specs.Ending.{has_seat, CountsAgree}
-use Rattle.strm_shared.specs.Turns.{asked_of, counted, has_count, is_next, turned, AreFirstOf, AreInTurn, IsNextOf, TurnsValue}
+use Rattle.strm_history.specs.declared.call.Call.{Call}
+use Rattle.strm_history.specs.declared.call.Called.{Called}
+use Rattle.strm_history.specs.declared.call.Called.TheVariants.{Done, NoRoom}
+use Rattle.strm_history.specs.declared.call.Landed.{Landed}
+use Rattle.strm_history.specs.declared.call.Landed.TheVariants.{Entered, Full, NoMem}
+use Rattle.strm_history.specs.Entry.{is_caller}
+use Rattle.strm_history.specs.History.{own, calls_of}
+use Rattle.strm_history.specs.Log.{LogValue, Enters, CallsBy, Lands, is_done}
+use Rattle.strm_shared.specs.Seat.{SeatValue}
+use Rattle.strm_shared.specs.Ending.{has_seat, CountsAgree, Counted}
+use Rattle.strm_history.specs.Entry.{asked_of}
+use Rattle.strm_shared.specs.Turns.{counted, has_count, is_next, turned, AreFirstOf, AreInTurn, IsNextOf, TurnsValue}
 
 -- the first elements, with one more
 take_next : {A : Type 0} (all : List A) (count : ℕ) (one : A) → slice_get all count ≡ Some one → take (suc count) all ≡ take count all ++ one ∷ []
@@ -122,41 +125,48 @@ is_next_is number seat counts is =
     (eqb-true seat.number number here.0, ltb-true seat.caller (length counts) has.0, eqb-true _ seat.calls has.1)
 
 -- for kinds of any meaning
-module _ {K : Type 0} (means : Meaning K) (calls : ℕ → ℕ → Option (List (End × Event (Shape K)))) where
+module _ {K : Type 0} (means : Meaning K) (calls : ℕ → ℕ → Option (List (End × Event (Shape K)))) (number : ℕ) where
   -- an entry of a call has the caller, the end and the call
   next_of : (old new : LogValue K) (seat : SeatValue) (call : Call (Shape K)) (answer : Answer) (enters : Enters means old (Caller seat.caller) call.end (Asked call.request) answer new) → IsNextOf (calls seat.number seat.caller) seat.calls (call.end, Asked call.request) → IsNextOf (calls seat.number seat.caller) seat.calls (asked_of enters.entry)
   next_of old new seat call answer enters next = subst (λ asked. IsNextOf (calls seat.number seat.caller) seat.calls asked) (λ i. (sym enters.at i, sym enters.has i)) next
 
   -- a call that was made keeps the calls in turn
-  done_in_turn : (old new : LogValue K) (seat : SeatValue) (call : Call (Shape K)) (answer : Answer) (turns after : TurnsValue) (b : Bool) → is_next old.number seat turns.counts ≡ b → Enters means old (Caller seat.caller) call.end (Asked call.request) answer new → after ≡ (if b then record { counts = set turns.counts seat.caller (seat.calls + 1); in_turn = turns.in_turn } else record { counts = turns.counts; in_turn = false }) → IsNextOf (calls seat.number seat.caller) seat.calls (call.end, Asked call.request) → (turns.in_turn ≡ true → AreInTurn (calls old.number) turns.counts old.history) → after.in_turn ≡ true → AreInTurn (calls new.number) after.counts new.history
+  done_in_turn : (old new : LogValue K) (seat : SeatValue) (call : Call (Shape K)) (answer : Answer) (turns after : TurnsValue) (b : Bool) → is_next number seat turns.counts ≡ b → Enters means old (Caller seat.caller) call.end (Asked call.request) answer new → after ≡ (if b then record { counts = set turns.counts seat.caller (seat.calls + 1); in_turn = turns.in_turn } else record { counts = turns.counts; in_turn = false }) → IsNextOf (calls seat.number seat.caller) seat.calls (call.end, Asked call.request) → (turns.in_turn ≡ true → AreInTurn (calls number) turns.counts old.history) → after.in_turn ≡ true → AreInTurn (calls number) after.counts new.history
   done_in_turn old new seat call answer turns after true next enters is one was so =
-      let sits = is_next_is old.number seat turns.counts next in
-      let more : AreInTurn (calls old.number) (set turns.counts seat.caller (seat.calls + 1)) new.history =
-      call_in_turn (calls old.number) turns.counts old.history new.history enters.entry seat.caller seat.calls enters.history enters.by sits.1 sits.2 (subst (λ n. IsNextOf (calls n seat.caller) seat.calls (asked_of enters.entry)) sits.0 (next_of old new seat call answer enters one)) (was (sym (ap (λ t. t.in_turn) is) ∙ so)) in
-      subst (λ n. AreInTurn (calls n) after.counts new.history) (sym enters.number) (subst (λ l. AreInTurn (calls old.number) l new.history) (sym (ap (λ t. t.counts) is)) more)
+      let sits = is_next_is number seat turns.counts next in
+      let more : AreInTurn (calls number) (set turns.counts seat.caller (seat.calls + 1)) new.history =
+      call_in_turn (calls number) turns.counts old.history new.history enters.entry seat.caller seat.calls enters.history enters.by sits.1 sits.2 (subst (λ n. IsNextOf (calls n seat.caller) seat.calls (asked_of enters.entry)) sits.0 (next_of old new seat call answer enters one)) (was (sym (ap (λ t. t.in_turn) is) ∙ so)) in
+      subst (λ l. AreInTurn (calls number) l new.history) (sym (ap (λ t. t.counts) is)) more
   done_in_turn old new seat call answer turns after false next enters is one was so = absurd (both_ways after.in_turn (ap (λ t. t.in_turn) is) so)
 
-  pub call_keeps : (old new : LogValue K) (seat seat_after : SeatValue) (call : Call (Shape K)) (result : Called (Shape K)) (turns after : TurnsValue) → CallsBy means old seat call result new seat_after → after ≡ turned old.number seat result turns → IsNextOf (calls seat.number seat.caller) seat.calls (call.end, Asked call.request) → (turns.in_turn ≡ true → AreInTurn (calls old.number) turns.counts old.history) → after.in_turn ≡ true → AreInTurn (calls new.number) after.counts new.history
-  call_keeps old new seat seat_after call (Done answer back) turns after by is one was so = done_in_turn old new seat call answer turns after (is_next old.number seat turns.counts) refl by.enters is one was so
-  call_keeps old new seat seat_after call (NoRoom same) turns after by is one was so =
-      subst (λ (l : LogValue K). AreInTurn (calls l.number) after.counts l.history) (sym by.1) (subst (λ (t : TurnsValue). AreInTurn (calls old.number) t.counts old.history) (sym is) (was (sym (ap (λ t. t.in_turn) is) ∙ so)))
-
-  -- what the caller of a call that was made, or not, finds of the turns
-  pub done_turned : (old new : LogValue K) (seat seat_after : SeatValue) (call : Call (Shape K)) (result : Called (Shape K)) (turns after : TurnsValue) (next : Bool) → CallsBy means old seat call result new seat_after → true ≡ is_done result → next ≡ is_next old.number seat turns.counts → after ≡ (if next then record { counts = set turns.counts seat_after.caller seat_after.calls; in_turn = turns.in_turn } else record { counts = turns.counts; in_turn = false }) → after ≡ turned old.number seat result turns
-  done_turned old new seat seat_after call (Done answer back) turns after next by done same is = counted_is old.number seat seat_after turns after next same by.counts is
-  done_turned old new seat seat_after call (NoRoom again) turns after next by done same is = absurd cc
-
-  -- the seat that was next has a count
-  pub next_within : (old new : LogValue K) (seat seat_after : SeatValue) (call : Call (Shape K)) (result : Called (Shape K)) (counts : List ℕ) → CallsBy means old seat call result new seat_after → is_next old.number seat counts ≡ true → seat_after.caller < length counts
-  next_within old new seat seat_after call (Done answer back) counts by next = subst (λ (s : SeatValue). s.caller < length counts) (sym by.counts) (is_next_is old.number seat counts next).1
-  next_within old new seat seat_after call (NoRoom same) counts by next = subst (λ (s : SeatValue). s.caller < length counts) (sym by.2) (is_next_is old.number seat counts next).1
+  pub call_keeps : (old new : LogValue K) (seat : SeatValue) (call : Call (Shape K)) (result : Called (Shape K)) (turns after : TurnsValue) → CallsBy means old seat.caller call result new → after ≡ turned number seat result turns → IsNextOf (calls seat.number seat.caller) seat.calls (call.end, Asked call.request) → (turns.in_turn ≡ true → AreInTurn (calls number) turns.counts old.history) → after.in_turn ≡ true → AreInTurn (calls number) after.counts new.history
+  call_keeps old new seat call (Done answer back) turns after by is one was so = done_in_turn old new seat call answer turns after (is_next number seat turns.counts) refl by.enters is one was so
+  call_keeps old new seat call (NoRoom same) turns after by is one was so =
+      subst (λ (l : LogValue K). AreInTurn (calls number) after.counts l.history) (sym by.1) (subst (λ (t : TurnsValue). AreInTurn (calls number) t.counts old.history) (sym is) (was (sym (ap (λ t. t.in_turn) is) ∙ so)))
 
   -- a message that came in, or did not, keeps them too
-  pub arrival_keeps : (old new : LogValue K) (m : Msg) (result : Landed) (turns : TurnsValue) → Lands means old m result new → (turns.in_turn ≡ true → AreInTurn (calls old.number) turns.counts old.history) → turns.in_turn ≡ true → AreInTurn (calls new.number) turns.counts new.history
-  arrival_keeps old new m Entered turns is was so =
-      subst (λ n. AreInTurn (calls n) turns.counts new.history) (sym is.enters.number) (line_in_turn (calls old.number) turns.counts old.history new.history is.enters.entry is.enters.history is.enters.by (was so))
-  arrival_keeps old new m (Full same) turns is was so = subst (λ (l : LogValue K). AreInTurn (calls l.number) turns.counts l.history) (sym is.2) (was so)
-  arrival_keeps old new m (NoMem same) turns is was so = subst (λ (l : LogValue K). AreInTurn (calls l.number) turns.counts l.history) (sym is.1) (was so)
+  pub arrival_keeps : (old new : LogValue K) (m : Msg) (result : Landed) (turns : TurnsValue) → Lands means old m result new → (turns.in_turn ≡ true → AreInTurn (calls number) turns.counts old.history) → turns.in_turn ≡ true → AreInTurn (calls number) turns.counts new.history
+  arrival_keeps old new m Entered turns is was so = line_in_turn (calls number) turns.counts old.history new.history is.enters.entry is.enters.history is.enters.by (was so)
+  arrival_keeps old new m (Full same) turns is was so = subst (λ (l : LogValue K). AreInTurn (calls number) turns.counts l.history) (sym is.2) (was so)
+  arrival_keeps old new m (NoMem same) turns is was so = subst (λ (l : LogValue K). AreInTurn (calls number) turns.counts l.history) (sym is.1) (was so)
+
+-- a call that was made, or not, is counted in the turns as the seat counts it
+pub done_turned : {P : Type 0} (number : ℕ) (seat after : SeatValue) (result : Called P) (turns new : TurnsValue) (next : Bool) → true ≡ is_done result → next ≡ is_next number seat turns.counts → after ≡ record seat { calls = seat.calls + 1 } → new ≡ (if next then record { counts = set turns.counts after.caller after.calls; in_turn = turns.in_turn } else record { counts = turns.counts; in_turn = false }) → new ≡ turned number seat result turns
+done_turned number seat after (Done answer back) turns new next done same counts is = counted_is number seat after turns new next same counts is
+done_turned number seat after (NoRoom again) turns new next done same counts is = absurd cc
+
+-- so does the seat
+pub done_counted : {P : Type 0} (call : Call P) (seat after : SeatValue) (result : Called P) → true ≡ is_done result → after ≡ record seat { calls = seat.calls + 1 } → Counted call seat result after
+done_counted call seat after (Done answer back) done counts = counts
+done_counted call seat after (NoRoom same) done counts = absurd cc
+
+pub none_counted : {P : Type 0} (call : Call P) (seat : SeatValue) (result : Called P) → false ≡ is_done result → Counted call seat result seat
+none_counted call seat (Done answer back) none = absurd cc
+none_counted call seat (NoRoom same) none = refl
+
+-- the seat that was next has a count
+pub next_within : (number : ℕ) (seat after : SeatValue) (counts : List ℕ) → after ≡ record seat { calls = seat.calls + 1 } → is_next number seat counts ≡ true → after.caller < length counts
+next_within number seat after counts is next = subst (λ (s : SeatValue). s.caller < length counts) (sym is) (is_next_is number seat counts next).1
 
 -- seats that have the counts of their callers count their calls
 pub counts_agree : {K : Type 0} (calls : ℕ → Option (List (End × Event (Shape K)))) (counts : List ℕ) (history : List (Entry K)) (seats : List SeatValue) → AreInTurn calls counts history → All (λ s. has_count s counts ≡ true) seats → CountsAgree history seats

@@ -5,17 +5,17 @@ use Rattle.strm_call.specs.declared.answer.Answer.{Answer}
 use Rattle.strm_call.specs.declared.answer.Answer.TheVariants as Answers
 use Rattle.strm_head.specs.Begin.{pushed_of}
 use Rattle.strm_head.specs.Step.{is_line}
-use Rattle.strm_shared.specs.declared.setup.Setup.{Setup}
-use Rattle.strm_shared.specs.declared.entry.Who.{Who}
-use Rattle.strm_shared.specs.declared.entry.Who.TheVariants.{Caller, Line}
-use Rattle.strm_shared.specs.declared.entry.Entry.{Entry}
-use Rattle.strm_shared.specs.declared.call.Call.{Call}
-use Rattle.strm_shared.specs.declared.call.Called.{Called}
-use Rattle.strm_shared.specs.declared.call.Called.TheVariants.{Done, NoRoom}
-use Rattle.strm_shared.specs.declared.call.Landed.{Landed}
-use Rattle.strm_shared.specs.declared.call.Landed.TheVariants.{Entered, Full, NoMem}
-use Rattle.strm_shared.specs.History.{calls_of}
-use Rattle.strm_shared.specs.Log.{SeatValue}
+use Rattle.strm_history.specs.declared.setup.Setup.{Setup}
+use Rattle.strm_history.specs.declared.entry.Who.{Who}
+use Rattle.strm_history.specs.declared.entry.Who.TheVariants.{Caller, Line}
+use Rattle.strm_history.specs.declared.entry.Entry.{Entry}
+use Rattle.strm_history.specs.declared.call.Call.{Call}
+use Rattle.strm_history.specs.declared.call.Called.{Called}
+use Rattle.strm_history.specs.declared.call.Called.TheVariants.{Done, NoRoom}
+use Rattle.strm_history.specs.declared.call.Landed.{Landed}
+use Rattle.strm_history.specs.declared.call.Landed.TheVariants.{Entered, Full, NoMem}
+use Rattle.strm_history.specs.History.{calls_of}
+use Rattle.strm_shared.specs.Seat.{SeatValue}
 
 -- a shared stream: its number, its setup, and how many callers it has
 pub record SharedValue : Type 0 where

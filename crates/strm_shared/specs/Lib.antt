@@ -1,6 +1,4 @@
-pub mod Setup
 pub mod Fault
-pub mod History
-pub mod Log
+pub mod Seat
 pub mod Ending
 pub mod Turns

@@ -2,17 +2,15 @@
 use Rattle.std.specs.Prelude.{◌≡◌, ℕ, ◌+◌, ◌<◌, ◌&&◌, ◌==◌, nat_lt, Bool, true, false, Option, Some, None, List, All, get_or, length, map, set, slice_get, take, if◌then◌else◌, ⊤}
 use Rattle.strm_msg.specs.declared.words.End.{End}
 use Rattle.strm_module.specs.declared.shape.Shape.{Shape}
-use Rattle.strm_head.specs.declared.history.Event.{Event}
-use Rattle.strm_shared.specs.declared.entry.Entry.{Entry}
-use Rattle.strm_shared.specs.declared.call.Called.{Called}
-use Rattle.strm_shared.specs.declared.call.Called.TheVariants.{Done, NoRoom}
-use Rattle.strm_shared.specs.History.{own, calls_of}
-use Rattle.strm_shared.specs.Log.{LogValue, SeatValue}
+use Rattle.strm_head.specs.declared.event.Event.{Event}
+use Rattle.strm_history.specs.declared.entry.Entry.{Entry}
+use Rattle.strm_history.specs.declared.call.Called.{Called}
+use Rattle.strm_history.specs.declared.call.Called.TheVariants.{Done, NoRoom}
+use Rattle.strm_history.specs.Entry.{asked_of}
+use Rattle.strm_history.specs.History.{own, calls_of}
+use Rattle.strm_history.specs.Log.{LogValue}
+use Rattle.strm_shared.specs.Seat.{SeatValue}
 use Rattle.strm_shared.specs.Ending.{has_seat}
-
--- what an entry asked for, and at which end
-abbrev pub asked_of : {K : Type 0} → Entry K → End × Event (Shape K)
-asked_of entry = (entry.end, entry.event)
 
 -- a call is the next one of those that may be made, after so many; without such a list any is
 abbrev pub IsNextOf : {A : Type 0} → Option (List A) → ℕ → A → Type 0
@@ -29,8 +27,9 @@ pub record TurnsValue : Type 0 where
   pub counts : List ℕ
   pub in_turn : Bool
 
--- what stands under the lock
+-- what stands under the lock: the number of the shared stream, the stream with its history, and the counts
 pub record LockedValue (K : Type 0) : Type 0 where
+  pub number : ℕ
   pub log : LogValue K
   pub turns : TurnsValue
 

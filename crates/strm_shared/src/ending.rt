@@ -1,14 +1,14 @@
 //! What must agree before a shared stream has ended.
 ghost use Rattle.std.specs.Prelude.{◌≡◌, ◌↔◌, ◌<◌, ◌++◌, ℕ, true, All, Any, IfSome};
-ghost use Rattle.strm_shared.specs.History.{came_in, arrivals};
+ghost use Rattle.strm_history.specs.Entry.{came_in};
+ghost use Rattle.strm_history.specs.History.{arrivals};
 ghost use Rattle.strm_shared.specs.Ending.{accepted_of, is_fed, AreSeats};
 
-use crate::entry::Entry;
 use crate::equal::are_equal;
 use crate::feeder::FeedEnd;
 use crate::seat::Seat;
-use crate::setup::Setup;
 use strm_head::Event;
+use strm_history::{Entry, Setup};
 use strm_msg::Message;
 
 /// Whether a caller has a seat among these.

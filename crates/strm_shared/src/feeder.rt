@@ -2,12 +2,12 @@
 ghost use Rattle.std.specs.Prelude.{◌≡◌, ◌∷◌, [], ◌++◌, true, IfErr, OnOk, OnErr};
 ghost use Rattle.strm_msg.specs.Kind.{is_from_line};
 
-use crate::call::Landed;
 use crate::runs::Runs;
 use crate::shared::Shared;
 use std::alloc::Global;
 use std::marker::Model;
 use std::sync::Wait;
+use strm_history::Landed;
 use strm_module::ModuleOf;
 use strm_msg::Message;
 

@@ -9,7 +9,7 @@ pub trait Runs<K> {
     ghost use Rattle.std.specs.Prelude.{ℕ, List, Option};
     ghost use Rattle.strm_msg.specs.declared.words.End.{End};
     ghost use Rattle.strm_module.specs.declared.shape.Shape.{Shape};
-    ghost use Rattle.strm_head.specs.declared.history.Event.{Event};
+    ghost use Rattle.strm_head.specs.declared.event.Event.{Event};
 
     /// Of a stream's number and a caller: the calls that the caller makes there, in order, or none where
     /// it may make any.

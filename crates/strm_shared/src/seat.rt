@@ -13,7 +13,7 @@ pub struct Seat {
 }
 
 impl Model for Seat {
-    ghost use Rattle.strm_shared.specs.Log.{SeatValue};
+    ghost use Rattle.strm_shared.specs.Seat.{SeatValue};
 
     ghost Value = { SeatValue };
 

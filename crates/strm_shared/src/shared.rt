@@ -1,25 +1,24 @@
 //! A stream that several callers share.
 ghost use Rattle.std.specs.Prelude.{◌≡◌, ◌↔◌, ◌+◌, ◌++◌, ℕ, true, false, All, IfOk, OnOk, IsErrOf};
 ghost use Rattle.strm_msg.specs.Kind.{is_from_line};
-ghost use Rattle.strm_head.specs.declared.history.Event.TheVariants.{Asked};
-ghost use Rattle.strm_shared.specs.Setup.{is_fit, is_ring, opened};
-ghost use Rattle.strm_shared.specs.History.{arrivals, own, AreAccounted, Legal};
+ghost use Rattle.strm_head.specs.declared.event.Event.TheVariants.{Asked};
+ghost use Rattle.strm_history.specs.Setup.{is_fit, is_ring, opened};
+ghost use Rattle.strm_history.specs.History.{arrivals, own, Legal};
+ghost use Rattle.strm_history.specs.Serials.{AreAccounted};
 ghost use Rattle.strm_shared.specs.Ending.{fresh_seats, fresh_feed, accepted_of, has_seat, is_fed, AreSeats, CountsAgree, Counted, ComesBack, HandsBack};
 ghost use Rattle.strm_shared.specs.Turns.{AreFirstOf, IsNextOf};
 
-use crate::call::{Call, Called, Landed};
 use crate::ending::{are_seats, is_accepted, is_fed};
-use crate::entry::Entry;
 use crate::fault::{EndFault, SharedFault};
 use crate::feeder::{FeedEnd, Feeder};
 use crate::locked::Locked;
 use crate::runs::{AnyCalls, Runs};
 use crate::seat::Seat;
-use crate::setup::Setup;
 use std::alloc::Global;
 use std::marker::Model;
 use std::sync::{Mutex, Wait};
-use strm_head::{Stream, copy_request};
+use strm_head::Stream;
+use strm_history::{Call, Called, Entry, Landed, Setup, copy_request};
 use strm_module::{Instance, ModuleOf};
 use strm_msg::{Message, NoMem};
 
@@ -189,10 +188,11 @@ impl<M: ModuleOf, N: Runs<M::Kind>> Shared<M, N> {
         if !are_seats(number, callers, seats.as_slice()) {
             return Err(EndFault::Seats);
         }
-        let (log, turns) = locked.into_inner().into_parts();
-        if !log.is_of(number, setup) {
+        let locked = locked.into_inner();
+        if !locked.is_of(number, setup) {
             return Err(EndFault::Unfinished);
         }
+        let (log, turns) = locked.into_parts();
         if !is_fed(number, setup, &feed) {
             return Err(EndFault::Unfinished);
         }

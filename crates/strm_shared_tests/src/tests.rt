@@ -2,17 +2,16 @@
 //! what each call answers, what the history has of it, and when a shared stream ends.
 ghost use Rattle.std.specs.Prelude.{◌≡◌, true};
 ghost use Rattle.strm_msg.specs.Kind.{is_from_line};
-ghost use Rattle.strm_shared.specs.Setup.{is_fit};
+ghost use Rattle.strm_history.specs.Setup.{is_fit};
 
 use std::alloc::Global;
 use std::process::Abort;
 use std::sync::Wait;
 use strm_head::{Answer, Driver, Event, Refusal, Reply, Request};
+use strm_history::{Call, Called, Entry, Setup, Who};
 use strm_module::{Instance, Kind, Plain, Shape};
 use strm_msg::{Bytes, End, Errno, Message};
-use strm_shared::{
-    Call, Called, EndFault, Ended, Entry, FeedEnd, Feeder, Seat, Setup, Shared, SharedFault, Who,
-};
+use strm_shared::{EndFault, Ended, FeedEnd, Feeder, Seat, Shared, SharedFault};
 
 mod callers;
 mod ending;

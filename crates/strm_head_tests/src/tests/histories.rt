@@ -1,13 +1,17 @@
 //! Streams are made, and what happens to one makes a history.
 use super::tables::{MIXED, TABLES, Table};
-use super::{
-    Call, Comes, Happens, Row, Want, answer_of, came_back, made, message, padded, request_of,
-};
+use super::{Call, Comes, Happens, Row, Want, answer_of, came_back, message, padded, request_of};
 use std::alloc::Global;
 use std::process::Abort;
-use strm_head::{Answer, Driver, Entry, Event, NewFault, Played, Reply, Request, Stream};
+use strm_head::{Answer, Driver, Event, NewFault, Reply, Request, Stream};
+use strm_history::{Called, Entry, Landed, Log, Setup, Who};
 use strm_module::{Instance, Kind, Plain, Shape};
 use strm_msg::End;
+
+/// The number of the caller of a row: there are five callers.
+fn caller_of(at: usize) -> u32 {
+    (at % 5) as u32 + 7
+}
 
 #[test]
 fn low_marks_are_below_high_ones(rt: HostRuntime) {
@@ -15,21 +19,6 @@ fn low_marks_are_below_high_ones(rt: HostRuntime) {
     for (head, drv) in [((4, 4), (16, 4)), ((16, 4), (4, 4)), ((4, 16), (4, 16))] {
         let made: Result<Stream<Plain>, NewFault> = Stream::new(alloc, Driver::Loop, head, drv);
         assert!(rt; made.err() == Some(NewFault::Marks));
-    }
-}
-
-/// The event of a row. A push carries a module of this serial.
-fn event_of(
-    rt: &impl Abort,
-    alloc: Global,
-    serial: u64,
-    happens: Happens,
-) -> Event<Instance<Plain>> {
-    match happens {
-        Happens::Asked(call, _, _, _) => Event::Asked(request_of(rt, alloc, serial, call)),
-        Happens::Taken(comes, _, _) | Happens::Left(comes) => {
-            Event::Arrived(message(rt, alloc, comes))
-        }
     }
 }
 
@@ -55,6 +44,7 @@ fn asked(
     at: usize,
 ) {
     is_asked(rt, &entry.event, call, at);
+    assert!(rt; entry.who == Who::Caller(caller_of(at)), "row {at}");
     assert!(rt; entry.answer == answer_of(rt, alloc, want), "row {at}");
     assert_eq!(rt; entry.moves.len(), moves, "row {at}");
     assert!(rt; moves as u64 <= entry.looks, "row {at}");
@@ -77,6 +67,7 @@ fn taken(
         Event::Arrived(m) => assert!(rt; *m == message(rt, alloc, comes), "row {at}"),
         Event::Asked(_) => assert!(rt; false, "row {at} is a call"),
     }
+    assert!(rt; entry.who == Who::Line, "row {at}");
     assert!(rt; entry.answer == Answer::Done(Reply::Line), "row {at}");
     assert_eq!(rt;
         (entry.moves.len(), entry.looks),
@@ -86,53 +77,96 @@ fn taken(
     assert!(rt; entry.out.is_empty(), "row {at}");
 }
 
-/// Looks at what became of a row.
-fn became(
+/// Looks at the entry of a row.
+fn entered(
     rt: &impl Abort,
     alloc: Global,
-    played: &Played<Kind, Instance<Plain>>,
+    entry: Option<&Entry<Kind>>,
     (end, happens): Row,
     at: usize,
 ) {
-    match (played, happens) {
-        (Played::Step { entry, back }, Happens::Asked(call, want, moves, serials)) => {
-            assert!(rt; entry.end == end, "row {at}");
-            asked(rt, alloc, entry, (call, want, moves), serials, at);
-            assert_eq!(rt; came_back(back.as_slice()), padded(serials), "row {at}");
+    let Some(entry) = entry else {
+        return assert!(rt; false, "row {at} has no entry");
+    };
+    assert!(rt; entry.end == end, "row {at}");
+    match happens {
+        Happens::Asked(call, want, moves, back) => {
+            asked(rt, alloc, entry, (call, want, moves), back, at)
         }
-        (Played::Step { entry, back }, Happens::Taken(comes, moves, looks)) => {
-            assert!(rt; entry.end == end, "row {at}");
-            taken(rt, alloc, entry, (comes, moves, looks), at);
-            assert!(rt; back.is_empty(), "row {at}");
-        }
-        (
-            Played::Left {
-                end: left,
-                message: m,
-            },
-            Happens::Left(comes),
-        ) => {
-            assert!(rt; *left == end, "row {at}");
-            assert!(rt; *m == message(rt, alloc, comes), "row {at}");
-        }
-        _ => assert!(rt; false, "row {at} became something else"),
+        Happens::Taken(comes, moves, looks) => taken(rt, alloc, entry, (comes, moves, looks), at),
+        Happens::Left(_) => assert!(rt; false, "row {at} has an entry"),
     }
 }
 
-/// Plays a table at once, and looks at what became of each row. Gives the stream.
+/// Looks at what a caller has of its call.
+fn answered(
+    rt: &impl Abort,
+    alloc: Global,
+    called: Called<Instance<Plain>>,
+    want: Want,
+    back: &[u64],
+    at: usize,
+) {
+    match called {
+        Called::Done {
+            answer,
+            back: modules,
+        } => {
+            assert!(rt; answer == answer_of(rt, alloc, want), "row {at}");
+            assert_eq!(rt; came_back(modules.as_slice()), padded(back), "row {at}");
+        }
+        Called::NoRoom(_) => assert!(rt; false, "row {at} found no memory"),
+    }
+}
+
+/// Offers a message.
+fn offered(rt: &impl Abort, alloc: Global, log: &mut Log<Plain>, comes: Comes) -> Landed {
+    let m = message(rt, alloc, comes);
+    assert!(rt; m.from_line());
+    log.arrive(m)
+}
+
+/// Makes a row happen, and looks at what comes back.
+fn happen(rt: &impl Abort, alloc: Global, log: &mut Log<Plain>, (end, happens): Row, at: usize) {
+    match happens {
+        Happens::Asked(call, want, _, back) => {
+            let request = request_of(rt, alloc, at as u64, call);
+            let call = strm_history::Call { end, request };
+            let called = log.call(caller_of(at), call);
+            answered(rt, alloc, called, want, back, at);
+        }
+        Happens::Taken(comes, _, _) => {
+            let landed = offered(rt, alloc, log, comes);
+            assert!(rt; matches!(landed, Landed::Entered), "row {at}");
+        }
+        Happens::Left(comes) => match offered(rt, alloc, log, comes) {
+            Landed::Full(m) => assert!(rt; m == message(rt, alloc, comes), "row {at}"),
+            _ => assert!(rt; false, "row {at} was not left"),
+        },
+    }
+}
+
+/// Makes the rows of a table happen one after another, and looks at the entry of each but those that are left,
+/// when all have happened. Gives the stream.
 fn play(rt: &impl Abort, alloc: Global, (driver, rows): Table) -> Stream<Plain> {
-    let mut stream = made(rt, alloc, driver);
-    let mut events = Vec::new(alloc);
+    let setup = Setup {
+        driver,
+        head: (16, 4),
+        drv: (16, 4),
+        ring: 0,
+    };
+    let mut log = Log::new(alloc, setup).ok().expect(rt, "a stream");
     for (at, row) in rows.iter().enumerate() {
-        let (end, happens) = *row;
-        let event = event_of(rt, alloc, at as u64, happens);
-        events.push((end, event)).expect(rt, "no memory");
+        happen(rt, alloc, &mut log, *row, at);
     }
-    let all = stream.play_all(alloc, events).expect(rt, "no memory");
-    assert_eq!(rt; all.len(), rows.len());
-    for (at, (played, row)) in all.iter().zip(rows).enumerate() {
-        became(rt, alloc, played, *row, at);
+    let (history, stream) = log.into_parts();
+    let mut entries = history.iter();
+    for (at, row) in rows.iter().enumerate() {
+        if !matches!(row.1, Happens::Left(_)) {
+            entered(rt, alloc, entries.next(), *row, at);
+        }
     }
+    assert!(rt; entries.next().is_none());
     stream
 }
 

@@ -168,7 +168,7 @@ pub(super) const MIXED: Table = (
             A,
             Happens::Asked(Call::Push(Pushes::CrNl, b"m5"), Want::Pushed, 0, &[]),
         ),
-        (B, Happens::Left(Comes::Data(0, b"x"))),
+        (A, Happens::Asked(Call::Nread, Want::Waiting(0, 0), 0, &[])),
         (
             B,
             Happens::Asked(Call::Push(Pushes::Mute, b"m7"), CLOSED, 0, &[7]),

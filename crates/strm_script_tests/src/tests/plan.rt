@@ -4,10 +4,10 @@ use super::plan_of;
 use arrayvec::ArrayVec;
 use strm_call::Request;
 use strm_head::Driver;
+use strm_history::Setup;
 use strm_module::Kind;
 use strm_msg::{End, MsgKind};
 use strm_plan::{CallDecl, CallLine, FeedDecl, Plan, ProcessDecl, PushDecl};
-use strm_shared::Setup;
 
 /// A script with each kind of line.
 const SCRIPT: &[u8] =

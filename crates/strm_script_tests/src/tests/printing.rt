@@ -8,13 +8,13 @@ use std::alloc::Global;
 use std::process::Abort;
 use strm_call::{Acknowledged, Answer, Name, Refusal, Reply, Request};
 use strm_head::{Event, MOST_MODULES, Moves};
+use strm_history::{Entry, Who};
 use strm_module::{Kind, Shape};
 use strm_msg::End::{A, B};
 use strm_msg::{Bytes, End, Errno, Message};
 use strm_plan::Plan;
 use strm_run::{StreamLog, Transcript};
 use strm_script::print;
-use strm_shared::{Entry, Who};
 
 /// A part, if there is one.
 type Part = Option<&'static [u8]>;

@@ -1,4 +1,4 @@
-use Rattle.strm_shared.proofs.HistoryLemmas.{arrivals_left}
+use Rattle.strm_shared.proofs.FoundLemmas.{arrivals_left}
 use Rattle.strm_shared.proofs.ending.are_arrivals.Goals as goal
 
 pub loop-entry-preserved : goal.loop-entry-preserved

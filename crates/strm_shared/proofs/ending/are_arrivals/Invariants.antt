@@ -1,5 +1,5 @@
 use Rattle.std.proofs.Common.{◌≡◌, drop}
-use Rattle.strm_shared.specs.History.{arrivals}
+use Rattle.strm_history.specs.History.{arrivals}
 use Rattle.strm_shared.proofs.ending.are_arrivals.Given as goal
 
 -- where the arrivals that are left are the messages that are left, all are

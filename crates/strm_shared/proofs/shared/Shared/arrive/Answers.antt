@@ -1,4 +1,4 @@
-use Rattle.strm_shared.proofs.HistoryLemmas.{comes_back}
+use Rattle.strm_shared.proofs.FoundLemmas.{comes_back}
 use Rattle.strm_shared.proofs.shared.Shared.arrive.Goals as goal
 
 pub returns : goal.returns

@@ -1,7 +1,7 @@
 use Rattle.std.proofs.Common.{List, ◌++◌, append-nil, refl, sym, ◌∙◌, ap}
 use Rattle.strm_msg.specs.Message.{Msg}
-use Rattle.strm_shared.specs.History.{arrivals}
-use Rattle.strm_head.proofs.SerialLemmas.{legal_accounts}
+use Rattle.strm_history.specs.History.{arrivals}
+use Rattle.strm_history.proofs.SerialLemmas.{legal_accounts}
 use Rattle.strm_shared.proofs.TurnLemmas.{counts_agree, unfinished_apart}
 use Rattle.strm_shared.proofs.shared.Shared.end.Goals as goal
 
@@ -39,7 +39,7 @@ pub returns-clause-legal : goal.returns-clause-legal
 returns-clause-legal g c =
     let parts = c.into_parts-history.ensures in
     let of = c.is_of.ensures.0 c.if-not-is_of.false in
-    rw (← c.self.view_is, ← of.1, parts.history, parts.stream) parts.legal
+    rw (← c.self.view_is, ← of.1, ← c.into_parts-log.ensures.log, parts.history, parts.stream) parts.legal
 
 pub returns-clause-accounts : goal.returns-clause-accounts
 returns-clause-accounts g c = legal_accounts g.M.Kind.Kinds.means _ _ _ (returns-clause-legal g c)

@@ -1,0 +1,13 @@
+//! What happens to a stream.
+use strm_call::Request;
+use strm_msg::Message;
+
+/// One thing that happens to a stream. A push carries `P`: the module when the call is made, and the
+/// module's shape in a history.
+#[derive(Drop)]
+pub enum Event<P> {
+    /// A call was made.
+    Asked(Request<P>),
+    /// A message came in from a line.
+    Arrived(Message),
+}

@@ -1,0 +1,3 @@
+pub mod EntryLemmas
+pub mod SerialLemmas
+pub mod LogLemmas

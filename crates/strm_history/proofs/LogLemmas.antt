@@ -1,0 +1,54 @@
+-- What a call and an arrival leave, as the history then is.
+use Rattle.std.proofs.Common.{◌≡◌, ℕ, ◌++◌, List, [], ◌∷◌, Option, refl, sym, ◌∙◌, ap}
+use Rattle.strm_msg.specs.Message.{Msg}
+use Rattle.strm_msg.specs.declared.words.End.TheVariants.{A}
+use Rattle.strm_module.specs.Kinds.{Meaning}
+use Rattle.strm_module.specs.Calm.{IsCalm}
+use Rattle.strm_module.specs.declared.shape.Shape.{Shape}
+use Rattle.strm_ends.specs.declared.place.Place.{Place}
+use Rattle.strm_call.specs.declared.request.Request.{Request}
+use Rattle.strm_call.specs.declared.answer.Answer.{Answer}
+use Rattle.strm_head.specs.declared.event.Event.TheVariants.{Asked}
+use Rattle.strm_head.specs.Answered.{AnsweredCall, IsLooked, IsBounded}
+use Rattle.strm_head.specs.Begin.{back_of}
+use Rattle.strm_head.specs.Step.{Lands, arrived_of}
+use Rattle.strm_history.specs.declared.entry.Entry.{Entry}
+use Rattle.strm_history.specs.declared.call.Call.{Call}
+use Rattle.strm_history.specs.Entry.{out_in, IsStep}
+use Rattle.strm_history.specs.Log.{LogValue, call_entry, arrival_entry, HasLanded, IsCalled}
+use Rattle.strm_history.proofs.EntryLemmas.{call_back, landed_step}
+
+-- for kinds of any meaning
+module _ {K : Type 0} (means : Meaning K) where
+  -- a message that came in stands in the history
+  pub landed : (old new : LogValue K) (m copy : Msg) (answer : Answer) (moves : List Place) (looks : ℕ) (entry : Entry K) → copy ≡ m → entry ≡ arrival_entry copy answer moves looks → Lands means old.image A m answer moves [] new.image → IsLooked answer moves looks → (IsCalm means → IsBounded (arrived_of means old.image A m) answer moves looks new.image) → new.history ≡ old.history ++ entry ∷ [] → new.setup ≡ old.setup → HasLanded means old m new
+  landed old new m copy answer moves looks entry same is lands looked bound history setup = record {
+    answer = answer;
+    enters = record {
+      entry = entry;
+      by = rw is refl;
+      at = rw is refl;
+      has = rw (is, same) refl;
+      answers = rw is refl;
+      step = landed_step means old.image new.image m copy answer moves looks entry same is lands looked bound;
+      history = history;
+      setup = setup;
+    };
+  }
+
+  -- a call that was made stands in the history
+  pub called : (old new : LogValue K) (caller : ℕ) (call : Call (Shape K)) (copy : Request (Shape K)) (made : AnsweredCall) (answer twin : Answer) (moves : List Place) (looks : ℕ) (out : List ℕ) (back : List (Option (Shape K))) → copy ≡ call.request → answer ≡ made.answer → twin ≡ made.answer → out ≡ out_in made.answer back → back ≡ back_of means old.image call.end call.request made.answer → IsStep means old.image (call_entry caller call.end copy twin moves looks out) new.image → new.history ≡ old.history ++ call_entry caller call.end copy twin moves looks out ∷ [] → new.setup ≡ old.setup → IsCalled means old caller call answer back new
+  called old new caller call copy made answer twin moves looks out back same a equal o b step history setup = record {
+    enters = record {
+      entry = call_entry caller call.end copy twin moves looks out;
+      by = refl;
+      at = refl;
+      has = ap (λ r. Asked r) same;
+      answers = equal ∙ sym a;
+      step = step;
+      history = history;
+      setup = setup;
+    };
+    comes_back = rw a b;
+    handed = rw (same, a) (call_back means call.request made.answer out back old.image call.end o b);
+  }

@@ -1,0 +1,5 @@
+pub mod Setup
+pub mod Entry
+pub mod Serials
+pub mod History
+pub mod Log

@@ -1,0 +1,81 @@
+-- What a call and an arrival do to a stream that keeps its history.
+use Rattle.std.specs.Prelude.{◌≡◌, ℕ, Bool, true, false, List, [], ◌∷◌, ◌++◌, Option, flat_map}
+use Rattle.strm_msg.specs.Message.{Msg}
+use Rattle.strm_msg.specs.declared.words.End.{End}
+use Rattle.strm_msg.specs.declared.words.End.TheVariants.{A}
+use Rattle.strm_module.specs.Kinds.{Meaning}
+use Rattle.strm_module.specs.declared.shape.Shape.{Shape}
+use Rattle.strm_ends.specs.declared.place.Place.{Place}
+use Rattle.strm_ends.specs.Image.{Image}
+use Rattle.strm_call.specs.declared.answer.Answer.{Answer}
+use Rattle.strm_call.specs.declared.request.Request.{Request}
+use Rattle.strm_head.specs.declared.event.Event.{Event}
+use Rattle.strm_head.specs.declared.event.Event.TheVariants.{Asked, Arrived}
+use Rattle.strm_head.specs.Begin.{back_of}
+use Rattle.strm_head.specs.Step.{can_arrive}
+use Rattle.strm_history.specs.declared.setup.Setup.{Setup}
+use Rattle.strm_history.specs.declared.entry.Who.{Who}
+use Rattle.strm_history.specs.declared.entry.Who.TheVariants.{Caller, Line}
+use Rattle.strm_history.specs.declared.entry.Entry.{Entry}
+use Rattle.strm_history.specs.declared.call.Call.{Call}
+use Rattle.strm_history.specs.declared.call.Called.{Called}
+use Rattle.strm_history.specs.declared.call.Called.TheVariants.{Done, NoRoom}
+use Rattle.strm_history.specs.declared.call.Landed.{Landed}
+use Rattle.strm_history.specs.declared.call.Landed.TheVariants.{Entered, Full, NoMem}
+use Rattle.strm_history.specs.Entry.{serial_of, due_back, IsStep}
+
+-- a stream with its history: how it was made, its image, and its history
+pub record LogValue (K : Type 0) : Type 0 where
+  pub setup : Setup
+  pub image : Image K
+  pub history : List (Entry K)
+
+-- the call was made
+abbrev pub is_done : {P : Type 0} → Called P → Bool
+is_done (Done answer back) = true
+is_done (NoRoom same) = false
+
+-- the entry of a call that was made
+abbrev pub call_entry : {K : Type 0} → ℕ → End → Request (Shape K) → Answer → List Place → ℕ → List ℕ → Entry K
+call_entry caller e request answer moves looks out =
+    record { who = Caller caller; end = e; event = Asked request; answer = answer; moves = moves; looks = looks; out = record { items = out } }
+
+-- the entry of a message that came in
+abbrev pub arrival_entry : {K : Type 0} → Msg → Answer → List Place → ℕ → Entry K
+arrival_entry m answer moves looks =
+    record { who = Line; end = A; event = Arrived m; answer = answer; moves = moves; looks = looks; out = record { items = [] } }
+
+-- for kinds of any meaning
+module _ {K : Type 0} (means : Meaning K) where
+  -- one step more, by this caller or line, to this event at this end, with this answer: the history has it at its end
+  pub record Enters (old : LogValue K) (maker : Who) (at_end : End) (happened : Event (Shape K)) (answered : Answer) (new : LogValue K) : Type 0 where
+    pub entry : Entry K
+    pub by : entry.who ≡ maker
+    pub at : entry.end ≡ at_end
+    pub has : entry.event ≡ happened
+    pub answers : entry.answer ≡ answered
+    pub step : IsStep means old.image entry new.image
+    pub history : new.history ≡ old.history ++ entry ∷ []
+    pub setup : new.setup ≡ old.setup
+
+  -- a call that was made: a step that the history has, whose answer and modules the caller has
+  pub record IsCalled (old : LogValue K) (caller : ℕ) (call : Call (Shape K)) (answer : Answer) (back : List (Option (Shape K))) (new : LogValue K) : Type 0 where
+    pub enters : Enters old (Caller caller) call.end (Asked call.request) answer new
+    pub comes_back : back ≡ back_of means old.image call.end call.request answer
+    pub handed : flat_map serial_of back ≡ due_back enters.entry.event answer enters.entry.out.items
+
+  -- a call is made, or comes back and changes nothing
+  abbrev pub CallsBy : LogValue K → ℕ → Call (Shape K) → Called (Shape K) → LogValue K → Type 0
+  CallsBy old caller call (Done answer back) new = IsCalled old caller call answer back.items new
+  CallsBy old caller call (NoRoom same) new = (same ≡ call) × (new ≡ old)
+
+  -- a message that came in: a step that the history has
+  pub record HasLanded (old : LogValue K) (m : Msg) (new : LogValue K) : Type 0 where
+    pub answer : Answer
+    pub enters : Enters old Line A (Arrived m) answer new
+
+  -- a message comes in, or comes back and changes nothing: with Full exactly where none can come in
+  abbrev pub Lands : LogValue K → Msg → Landed → LogValue K → Type 0
+  Lands old m Entered new = HasLanded old m new
+  Lands old m (Full same) new = (can_arrive old.image A m ≡ false) × (same ≡ m) × (new ≡ old)
+  Lands old m (NoMem same) new = (same ≡ m) × (new ≡ old)

@@ -1,0 +1,55 @@
+//! A call on a stream that keeps its history, and what becomes of it and of a message that comes in.
+ghost use Rattle.std.specs.Prelude.{◌≡◌};
+ghost use Rattle.strm_history.specs.Log.{is_done};
+
+use arrayvec::ArrayVec;
+use strm_head::{Answer, MOST_MODULES, Request};
+use strm_msg::{End, Message};
+
+/// A call on an end of a stream. A push carries `P`, the module.
+#[derive(Drop)]
+pub struct Call<P> {
+    /// The end.
+    pub end: End,
+    /// What is asked.
+    pub request: Request<P>,
+}
+
+/// What becomes of a call on a stream that keeps its history, where `P` is a module.
+#[derive(Drop)]
+pub enum Called<P> {
+    /// It was made, and is in the history.
+    Done {
+        /// The answer, which the history has too.
+        answer: Answer,
+        /// The modules that come back, each as `Some`: that of a push that was refused, or those that
+        /// were taken out, topmost first.
+        back: ArrayVec<Option<P>, MOST_MODULES>,
+    },
+    /// It was not made, for want of memory for its entry in the history, or on a shared stream since the
+    /// seat can count no more calls. Nothing was changed, and here it is again.
+    NoRoom(Call<P>),
+}
+
+impl<P> Called<P> {
+    /// Whether it was made.
+    pub fn is_done(&self) -> bool
+        ensures { result ≡ is_done self.now }
+    {
+        match self {
+            Called::Done { answer: _, back: _ } => true,
+            Called::NoRoom(_) => false,
+        }
+    }
+}
+
+/// What becomes of a message that comes in from a line.
+#[derive(Drop)]
+pub enum Landed {
+    /// It came in, and is in the history.
+    Entered,
+    /// It cannot come in. Nothing was changed, and here it is again.
+    Full(Message),
+    /// It did not come in, for want of memory. Nothing was changed, and here it is again.
+    NoMem(Message),
+}

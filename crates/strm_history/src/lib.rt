@@ -1,0 +1,17 @@
+//! The history of a stream: every call and every message that came in, each with its answer and with what moved.
+//!
+//! A history is legal: there is a stream before its first entry and one after each, and each entry is a step
+//! from one to the next. A [`Log`] is a stream that keeps its history.
+#![tactic(auto)]
+
+mod call;
+mod copying;
+mod entry;
+mod log;
+mod setup;
+
+pub use call::{Call, Called, Landed};
+pub use copying::copy_request;
+pub use entry::{Entry, Who};
+pub use log::Log;
+pub use setup::{MOST_RING, Setup};

@@ -17,9 +17,15 @@ use Rattle.strm_head.specs.Answered.{AnsweredCall, IsLooked, IsBounded}
 use Rattle.strm_head.specs.Begin.{begun_of, handed_out, back_of, out_of, serials_of}
 use Rattle.strm_head.specs.Step.{Step, Lands, arrived_of}
 use Rattle.strm_history.specs.declared.entry.Entry.{Entry}
+use Rattle.strm_history.specs.declared.entry.Who.TheVariants.{Caller}
 use Rattle.strm_history.specs.Entry.{serial_of, out_in, due_back, IsStep}
 use Rattle.strm_history.specs.History.{Legal}
-use Rattle.strm_history.specs.Log.{call_entry, arrival_entry}
+use Rattle.strm_history.specs.Log.{arrival_entry}
+
+-- the entry of a call that was made
+abbrev pub call_entry : {K : Type 0} → ℕ → End → Request (Shape K) → Answer → List Place → ℕ → List ℕ → Entry K
+call_entry caller e request answer moves looks out =
+    record { who = Caller caller; end = e; event = Asked request; answer = answer; moves = moves; looks = looks; out = record { items = out } }
 
 -- for kinds of any meaning
 module _ {K : Type 0} (means : Meaning K) where

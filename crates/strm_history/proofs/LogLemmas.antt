@@ -15,8 +15,8 @@ use Rattle.strm_head.specs.Step.{Lands, arrived_of}
 use Rattle.strm_history.specs.declared.entry.Entry.{Entry}
 use Rattle.strm_history.specs.declared.call.Call.{Call}
 use Rattle.strm_history.specs.Entry.{out_in, IsStep}
-use Rattle.strm_history.specs.Log.{LogValue, call_entry, arrival_entry, HasLanded, IsCalled}
-use Rattle.strm_history.proofs.EntryLemmas.{call_back, landed_step}
+use Rattle.strm_history.specs.Log.{LogValue, arrival_entry, HasLanded, IsCalled}
+use Rattle.strm_history.proofs.EntryLemmas.{call_entry, call_back, landed_step}
 
 -- for kinds of any meaning
 module _ {K : Type 0} (means : Meaning K) where

@@ -8,7 +8,6 @@ use Rattle.strm_module.specs.declared.shape.Shape.{Shape}
 use Rattle.strm_ends.specs.declared.place.Place.{Place}
 use Rattle.strm_ends.specs.Image.{Image}
 use Rattle.strm_call.specs.declared.answer.Answer.{Answer}
-use Rattle.strm_call.specs.declared.request.Request.{Request}
 use Rattle.strm_head.specs.declared.event.Event.{Event}
 use Rattle.strm_head.specs.declared.event.Event.TheVariants.{Asked, Arrived}
 use Rattle.strm_head.specs.Begin.{back_of}
@@ -34,11 +33,6 @@ pub record LogValue (K : Type 0) : Type 0 where
 abbrev pub is_done : {P : Type 0} → Called P → Bool
 is_done (Done answer back) = true
 is_done (NoRoom same) = false
-
--- the entry of a call that was made
-abbrev pub call_entry : {K : Type 0} → ℕ → End → Request (Shape K) → Answer → List Place → ℕ → List ℕ → Entry K
-call_entry caller e request answer moves looks out =
-    record { who = Caller caller; end = e; event = Asked request; answer = answer; moves = moves; looks = looks; out = record { items = out } }
 
 -- the entry of a message that came in
 abbrev pub arrival_entry : {K : Type 0} → Msg → Answer → List Place → ℕ → Entry K
@@ -74,7 +68,8 @@ module _ {K : Type 0} (means : Meaning K) where
     pub answer : Answer
     pub enters : Enters old Line A (Arrived m) answer new
 
-  -- a message comes in, or comes back and changes nothing: with Full exactly where none can come in
+  -- a message comes in, or comes back and changes nothing: with Full only where it cannot come in, and else for want of memory, which
+  -- is looked at first
   abbrev pub Lands : LogValue K → Msg → Landed → LogValue K → Type 0
   Lands old m Entered new = HasLanded old m new
   Lands old m (Full same) new = (can_arrive old.image A m ≡ false) × (same ≡ m) × (new ≡ old)

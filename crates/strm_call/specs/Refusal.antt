@@ -1,5 +1,5 @@
 -- Refusals of calls, their numbers and errnos (streamio(7), getmsg(2), putmsg(2): "Errors").
-use Rattle.std.specs.Prelude.{ℕ, Bool, Option, Some, None, List, codes, if◌then◌else◌}
+use Rattle.std.specs.Prelude.{ℕ, Bool, Option, Some, None, List, [], ◌∷◌, codes, if◌then◌else◌}
 use Rattle.strm_msg.specs.declared.errno.Errno.{Errno}
 use Rattle.strm_msg.specs.declared.errno.Errno.TheVariants.{EBADF, ENOSR, EINVAL, ERANGE, ENXIO, EBADMSG, ENODATA, EAGAIN}
 use Rattle.strm_call.specs.declared.refusal.Refusal.{Refusal}
@@ -43,5 +43,8 @@ text_of NoMessage = codes "no message is there"
 text_of WouldWait = codes "the call would have to wait"
 text_of NoMemory = codes "no memory"
 
-abbrev pub refused_if : Bool → Refusal → Option Refusal
-refused_if holds refusal = if holds then Some refusal else None
+-- what may refuse a call is a list, in the order in which it is looked for: whether it holds, and the refusal. A call is refused
+-- with the first that holds
+abbrev pub first_that_holds : List (Bool × Refusal) → Option Refusal
+first_that_holds [] = None
+first_that_holds (row ∷ rows) = if row.0 then Some row.1 else first_that_holds rows

@@ -8,6 +8,7 @@ mod answer;
 mod delivery;
 mod refusal;
 mod request;
+mod same;
 mod twins;
 
 pub use answer::{
@@ -16,4 +17,5 @@ pub use answer::{
 pub use delivery::deliver;
 pub use refusal::Refusal;
 pub use request::{GetFlag, MAX_CONTROL, MAX_DATA, Priority, PutFlag, Request, Wanted};
+pub use same::is_same_part;
 pub use twins::Twins;

@@ -31,12 +31,13 @@ pub(crate) struct Enabling {
 impl Model for Enabling {
     ghost use Rattle.std.specs.Prelude.{◌≡◌, length};
     ghost use Rattle.strm_chain.specs.Enabled.{Enabled};
+    ghost use Rattle.strm_chain.specs.declared.number.TheConstants.{QUEUES};
 
     ghost Value = { Enabled };
 
     ghost view = { λ e. record { run = e.run; wanted = e.wanted } };
 
-    ghost invariant = { λ e. (e.run.places ≡ 40) × (length e.wanted ≡ 40) };
+    ghost invariant = { λ e. (e.run.places ≡ QUEUES) × (length e.wanted ≡ QUEUES) };
 }
 
 impl Enabling {
@@ -69,8 +70,8 @@ impl Enabling {
     /// How many places are enabled.
     pub(crate) fn len(&self) -> usize
         ensures value { result ≡ length self.now.run.items }
-        ensures few { result ≤ 40 }
-        ensures once { AreOnce 40 self.now.run.items }
+        ensures few { result ≤ QUEUES }
+        ensures once { AreOnce QUEUES self.now.run.items }
     {
         self.run.len()
     }
@@ -87,7 +88,7 @@ impl Enabling {
 
     /// Enables a place that holds a message.
     fn enable(&mut self, place: Place)
-        requires { place_number place < 40 }
+        requires { place_number place < QUEUES }
         ensures items { self.new.run.items ≡ with_place self.old.run.items (place_number place) }
         ensures enabled { (other : Place) → is_enabled self.new.run other ≡ (is_enabled self.old.run other || (place_number other == place_number place)) }
         ensures given { self.new.run.given ≡ self.old.run.given }
@@ -138,7 +139,7 @@ impl Enabling {
     /// enabled, and if it has fewer, so is the place that waits for it, where that must move now
     /// (back-enabling).
     pub(crate) fn wake<M: ModuleOf>(&mut self, ends: &Ends<M>, queue: NextQueue, before: usize)
-        requires { number_of queue < 40 }
+        requires { number_of queue < QUEUES }
         ensures ready { (old : Image M.Kind) → before ≡ length (held_by old queue) → IsReady old self.old → DiffersIn old ends.now.image queue → IsReady ends.now.image self.new }
         ensures places { ArePlaces ends.now.image self.old.run.items → ArePlaces ends.now.image self.new.run.items }
         ensures put { before ≤ length (held_by ends.now.image queue) → length self.new.run.items + before ≤ length self.old.run.items + length (held_by ends.now.image queue) }
@@ -157,7 +158,7 @@ impl Enabling {
 
     /// Enables the place of a queue, if it holds a message; a head has none.
     fn wake_own<M: ModuleOf>(&mut self, ends: &Ends<M>, queue: NextQueue)
-        requires { number_of queue < 40 }
+        requires { number_of queue < QUEUES }
         ensures kept { (place : Place) → is_enabled self.new.run place ≡ false → is_enabled self.old.run place ≡ false }
         ensures own { (place : Place) → is_some (front_of ends.now.image place) ≡ true → is_enabled self.new.run place ≡ false → Of place ≢ queue }
         ensures places { ArePlaces ends.now.image self.old.run.items → ArePlaces ends.now.image self.new.run.items }
@@ -173,7 +174,7 @@ impl Enabling {
 
     /// Enables the place that waits for a queue, if it must move now.
     fn wake_behind<M: ModuleOf>(&mut self, ends: &Ends<M>, queue: NextQueue)
-        requires { number_of queue < 40 }
+        requires { number_of queue < QUEUES }
         ensures ready { IsReadyBut ends.now.image queue self.old → IsReady ends.now.image self.new }
         ensures places { ArePlaces ends.now.image self.old.run.items → ArePlaces ends.now.image self.new.run.items }
         ensures more { length self.new.run.items ≤ length self.old.run.items + 1 }
@@ -189,7 +190,7 @@ impl Enabling {
 
     /// The place that waits for a queue.
     fn waiting(&self, queue: NextQueue) -> Option<Place>
-        requires { number_of queue < 40 }
+        requires { number_of queue < QUEUES }
         ensures { slice_get self.now.wanted (number_of queue) ≡ Some result }
     {
         self.wanted[number_of(queue)]
@@ -197,7 +198,7 @@ impl Enabling {
 
     /// No place waits for a queue any longer.
     fn forget(&mut self, queue: NextQueue)
-        requires { number_of queue < 40 }
+        requires { number_of queue < QUEUES }
         ensures wanted { self.new.wanted ≡ slice_set self.old.wanted (number_of queue) None }
         ensures run { self.new.run ≡ self.old.run }
     {

@@ -5,8 +5,8 @@ ghost use Rattle.strm_chain.specs.Number.{at_end, number_of, place_number, place
 use strm_ends::{NextQueue, Place};
 use strm_msg::End;
 
-/// How many numbers there are, with eight modules at each of two ends.
-pub(crate) const QUEUES: usize = 40;
+/// How many numbers of queues there are, with eight modules at each of two ends.
+pub const QUEUES: usize = 40;
 
 /// A number at end A, or the one after it at end B.
 fn at_end(end: End, number: usize) -> usize

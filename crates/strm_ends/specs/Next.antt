@@ -3,6 +3,7 @@ use Rattle.std.specs.Prelude.{◌≡◌, ◌+◌, ◌≤◌, ℕ, Bool, Option, 
 use Rattle.strm_msg.specs.declared.words.End.{End}
 use Rattle.strm_msg.specs.declared.words.Side.TheVariants.{Rd, Wr}
 use Rattle.strm_queue.specs.Queue.{WaterMarks}
+use Rattle.strm_qpair.specs.declared.end.TheConstants.{MOST_MODULES}
 use Rattle.strm_qpair.specs.Modules.{Identity, identities_of}
 use Rattle.strm_qpair.specs.Canput.{Fill, fill_with}
 use Rattle.strm_qpair.specs.Next.{marks_at, identity_at, next_below, next_above}
@@ -55,8 +56,8 @@ fill_by image (Some queue) = fill_with (marks_by image queue) (held_by image que
 
 -- a queue of one of the modules that an end can have, or of a head or a driver
 abbrev pub IsCounted : NextQueue → Type 0
-IsCounted (Of (Place.Wr e i)) = i ≤ 8
-IsCounted (Of (Place.Rd e i)) = i ≤ 8
+IsCounted (Of (Place.Wr e i)) = i ≤ MOST_MODULES
+IsCounted (Of (Place.Rd e i)) = i ≤ MOST_MODULES
 IsCounted (Of (Place.Drv e)) = Unit {0}
 IsCounted (Head e) = Unit {0}
 

@@ -1,5 +1,6 @@
 -- From what the parts of a call promise to a step of the stream.
-use Rattle.std.proofs.Common.{◌≡◌, ℕ, suc, zero, not, Bool, true, false, Option, Some, None, List, [], refl, sym, ◌∙◌, ap, subst}
+use Rattle.std.specs.Option.{option_or}
+use Rattle.std.proofs.Common.{◌≡◌, ℕ, suc, zero, not, ◌&&◌, nat_le, length, Bool, true, false, Option, Some, None, List, [], ◌∷◌, ◌++◌, refl, sym, ◌∙◌, ap, subst}
 use Rattle.strm_msg.specs.declared.words.End.{End}
 use Rattle.strm_module.specs.Kinds.{Meaning}
 use Rattle.strm_module.specs.declared.shape.Shape.{Shape}
@@ -15,17 +16,19 @@ use Rattle.strm_call.specs.declared.request.Request.TheVariants as Requests
 use Rattle.strm_call.specs.declared.refusal.Refusal.{Refusal}
 use Rattle.strm_call.specs.declared.refusal.Refusal.TheVariants.{Closed, Error, Invalid, NoMessage}
 use Rattle.strm_call.specs.declared.refusal.Refusal.TheVariants as Refusals
-use Rattle.strm_call.specs.Refusal.{refused_if}
+use Rattle.strm_call.specs.Refusal.{first_that_holds}
 use Rattle.strm_call.specs.declared.answer.Reply.{Reply}
 use Rattle.strm_call.specs.declared.answer.Answer.{Answer}
 use Rattle.strm_call.specs.declared.answer.Answer.TheVariants.{Done, Refused, Broke}
-use Rattle.std.specs.Option.{option_or}
 use Rattle.strm_msg.specs.declared.errno.Errno.{Errno}
 use Rattle.strm_msg.specs.Message.{Msg}
 use Rattle.strm_call.specs.Begun.{Begun, begun, begun_ioctl, reply_after}
-use Rattle.strm_head.specs.Begin.{begun_of, refusal_of, changes_no_queue, awaits_answer, takes_no_memory, can_lack_memory, pushed_of, closed_refusal, common_refusal, error_refusal, handed_out, back_of, out_of, serials_of, wants_memory}
+use Rattle.strm_head.specs.Begin.{begun_of, refusal_of, changes_no_queue, awaits_answer, takes_no_memory, can_lack_memory, pushed_of, common_refusals, own_refusals, error_refusals, handed_out, back_of, out_of, serials_of, wants_memory}
+use Rattle.strm_ioctl.specs.Ask.{is_empty}
+use Rattle.strm_module.specs.declared.shape.TheConstants.{LONGEST_NAME}
 use Rattle.strm_head.specs.Inside.{IsKept}
 use Rattle.strm_head.specs.Step.{Answers, Finishes, SettlesUnless, Settles, answered_if}
+use Rattle.strm_head.proofs.RefusalLemmas.{first_of_all}
 use Rattle.strm_head.proofs.KeptLemmas.{whole_of, quiet_begun, begun_opens}
 
 -- for kinds of any meaning
@@ -258,53 +261,50 @@ module _ {K : Type 0} (means : Meaning K) where
 abbrev IsNotMemory : Option Refusal → Type 0
 IsNotMemory found = (refusal : Refusal) → found ≡ Some refusal → wants_memory (Refused refusal) ≡ false
 
-if_not_memory : (holds : Bool) (first : Refusal) → wants_memory (Refused first) ≡ false → IsNotMemory (refused_if holds first)
-if_not_memory true first other refusal is =
+row_not_memory : (holds : Bool) (first : Refusal) (rows : List (Bool × Refusal)) → wants_memory (Refused first) ≡ false → IsNotMemory (first_that_holds rows) → IsNotMemory (first_that_holds ((holds, first) ∷ rows))
+row_not_memory true first rows other later refusal is =
     let same : first ≡ refusal = cc in subst (λ r. wants_memory (Refused r) ≡ false) same other
-if_not_memory false first other refusal is = cc
+row_not_memory false first rows other later refusal is = later refusal is
 
 or_not_memory : (first later : Option Refusal) → IsNotMemory first → IsNotMemory later → IsNotMemory (option_or first later)
 or_not_memory None later p q refusal is = q refusal is
 or_not_memory (Some r) later p q refusal is = p refusal is
 
-error_not_memory : (errno : Option Errno) → IsNotMemory (error_refusal errno)
+none_not_memory : IsNotMemory (first_that_holds [])
+none_not_memory refusal is = cc
+
+error_not_memory : (errno : Option Errno) → IsNotMemory (first_that_holds (error_refusals errno))
 error_not_memory None refusal is = cc
 error_not_memory (Some errno) refusal is =
     let same : Error errno ≡ refusal = cc in subst (λ r. wants_memory (Refused r) ≡ false) same refl
 
-common_not_memory : {K : Type 0} (image : Image K) (e : End) (own : Option Refusal) → IsNotMemory own → IsNotMemory (option_or (common_refusal image e) own)
-common_not_memory image e own other =
-    or_not_memory (common_refusal image e) own
-    (or_not_memory (closed_refusal image e) _ (if_not_memory (not (end_of image e).is_open) Closed refl) (or_not_memory (refused_if image.broken Refusals.Broken) (error_refusal (end_of image e).state.errno) (if_not_memory image.broken Refusals.Broken refl) (error_not_memory (end_of image e).state.errno)))
-    other
+common_not_memory : {K : Type 0} (image : Image K) (e : End) → IsNotMemory (first_that_holds (common_refusals image e))
+common_not_memory image e =
+    let errno = (end_of image e).state.errno in
+    row_not_memory (not (end_of image e).is_open) Closed ((image.broken, Refusals.Broken) ∷ error_refusals errno) refl
+    (row_not_memory image.broken Refusals.Broken (error_refusals errno) refl (error_not_memory errno))
 
-none_not_memory : IsNotMemory None
-none_not_memory refusal is = cc
+-- nor is one of the call's own, of a call that takes no memory
+own_not_memory : {K : Type 0} (image : Image K) (e : End) (request : Request (Shape K)) → takes_no_memory request ≡ true → IsNotMemory (first_that_holds (own_refusals image e request))
+own_not_memory image e Nread none refusal is = none_not_memory refusal is
+own_not_memory image e (SetRead mode prot) none refusal is = none_not_memory refusal is
+own_not_memory image e GetRead none refusal is = none_not_memory refusal is
+own_not_memory image e (Canput band) none refusal is = none_not_memory refusal is
+own_not_memory image e (Ckband band) none refusal is = none_not_memory refusal is
+own_not_memory image e Getband none refusal is =
+    row_not_memory (is_empty (end_of image e).head) NoMessage [] refl none_not_memory refusal is
+own_not_memory image e Look none refusal is =
+    row_not_memory (is_empty (end_of image e).modules) Invalid [] refl none_not_memory refusal is
+own_not_memory image e Requests.List none refusal is = none_not_memory refusal is
+own_not_memory image e (Find name) none refusal is =
+    row_not_memory (not (nat_le 1 (length name) && nat_le (length name) LONGEST_NAME)) Invalid [] refl none_not_memory refusal is
+own_not_memory image e request none refusal is = cc
 
 -- the first refusal that holds of a call that takes no memory is not want of memory
 pub refused_memory : {K : Type 0} (image : Image K) (e : End) (request : Request (Shape K)) (refusal : Refusal) → takes_no_memory request ≡ true → refusal_of image e request ≡ Some refusal → wants_memory (Refused refusal) ≡ false
-refused_memory image e (Putmsg ctl dat flag) refusal none is = cc
-refused_memory image e (Putpmsg ctl dat band flag) refusal none is = cc
-refused_memory image e (Getmsg maxctl maxdat flag) refusal none is = cc
-refused_memory image e (Getpmsg maxctl maxdat band flag) refusal none is = cc
-refused_memory image e (Read max) refusal none is = cc
-refused_memory image e (Write dat) refusal none is = cc
-refused_memory image e (Push shape) refusal none is = cc
-refused_memory image e Nread refusal none is = common_not_memory image e _ none_not_memory refusal is
-refused_memory image e (Peek maxctl maxdat flag) refusal none is = cc
-refused_memory image e (SetRead mode prot) refusal none is = common_not_memory image e _ none_not_memory refusal is
-refused_memory image e GetRead refusal none is = common_not_memory image e _ none_not_memory refusal is
-refused_memory image e (Canput band) refusal none is = common_not_memory image e _ none_not_memory refusal is
-refused_memory image e (Ckband band) refusal none is = common_not_memory image e _ none_not_memory refusal is
-refused_memory image e Getband refusal none is = common_not_memory image e _ (if_not_memory _ NoMessage refl) refusal is
-refused_memory image e Pop refusal none is = cc
-refused_memory image e Look refusal none is = common_not_memory image e _ (if_not_memory _ Invalid refl) refusal is
-refused_memory image e Requests.List refusal none is = common_not_memory image e _ none_not_memory refusal is
-refused_memory image e (Find name) refusal none is = common_not_memory image e _ (if_not_memory _ Invalid refl) refusal is
-refused_memory image e (Str cmd dat) refusal none is = cc
-refused_memory image e (Flush r w) refusal none is = cc
-refused_memory image e (FlushBand band r w) refusal none is = cc
-refused_memory image e Close refusal none is = cc
+refused_memory image e request refusal none is =
+    let other : request ≡ Close → ⊥ = λ same. let no : true ≡ false = sym none ∙ ap (λ r. takes_no_memory r) same in cc in
+    or_not_memory (first_that_holds (common_refusals image e)) (first_that_holds (own_refusals image e request)) (common_not_memory image e) (own_not_memory image e request none) refusal (sym (first_of_all image e request other) ∙ is)
 
 abbrev off : {K : Type 0} → Image K → Bool → Image K
 off image b = record image { broken = b }

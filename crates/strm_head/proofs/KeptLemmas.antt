@@ -1,6 +1,7 @@
 -- What a stream keeps from call to call: which ends are open, and that no place must move.
-use Rattle.std.proofs.Common.{◌≡◌, ℕ, ◌+◌, ◌||◌, not, true, false, Bool, Option, Some, None, List, suc, zero, refl, sym, ◌∙◌, ap, subst, if◌then◌else◌}
+use Rattle.std.proofs.Common.{◌≡◌, ℕ, ◌+◌, ◌||◌, not, true, false, Bool, Option, Some, None, List, ◌∷◌, suc, zero, refl, sym, ◌∙◌, ap, subst, if◌then◌else◌}
 use Rattle.std.specs.Option.{option_or}
+use Rattle.strm_msg.specs.declared.errno.Errno.{Errno}
 use Rattle.strm_msg.specs.Message.{Msg, Part}
 use Rattle.strm_msg.specs.Kind.{is_high}
 use Rattle.strm_msg.specs.declared.words.End.{End}
@@ -32,13 +33,14 @@ use Rattle.strm_call.specs.declared.refusal.Refusal.TheVariants.{Closed, Broken}
 use Rattle.strm_call.specs.declared.answer.Reply.{Reply}
 use Rattle.strm_call.specs.declared.answer.Answer.{Answer}
 use Rattle.strm_call.specs.declared.answer.Answer.TheVariants.{Done, Refused, Broke}
-use Rattle.strm_call.specs.Refusal.{refused_if}
+use Rattle.strm_call.specs.Refusal.{first_that_holds}
 use Rattle.strm_call.specs.Begun.{Begun}
 use Rattle.strm_msgio.specs.Send.{sent_of, putmsg_message, putpmsg_message, ordinary_message}
 use Rattle.strm_ioctl.specs.Ioctl.{asked_of}
 use Rattle.strm_ioctl.specs.Close.{closed_image, after_close}
 use Rattle.strm_ioctl.proofs.CloseLemmas.{hung_up_keeps}
-use Rattle.strm_head.specs.Begin.{begun_of, refusal_of, changes_no_queue}
+use Rattle.strm_head.specs.Begin.{begun_of, refusal_of, common_refusals, own_refusals, error_refusals, changes_no_queue}
+use Rattle.strm_head.proofs.RefusalLemmas.{first_of_all}
 use Rattle.strm_head.specs.Inside.{HasItsEnds, IsIdle, AreIdle, IsKept, OpensNone}
 use Rattle.strm_head.specs.Step.{Answers, IsDone, IsBroken, SettlesUnless, Lands, arrival, arrived_of, answered_if}
 
@@ -72,34 +74,19 @@ pub ends_stay : {K : Type 0} (old new : Image K) → OpensNone old new → HasIt
 ends_stay old new opens ends e h = ap (λ d. has_end d e) opens.driver ∙ ends e (opens.ends e h)
 
 -- a call that is not refused, and is no close, finds a stream that is not broken
-whole_if : (opened broken : Bool) (error own : Option Refusal) → option_or (option_or (refused_if (not opened) Closed) (option_or (refused_if broken Broken) error)) own ≡ None → broken ≡ false
-whole_if true false error own h = refl
-whole_if true true error own h = cc
-whole_if false broken error own h = cc
+whole_if : (opened broken : Bool) (errno : Option Errno) → first_that_holds ((not opened, Closed) ∷ (broken, Broken) ∷ error_refusals errno) ≡ None → broken ≡ false
+whole_if true false errno h = refl
+whole_if true true errno h = cc
+whole_if false broken errno h = cc
+
+none_before : (first later : Option Refusal) → option_or first later ≡ None → first ≡ None
+none_before None later h = refl
+none_before (Some refusal) later h = cc
 
 pub whole_of : {K : Type 0} (image : Image K) (e : End) (request : Request (Shape K)) → refusal_of image e request ≡ None → (request ≡ Close → ⊥) → image.broken ≡ false
-whole_of image e (Putmsg ctl dat flag) h other = whole_if (end_of image e).is_open image.broken _ _ h
-whole_of image e (Putpmsg ctl dat band flag) h other = whole_if (end_of image e).is_open image.broken _ _ h
-whole_of image e (Getmsg maxctl maxdat flag) h other = whole_if (end_of image e).is_open image.broken _ _ h
-whole_of image e (Getpmsg maxctl maxdat band flag) h other = whole_if (end_of image e).is_open image.broken _ _ h
-whole_of image e (Read max) h other = whole_if (end_of image e).is_open image.broken _ _ h
-whole_of image e (Write dat) h other = whole_if (end_of image e).is_open image.broken _ _ h
-whole_of image e (Push shape) h other = whole_if (end_of image e).is_open image.broken _ _ h
-whole_of image e Nread h other = whole_if (end_of image e).is_open image.broken _ _ h
-whole_of image e (Peek maxctl maxdat flag) h other = whole_if (end_of image e).is_open image.broken _ _ h
-whole_of image e (SetRead mode prot) h other = whole_if (end_of image e).is_open image.broken _ _ h
-whole_of image e GetRead h other = whole_if (end_of image e).is_open image.broken _ _ h
-whole_of image e (Canput band) h other = whole_if (end_of image e).is_open image.broken _ _ h
-whole_of image e (Ckband band) h other = whole_if (end_of image e).is_open image.broken _ _ h
-whole_of image e Getband h other = whole_if (end_of image e).is_open image.broken _ _ h
-whole_of image e Pop h other = whole_if (end_of image e).is_open image.broken _ _ h
-whole_of image e Look h other = whole_if (end_of image e).is_open image.broken _ _ h
-whole_of image e Requests.List h other = whole_if (end_of image e).is_open image.broken _ _ h
-whole_of image e (Find name) h other = whole_if (end_of image e).is_open image.broken _ _ h
-whole_of image e (Str cmd dat) h other = whole_if (end_of image e).is_open image.broken _ _ h
-whole_of image e (Flush r w) h other = whole_if (end_of image e).is_open image.broken _ _ h
-whole_of image e (FlushBand band r w) h other = whole_if (end_of image e).is_open image.broken _ _ h
-whole_of image e Close h other = absurd (other refl)
+whole_of image e request h other =
+    whole_if (end_of image e).is_open image.broken (end_of image e).state.errno
+    (none_before (first_that_holds (common_refusals image e)) (first_that_holds (own_refusals image e request)) (sym (first_of_all image e request other) ∙ h))
 
 -- the record of a head is no part of what moves
 same_above : {K : Type 0} (image : Image K) (e : End) (r : Record) (p : End) → above (end_of (with_state image e r) p) (count_of (with_state image e r) p + 1) ≡ above (end_of image p) (count_of image p + 1)

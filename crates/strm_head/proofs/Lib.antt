@@ -1,4 +1,6 @@
 pub mod KeptLemmas
+pub mod OrderLemmas
+pub mod RefusalLemmas
 pub mod CallLemmas
 pub mod ArriveLemmas
 mod WorkedExamples

@@ -1,7 +1,7 @@
 -- What a call answered, the places that moved, and how many were looked at.
-use Rattle.std.specs.Prelude.{◌≡◌, ◌≤◌, ℕ, List, length}
+use Rattle.std.specs.Prelude.{◌≡◌, ◌≤◌, ℕ, List}
 use Rattle.strm_ends.specs.Image.{Image}
-use Rattle.strm_chain.specs.Count.{most_looks}
+use Rattle.strm_chain.specs.Count.{AreLooks, most_looks}
 use Rattle.strm_ends.specs.declared.place.Place.{Place}
 use Rattle.strm_call.specs.declared.answer.Answer.{Answer}
 use Rattle.strm_call.specs.declared.answer.Answer.TheVariants.{Done, Refused, Broke}
@@ -11,13 +11,13 @@ pub record AnsweredCall : Type 0 where
   pub moves : List Place
   pub looks : ℕ
 
--- each move is a look, and what is refused looks at no place
+-- each move is a look and there are few others, and what is refused looks at no place
 abbrev pub IsLooked : Answer → List Place → ℕ → Type 0
-IsLooked (Done reply) moves looks = length moves ≤ looks
+IsLooked (Done reply) moves looks = AreLooks moves looks
 IsLooked (Refused refusal) moves looks = looks ≡ 0
 IsLooked Broke moves looks = looks ≡ 0
 
--- a call that is done looks at few places after it has begun
+-- with calm modules a call that is done looks at fewer after it has begun
 abbrev pub IsBounded : {K : Type 0} → Image K → Answer → List Place → ℕ → Image K → Type 0
 IsBounded begun (Done reply) moves looks after = looks ≤ most_looks begun moves after
 IsBounded begun (Refused refusal) moves looks after = Unit {0}

@@ -1,12 +1,12 @@
 -- What becomes of a message that comes in from a line.
-use Rattle.std.specs.Prelude.{◌≡◌, ◌≤◌, true, false, [], length}
+use Rattle.std.specs.Prelude.{◌≡◌, ◌≤◌, true, false, []}
 use Rattle.strm_msg.specs.Message.{Msg}
 use Rattle.strm_msg.specs.declared.words.End.TheVariants.{A}
 use Rattle.strm_module.specs.Kinds.{Meaning}
 use Rattle.strm_ends.specs.Image.{Image}
 use Rattle.strm_module.specs.Calm.{IsCalm}
 use Rattle.strm_chain.specs.Fault.{Breaks}
-use Rattle.strm_chain.specs.Count.{most_looks}
+use Rattle.strm_chain.specs.Count.{AreLooks, most_looks}
 use Rattle.strm_call.specs.declared.answer.Reply.TheVariants.{Line}
 use Rattle.strm_call.specs.declared.answer.Answer.TheVariants as Answer
 use Rattle.strm_head.specs.declared.outcome.Arrived.{Arrived}
@@ -18,7 +18,7 @@ module _ {K : Type 0} (means : Meaning K) where
   -- a message was taken, which is a step; or it comes back, and nothing is changed: with Full exactly where none can come in
   abbrev pub Arrives : Image K → Msg → Arrived → Image K → Type 0
   Arrives image m (Taken moves looks) after =
-      Lands means image A m (Answer.Done Line) moves [] after × (length moves ≤ looks) × (IsCalm means → looks ≤ most_looks (arrived_of means image A m) moves after)
+      Lands means image A m (Answer.Done Line) moves [] after × AreLooks moves looks × (IsCalm means → looks ≤ most_looks (arrived_of means image A m) moves after)
   Arrives image m (Full same) after = (can_arrive image A m ≡ false) × (same ≡ m) × (after ≡ image)
   Arrives image m (NoMem same) after = (can_arrive image A m ≡ true) × (same ≡ m) × (after ≡ image)
   Arrives image m Broke after = Lands means image A m Answer.Broke [] [] after

@@ -1,6 +1,6 @@
 -- What a call does before any queue moves, by the call: the first refusal that holds, or what the call has done.
-use Rattle.std.specs.Prelude.{ℕ, ◌&&◌, not, Bool, true, false, Option, Some, None, List, [], ◌∷◌, map}
-use Rattle.std.specs.Option.{option_or}
+use Rattle.std.specs.Prelude.{ℕ, ◌≡◌, ◌&&◌, not, nat_lt, Bool, true, false, Option, Some, None, List, [], ◌∷◌, ◌++◌, map}
+use Rattle.std.specs.List.{list_all}
 use Rattle.strm_msg.specs.declared.errno.Errno.{Errno}
 use Rattle.strm_msg.specs.declared.words.End.{End}
 use Rattle.strm_module.specs.Kinds.{Meaning}
@@ -12,54 +12,64 @@ use Rattle.strm_call.specs.declared.refusal.Refusal.{Refusal}
 use Rattle.strm_call.specs.declared.refusal.Refusal.TheVariants.{Closed, Broken, Error, NoMemory}
 use Rattle.strm_call.specs.declared.answer.Answer.{Answer}
 use Rattle.strm_call.specs.declared.answer.Answer.TheVariants.{Done, Refused, Broke}
-use Rattle.strm_call.specs.Refusal.{refused_if}
+use Rattle.strm_call.specs.Refusal.{first_that_holds, number_of}
 use Rattle.strm_call.specs.Begun.{Begun}
-use Rattle.strm_msgio.specs.Send.{putmsg_refusal, putpmsg_refusal, write_refusal, putmsg_begun, putpmsg_begun, write_begun}
-use Rattle.strm_msgio.specs.Read.{read_refusal, read_begun}
-use Rattle.strm_msgio.specs.Take.{getmsg_refusal, getpmsg_refusal, getmsg_begun, getpmsg_begun, peek_begun}
-use Rattle.strm_ioctl.specs.Ask.{getband_refusal, nread_begun, canput_begun, ckband_begun, getband_begun}
+use Rattle.strm_msgio.specs.Send.{putmsg_refusals, putpmsg_refusals, write_refusals, putmsg_begun, putpmsg_begun, write_begun}
+use Rattle.strm_msgio.specs.Read.{read_refusals, read_begun}
+use Rattle.strm_msgio.specs.Take.{getmsg_refusals, getpmsg_refusals, getmsg_begun, getpmsg_begun, peek_begun}
+use Rattle.strm_ioctl.specs.Ask.{getband_refusals, nread_begun, canput_begun, ckband_begun, getband_begun}
 use Rattle.strm_ioctl.specs.Options.{set_read_begun, get_read_begun}
-use Rattle.strm_ioctl.specs.Modules.{push_refusal, pop_refusal, look_refusal, push_begun, pop_begun, look_begun}
-use Rattle.strm_ioctl.specs.Names.{find_refusal, list_begun, find_begun}
-use Rattle.strm_ioctl.specs.Ioctl.{str_refusal, str_begun}
-use Rattle.strm_ioctl.specs.Flush.{flush_refusal, flush_begun, flush_band_begun}
+use Rattle.strm_ioctl.specs.Modules.{push_refusals, pop_refusals, look_refusals, push_begun, pop_begun, look_begun}
+use Rattle.strm_ioctl.specs.Names.{find_refusals, list_begun, find_begun}
+use Rattle.strm_ioctl.specs.Ioctl.{str_refusals, str_begun}
+use Rattle.strm_ioctl.specs.Flush.{flush_refusals, flush_begun, flush_band_begun}
 use Rattle.strm_ioctl.specs.Close.{close_begun}
 
--- the first refusal of a call's own
-abbrev pub own_refusal : {K : Type 0} → Image K → End → Request (Shape K) → Option Refusal
-own_refusal image e (Putmsg ctl dat flag) = putmsg_refusal image e ctl dat flag
-own_refusal image e (Putpmsg ctl dat band flag) = putpmsg_refusal image e ctl dat band flag
-own_refusal image e (Getmsg maxctl maxdat flag) = getmsg_refusal image e flag
-own_refusal image e (Getpmsg maxctl maxdat band flag) = getpmsg_refusal image e band flag
-own_refusal image e (Read max) = read_refusal image e max
-own_refusal image e (Write dat) = write_refusal image e dat
-own_refusal image e (Push shape) = push_refusal image e
-own_refusal image e Getband = getband_refusal image e
-own_refusal image e Pop = pop_refusal image e
-own_refusal image e Look = look_refusal image e
-own_refusal image e (Find name) = find_refusal name
-own_refusal image e (Str cmd dat) = str_refusal image e dat
-own_refusal image e (Flush r w) = flush_refusal image e r w
-own_refusal image e (FlushBand band r w) = flush_refusal image e r w
-own_refusal image e request = None
+-- what may refuse a call of its kind alone, in the order in which it is looked for: whether it holds, and the refusal
+abbrev pub own_refusals : {K : Type 0} → Image K → End → Request (Shape K) → List (Bool × Refusal)
+own_refusals image e (Putmsg ctl dat flag) = putmsg_refusals image e ctl dat flag
+own_refusals image e (Putpmsg ctl dat band flag) = putpmsg_refusals image e ctl dat band flag
+own_refusals image e (Getmsg maxctl maxdat flag) = getmsg_refusals image e flag
+own_refusals image e (Getpmsg maxctl maxdat band flag) = getpmsg_refusals image e band flag
+own_refusals image e (Read max) = read_refusals image e max
+own_refusals image e (Write dat) = write_refusals image e dat
+own_refusals image e (Push shape) = push_refusals image e
+own_refusals image e Getband = getband_refusals image e
+own_refusals image e Pop = pop_refusals image e
+own_refusals image e Look = look_refusals image e
+own_refusals image e (Find name) = find_refusals name
+own_refusals image e (Str cmd dat) = str_refusals image e dat
+own_refusals image e (Flush r w) = flush_refusals image e r w
+own_refusals image e (FlushBand band r w) = flush_refusals image e r w
+own_refusals image e request = []
 
 -- an error that came up refuses with its errno
-abbrev pub error_refusal : Option Errno → Option Refusal
-error_refusal None = None
-error_refusal (Some errno) = Some (Error errno)
+abbrev pub error_refusals : Option Errno → List (Bool × Refusal)
+error_refusals None = []
+error_refusals (Some errno) = (true, Error errno) ∷ []
 
-abbrev pub closed_refusal : {K : Type 0} → Image K → End → Option Refusal
-closed_refusal image e = refused_if (not (end_of image e).is_open) Closed
+-- what refuses every call: a closed end
+abbrev pub closed_refusals : {K : Type 0} → Image K → End → List (Bool × Refusal)
+closed_refusals image e = (not (end_of image e).is_open, Closed) ∷ []
 
 -- what refuses every call but a close, in this order: a closed end, a broken stream, an error that came up
-abbrev pub common_refusal : {K : Type 0} → Image K → End → Option Refusal
-common_refusal image e =
-    option_or (closed_refusal image e) (option_or (refused_if image.broken Broken) (error_refusal (end_of image e).state.errno))
+abbrev pub common_refusals : {K : Type 0} → Image K → End → List (Bool × Refusal)
+common_refusals image e =
+    (not (end_of image e).is_open, Closed) ∷ (image.broken, Broken) ∷ error_refusals (end_of image e).state.errno
 
--- the first refusal that holds. An end is closed also after an error, and on a broken stream
+-- all that may refuse a call, in the order in which it is looked for. An end is closed also after an error, and on a broken stream
+abbrev pub refusals : {K : Type 0} → Image K → End → Request (Shape K) → List (Bool × Refusal)
+refusals image e Close = closed_refusals image e
+refusals image e request = common_refusals image e ++ own_refusals image e request
+
+-- the refusal of a call: the first that holds
 abbrev pub refusal_of : {K : Type 0} → Image K → End → Request (Shape K) → Option Refusal
-refusal_of image e Close = closed_refusal image e
-refusal_of image e request = option_or (common_refusal image e) (own_refusal image e request)
+refusal_of image e request = first_that_holds (refusals image e request)
+
+-- each refusal is looked for after those of lower numbers
+abbrev pub are_in_order : List (Bool × Refusal) → Bool
+are_in_order [] = true
+are_in_order (row ∷ rows) = list_all (λ later. nat_lt (number_of row.1) (number_of later.1)) rows && are_in_order rows
 
 -- what a call has done
 abbrev pub begun_of : {K : Type 0} → Meaning K → Image K → End → Request (Shape K) → Begun K
@@ -162,3 +172,7 @@ abbrev pub wants_memory : Answer → Bool
 wants_memory (Done reply) = false
 wants_memory (Refused refusal) = is_no_memory refusal
 wants_memory Broke = true
+
+-- what may refuse a call is looked for in the order of the refusals' numbers
+abbrev pub AreRefusalsInOrder : Type 0 → Type 0
+AreRefusalsInOrder K = (image : Image K) (e : End) (request : Request (Shape K)) → are_in_order (refusals image e request) ≡ true

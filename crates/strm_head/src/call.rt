@@ -5,8 +5,9 @@ ghost use Rattle.strm_call.specs.declared.answer.Reply.TheVariants as Replies;
 ghost use Rattle.strm_call.specs.declared.answer.Acknowledged.TheVariants as Acknowledged;
 ghost use Rattle.strm_chain.specs.declared.fault.ChainFault.TheVariants as ChainFault;
 ghost use Rattle.strm_call.specs.Begun.{Fails, begun, begun_ioctl};
+ghost use Rattle.strm_call.specs.Refusal.{first_that_holds};
 ghost use Rattle.strm_call.specs.Reply.{acknowledged, has_bytes};
-ghost use Rattle.strm_head.specs.Begin.{own_refusal, closed_refusal, common_refusal, refusal_of, begun_of, changes_no_queue, awaits_answer, takes_no_memory, can_lack_memory, handed_out, back_of, out_of, wants_memory};
+ghost use Rattle.strm_head.specs.Begin.{AreRefusalsInOrder, own_refusals, closed_refusals, common_refusals, refusal_of, begun_of, changes_no_queue, awaits_answer, takes_no_memory, can_lack_memory, handed_out, back_of, out_of, wants_memory};
 ghost use Rattle.strm_module.specs.Calm.{IsCalm};
 ghost use Rattle.strm_head.specs.Answered.{IsLooked, IsBounded};
 ghost use Rattle.strm_head.specs.Inside.{IsKept};
@@ -30,12 +31,17 @@ use strm_msgio::{
     putpmsg_refusal, read, read_refusal, write, write_refusal,
 };
 
+/// A law, which nothing is done for: what may refuse a call is looked for in the order of the refusals' numbers.
+pub fn refusals_are_in_order<M: ModuleOf>()
+    ensures { AreRefusalsInOrder M.Kind }
+{}
+
 /// The modules that come back of a call, each as `Some`, topmost first.
 pub(crate) type Back<M> = ArrayVec<Option<Instance<M>>, MOST_MODULES>;
 
 /// What refuses every call: a closed end.
 fn closed_refusal<M: ModuleOf>(chain: &Chain<M>, end: End) -> Option<Refusal>
-    ensures { result ≡ closed_refusal chain.now.image end }
+    ensures { result ≡ first_that_holds (closed_refusals chain.now.image end) }
 {
     if chain.is_open(end) {
         return None;
@@ -45,7 +51,7 @@ fn closed_refusal<M: ModuleOf>(chain: &Chain<M>, end: End) -> Option<Refusal>
 
 /// What refuses every call but a close: a closed end, a broken stream, an error that came up.
 fn common_refusal<M: ModuleOf>(chain: &Chain<M>, end: End) -> Option<Refusal>
-    ensures { result ≡ common_refusal chain.now.image end }
+    ensures { result ≡ first_that_holds (common_refusals chain.now.image end) }
 {
     if !chain.is_open(end) {
         return Some(Refusal::Closed);
@@ -65,7 +71,7 @@ fn own_refusal<M: ModuleOf>(
     end: End,
     request: &Request<Instance<M>>,
 ) -> Option<Refusal>
-    ensures { result ≡ own_refusal chain.now.image end request.now }
+    ensures { result ≡ first_that_holds (own_refusals chain.now.image end request.now) }
 {
     match request {
         Request::Putmsg { ctl, dat, flag } => putmsg_refusal(chain, end, ctl, dat, *flag),
@@ -100,12 +106,12 @@ pub(crate) fn first_refusal<M: ModuleOf>(
 ) -> Option<Refusal>
     ensures { result ≡ refusal_of chain.now.image end request.now }
 {
-    if matches!(request, Request::Close) {
-        return closed_refusal(chain, end);
-    }
-    match common_refusal(chain, end) {
-        Some(refusal) => Some(refusal),
-        None => own_refusal(chain, end, request),
+    match request {
+        Request::Close => closed_refusal(chain, end),
+        _ => match common_refusal(chain, end) {
+            Some(refusal) => Some(refusal),
+            None => own_refusal(chain, end, request),
+        },
     }
 }
 

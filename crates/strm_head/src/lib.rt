@@ -13,6 +13,7 @@ mod outcome;
 mod stream;
 
 pub use answered::Answered;
+pub use call::refusals_are_in_order;
 pub use event::Event;
 pub use fault::NewFault;
 pub use outcome::{Arrived, Outcome};

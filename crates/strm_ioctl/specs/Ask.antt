@@ -1,5 +1,5 @@
 -- Calls that ask about the messages at the head, and about room below it (streamio(7)).
-use Rattle.std.specs.Prelude.{ℕ, not, Bool, true, false, Option, List, [], ◌∷◌, length}
+use Rattle.std.specs.Prelude.{ℕ, not, Bool, true, false, List, [], ◌∷◌, length}
 use Rattle.strm_msg.specs.Message.{Msg, part_len}
 use Rattle.strm_msg.specs.declared.words.End.{End}
 use Rattle.strm_queue.specs.Queue.{has_band}
@@ -8,7 +8,6 @@ use Rattle.strm_ends.specs.Image.{Image, end_of}
 use Rattle.strm_call.specs.declared.refusal.Refusal.{Refusal}
 use Rattle.strm_call.specs.declared.refusal.Refusal.TheVariants.{NoMessage}
 use Rattle.strm_call.specs.declared.answer.Reply.TheVariants.{Nread, Canput, Ckband, Getband}
-use Rattle.strm_call.specs.Refusal.{refused_if}
 use Rattle.strm_call.specs.Begun.{Begun, begun}
 
 -- the bytes of data of the first message
@@ -33,8 +32,8 @@ abbrev pub is_empty : {X : Type 0} → List X → Bool
 is_empty [] = true
 is_empty (x ∷ xs) = false
 
-abbrev pub getband_refusal : {K : Type 0} → Image K → End → Option Refusal
-getband_refusal image e = refused_if (is_empty (end_of image e).head) NoMessage
+abbrev pub getband_refusals : {K : Type 0} → Image K → End → List (Bool × Refusal)
+getband_refusals image e = (is_empty (end_of image e).head, NoMessage) ∷ []
 
 -- a high message is of band 0
 abbrev pub first_band : List Msg → ℕ

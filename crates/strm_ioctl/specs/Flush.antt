@@ -1,6 +1,5 @@
 -- Flushes are sent down (streamio(7): I_FLUSH, I_FLUSHBAND).
-use Rattle.std.specs.Prelude.{ℕ, ◌||◌, not, Bool, Option, None, Some}
-use Rattle.std.specs.Option.{option_or}
+use Rattle.std.specs.Prelude.{ℕ, ◌||◌, not, Bool, Option, None, Some, List, [], ◌∷◌}
 use Rattle.strm_msg.specs.Message.{bare}
 use Rattle.strm_msg.specs.declared.kind.MsgKind.TheVariants.{MFlush}
 use Rattle.strm_msg.specs.declared.words.End.{End}
@@ -11,13 +10,11 @@ use Rattle.strm_chain.specs.Deliver.{deliver}
 use Rattle.strm_call.specs.declared.refusal.Refusal.{Refusal}
 use Rattle.strm_call.specs.declared.refusal.Refusal.TheVariants.{Invalid, HungUp}
 use Rattle.strm_call.specs.declared.answer.Reply.TheVariants as Reply
-use Rattle.strm_call.specs.Refusal.{refused_if}
 use Rattle.strm_call.specs.Begun.{Begun, begun}
 
 -- read queues, write queues or both are to be flushed
-abbrev pub flush_refusal : {K : Type 0} → Image K → End → Bool → Bool → Option Refusal
-flush_refusal image e r w =
-    option_or (refused_if (not (r || w)) Invalid) (refused_if (end_of image e).state.hung HungUp)
+abbrev pub flush_refusals : {K : Type 0} → Image K → End → Bool → Bool → List (Bool × Refusal)
+flush_refusals image e r w = (not (r || w), Invalid) ∷ ((end_of image e).state.hung, HungUp) ∷ []
 
 -- for kinds of any meaning
 module _ {K : Type 0} (means : Meaning K) where

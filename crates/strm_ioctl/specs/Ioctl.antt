@@ -1,6 +1,5 @@
 -- An ioctl of a program's own is sent down, and its answer is awaited (streamio(7), I_STR).
-use Rattle.std.specs.Prelude.{ℕ, nat_lt, Option, None, Some, is_none}
-use Rattle.std.specs.Option.{option_or}
+use Rattle.std.specs.Prelude.{ℕ, nat_lt, Bool, Option, None, Some, is_none, List, [], ◌∷◌}
 use Rattle.strm_msg.specs.Message.{Part, part_len, ioctl_msg}
 use Rattle.strm_msg.specs.declared.words.End.{End}
 use Rattle.strm_module.specs.Kinds.{Meaning}
@@ -11,14 +10,13 @@ use Rattle.strm_chain.specs.Deliver.{deliver}
 use Rattle.strm_call.specs.declared.request.TheConstants.{MAX_DATA}
 use Rattle.strm_call.specs.declared.refusal.Refusal.{Refusal}
 use Rattle.strm_call.specs.declared.refusal.Refusal.TheVariants.{Invalid, HungUp, WouldWait}
-use Rattle.strm_call.specs.Refusal.{refused_if}
 use Rattle.strm_call.specs.Begun.{Begun, begun_ioctl}
 
 -- the data is not too long, the end is not hung up, and an id is left
-abbrev pub str_refusal : {K : Type 0} → Image K → End → Part → Option Refusal
-str_refusal image e dat =
+abbrev pub str_refusals : {K : Type 0} → Image K → End → Part → List (Bool × Refusal)
+str_refusals image e dat =
     let state = (end_of image e).state in
-    option_or (refused_if (nat_lt MAX_DATA (part_len dat)) Invalid) (option_or (refused_if state.hung HungUp) (refused_if (is_none state.next) WouldWait))
+    (nat_lt MAX_DATA (part_len dat), Invalid) ∷ (state.hung, HungUp) ∷ (is_none state.next, WouldWait) ∷ []
 
 -- for kinds of any meaning
 module _ {K : Type 0} (means : Meaning K) where

@@ -1,6 +1,5 @@
 -- Modules are put in, taken out and looked at (streamio(7): I_PUSH, I_POP, I_LOOK).
-use Rattle.std.specs.Prelude.{ℕ, not, Option, List, [], ◌∷◌, take}
-use Rattle.std.specs.Option.{option_or}
+use Rattle.std.specs.Prelude.{ℕ, not, Bool, List, [], ◌∷◌, take}
 use Rattle.arrayvec.specs.ArrayVec.{ArrayVec}
 use Rattle.strm_msg.specs.declared.words.End.{End}
 use Rattle.strm_module.specs.declared.shape.Shape.{Shape}
@@ -11,21 +10,18 @@ use Rattle.strm_ends.specs.Image.{Image, end_of, with_end}
 use Rattle.strm_call.specs.declared.refusal.Refusal.{Refusal}
 use Rattle.strm_call.specs.declared.refusal.Refusal.TheVariants.{Invalid, HungUp}
 use Rattle.strm_call.specs.declared.answer.Reply.TheVariants.{Push, Pop, Look}
-use Rattle.strm_call.specs.Refusal.{refused_if}
 use Rattle.strm_call.specs.Begun.{Begun, begun, begun_taking}
 use Rattle.strm_ioctl.specs.Ask.{is_empty}
 
-abbrev pub push_refusal : {K : Type 0} → Image K → End → Option Refusal
-push_refusal image e =
-    option_or (refused_if (not (has_room (end_of image e))) Invalid) (refused_if (end_of image e).state.hung HungUp)
+abbrev pub push_refusals : {K : Type 0} → Image K → End → List (Bool × Refusal)
+push_refusals image e = (not (has_room (end_of image e)), Invalid) ∷ ((end_of image e).state.hung, HungUp) ∷ []
 
 -- just below the head, with empty queues
 abbrev pub push_begun : {K : Type 0} → Image K → End → Shape K → Begun K
 push_begun image e shape = begun (with_end image e (inserted (end_of image e) shape)) Push
 
-abbrev pub pop_refusal : {K : Type 0} → Image K → End → Option Refusal
-pop_refusal image e =
-    option_or (refused_if (is_empty (end_of image e).modules) Invalid) (refused_if (end_of image e).state.hung HungUp)
+abbrev pub pop_refusals : {K : Type 0} → Image K → End → List (Bool × Refusal)
+pop_refusals image e = (is_empty (end_of image e).modules, Invalid) ∷ ((end_of image e).state.hung, HungUp) ∷ []
 
 -- the name of the topmost module
 abbrev pub first_name : {K : Type 0} → List (QueuePair K) → ArrayVec ℕ
@@ -38,8 +34,8 @@ pop_begun image e =
     let end = end_of image e in
     begun_taking (with_end image e (removed end)) (Pop (first_name end.modules)) (take 1 (shapes_of end))
 
-abbrev pub look_refusal : {K : Type 0} → Image K → End → Option Refusal
-look_refusal image e = refused_if (is_empty (end_of image e).modules) Invalid
+abbrev pub look_refusals : {K : Type 0} → Image K → End → List (Bool × Refusal)
+look_refusals image e = (is_empty (end_of image e).modules, Invalid) ∷ []
 
 abbrev pub look_begun : {K : Type 0} → Image K → End → Begun K
 look_begun image e = begun image (Look (first_name (end_of image e).modules))

@@ -1,5 +1,5 @@
 -- The names of what stands on an end (streamio(7): I_LIST, I_FIND).
-use Rattle.std.specs.Prelude.{ℕ, ◌&&◌, not, nat_le, Bool, Option, List, [], ◌∷◌, ◌++◌, length, map, codes}
+use Rattle.std.specs.Prelude.{ℕ, ◌&&◌, not, nat_le, Bool, List, [], ◌∷◌, ◌++◌, length, map, codes}
 use Rattle.std.specs.List.{list_any}
 use Rattle.std.specs.Str.{bytes_eq}
 use Rattle.arrayvec.specs.ArrayVec.{ArrayVec}
@@ -12,7 +12,6 @@ use Rattle.strm_ends.specs.Image.{Image, end_of}
 use Rattle.strm_call.specs.declared.refusal.Refusal.{Refusal}
 use Rattle.strm_call.specs.declared.refusal.Refusal.TheVariants.{Invalid}
 use Rattle.strm_call.specs.declared.answer.Reply.TheVariants as Reply
-use Rattle.strm_call.specs.Refusal.{refused_if}
 use Rattle.strm_call.specs.Begun.{Begun, begun}
 
 -- the names of the modules, topmost first
@@ -30,8 +29,8 @@ list_begun image e =
     begun image (Reply.List (record { items = names_of (end_of image e) ++ driver_name image.driver ∷ [] }))
 
 -- a name has 1 to 8 bytes
-abbrev pub find_refusal : List ℕ → Option Refusal
-find_refusal name = refused_if (not (nat_le 1 (length name) && nat_le (length name) LONGEST_NAME)) Invalid
+abbrev pub find_refusals : List ℕ → List (Bool × Refusal)
+find_refusals name = (not (nat_le 1 (length name) && nat_le (length name) LONGEST_NAME), Invalid) ∷ []
 
 abbrev pub has_name : ArrayVec ℕ → List ℕ → Bool
 has_name own name = bytes_eq own.items name

@@ -2,7 +2,8 @@
 ghost use Rattle.std.specs.Prelude.{◌≡◌, true, is_some, slice_get};
 ghost use Rattle.strm_msg.specs.Message.{part_len};
 ghost use Rattle.strm_ends.specs.Image.{end_of};
-ghost use Rattle.strm_ioctl.specs.Ask.{nread_begun, canput_begun, ckband_begun, getband_begun, getband_refusal};
+ghost use Rattle.strm_call.specs.Refusal.{first_that_holds};
+ghost use Rattle.strm_ioctl.specs.Ask.{nread_begun, canput_begun, ckband_begun, getband_begun, getband_refusals};
 
 use strm_call::{Refusal, Reply};
 use strm_chain::Chain;
@@ -57,7 +58,7 @@ pub fn ckband<M: ModuleOf>(chain: &Chain<M>, end: End, band: u8) -> Reply
 /// The refusal of a getband's own: ENODATA where no message waits at the head (streamio(7),
 /// I_GETBAND).
 pub fn getband_refusal<M: ModuleOf>(chain: &Chain<M>, end: End) -> Option<Refusal>
-    ensures { result ≡ getband_refusal chain.now.image end }
+    ensures { result ≡ first_that_holds (getband_refusals chain.now.image end) }
 {
     match chain.head(end).first() {
         Some(_) => None,

@@ -3,7 +3,8 @@ ghost use Rattle.std.specs.Prelude.{◌≡◌, true, false, None, OnOk, IfOk, If
 ghost use Rattle.strm_chain.specs.Deliver.{is_there};
 ghost use Rattle.strm_chain.specs.declared.spot.Spot.TheVariants as Spots;
 ghost use Rattle.strm_call.specs.Begun.{Fails};
-ghost use Rattle.strm_ioctl.specs.Flush.{flush_refusal, flushed_of};
+ghost use Rattle.strm_call.specs.Refusal.{first_that_holds};
+ghost use Rattle.strm_ioctl.specs.Flush.{flush_refusals, flushed_of};
 
 use strm_call::{Refusal, deliver};
 use strm_chain::{Chain, ChainFault, Spot};
@@ -13,7 +14,7 @@ use strm_msg::{End, Message};
 /// The first of a flush's own refusals that holds, of all bands or of one: EINVAL where neither side
 /// is to be flushed, and ENXIO for an end that is hung up (streamio(7): I_FLUSH, I_FLUSHBAND).
 pub fn flush_refusal<M: ModuleOf>(chain: &Chain<M>, end: End, r: bool, w: bool) -> Option<Refusal>
-    ensures { result ≡ flush_refusal chain.now.image end r w }
+    ensures { result ≡ first_that_holds (flush_refusals chain.now.image end r w) }
 {
     if !r && !w {
         return Some(Refusal::Invalid);

@@ -6,7 +6,8 @@ ghost use Rattle.strm_ends.specs.Image.{end_of};
 ghost use Rattle.strm_chain.specs.declared.spot.Spot.TheVariants as Spots;
 ghost use Rattle.strm_call.specs.Begun.{Fails};
 ghost use Rattle.strm_call.specs.Reply.{acknowledged};
-ghost use Rattle.strm_ioctl.specs.Ioctl.{str_refusal, asked_of};
+ghost use Rattle.strm_call.specs.Refusal.{first_that_holds};
+ghost use Rattle.strm_ioctl.specs.Ioctl.{str_refusals, asked_of};
 
 use strm_call::{Acknowledged, MAX_DATA, Refusal, deliver};
 use strm_chain::{Chain, ChainFault, Spot};
@@ -16,7 +17,7 @@ use strm_msg::{Bytes, End, Message, MsgKind};
 /// The first of an ioctl's own refusals that holds: EINVAL for data over its greatest size, ENXIO for
 /// an end that is hung up, and EAGAIN where the greatest id was given out (streamio(7), I_STR).
 pub fn str_refusal<M: ModuleOf>(chain: &Chain<M>, end: End, dat: &Option<Bytes>) -> Option<Refusal>
-    ensures { result ≡ str_refusal chain.now.image end dat.now }
+    ensures { result ≡ first_that_holds (str_refusals chain.now.image end dat.now) }
 {
     let state = chain.state(end);
     match dat {

@@ -2,8 +2,9 @@
 ghost use Rattle.std.specs.Prelude.{◌≡◌, [], ◌∷◌, Some, true, false};
 ghost use Rattle.strm_qpair.specs.Change.{has_room};
 ghost use Rattle.strm_ends.specs.Image.{end_of};
+ghost use Rattle.strm_call.specs.Refusal.{first_that_holds};
 ghost use Rattle.strm_ioctl.specs.Ask.{is_empty};
-ghost use Rattle.strm_ioctl.specs.Modules.{push_refusal, pop_refusal, push_begun, pop_begun};
+ghost use Rattle.strm_ioctl.specs.Modules.{push_refusals, pop_refusals, push_begun, pop_begun};
 
 use strm_call::{Refusal, Reply, copy_name};
 use strm_chain::Chain;
@@ -14,7 +15,7 @@ use strm_msg::End;
 /// the end is closed, which is refused before; and ENXIO for an end that is hung up (streamio(7),
 /// I_PUSH).
 pub fn push_refusal<M: ModuleOf>(chain: &Chain<M>, end: End) -> Option<Refusal>
-    ensures { result ≡ push_refusal chain.now.image end }
+    ensures { result ≡ first_that_holds (push_refusals chain.now.image end) }
 {
     if !chain.has_room(end) {
         return Some(Refusal::Invalid);
@@ -39,7 +40,7 @@ pub fn push<M: ModuleOf>(chain: &mut Chain<M>, end: End, instance: Instance<M>) 
 /// The first of a pop's own refusals that holds: EINVAL where no module stands there, and ENXIO for an
 /// end that is hung up (streamio(7), I_POP).
 pub fn pop_refusal<M: ModuleOf>(chain: &Chain<M>, end: End) -> Option<Refusal>
-    ensures { result ≡ pop_refusal chain.now.image end }
+    ensures { result ≡ first_that_holds (pop_refusals chain.now.image end) }
 {
     if chain.count(end) == 0 {
         return Some(Refusal::Invalid);

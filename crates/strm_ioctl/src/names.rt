@@ -3,9 +3,10 @@ ghost use Rattle.std.specs.Prelude.{◌≡◌, false, ◌≤◌, length};
 ghost use Rattle.std.specs.List.{list_any};
 ghost use Rattle.strm_qpair.specs.declared.end.TheConstants.{MOST_MODULES};
 ghost use Rattle.strm_ends.specs.Image.{end_of};
+ghost use Rattle.strm_call.specs.Refusal.{first_that_holds};
 ghost use Rattle.strm_ioctl.specs.Ask.{is_empty};
-ghost use Rattle.strm_ioctl.specs.Modules.{look_refusal, look_begun};
-ghost use Rattle.strm_ioctl.specs.Names.{names_of, driver_name, has_name, list_begun, find_refusal, find_begun};
+ghost use Rattle.strm_ioctl.specs.Modules.{look_refusals, look_begun};
+ghost use Rattle.strm_ioctl.specs.Names.{names_of, driver_name, has_name, list_begun, find_refusals, find_begun};
 
 use arrayvec::ArrayVec;
 use strm_call::{MOST_NAMES, Name, Refusal, Reply, copy_name};
@@ -43,7 +44,7 @@ pub fn names_of<M: ModuleOf, const N: usize>(chain: &Chain<M>, end: End) -> Arra
 
 /// The refusal of a look's own: EINVAL where no module stands there (streamio(7), I_LOOK).
 pub fn look_refusal<M: ModuleOf>(chain: &Chain<M>, end: End) -> Option<Refusal>
-    ensures { result ≡ look_refusal chain.now.image end }
+    ensures { result ≡ first_that_holds (look_refusals chain.now.image end) }
 {
     if chain.count(end) == 0 {
         return Some(Refusal::Invalid);
@@ -75,7 +76,7 @@ pub fn list<M: ModuleOf>(chain: &Chain<M>, end: End) -> Reply
 /// The refusal of a find's own: EINVAL for a name of no byte or of more than `LONGEST_NAME`
 /// (streamio(7), I_FIND).
 pub fn find_refusal(name: &Bytes) -> Option<Refusal>
-    ensures { result ≡ find_refusal name.now }
+    ensures { result ≡ first_that_holds (find_refusals name.now) }
 {
     if name.len() == 0 || name.len() > LONGEST_NAME {
         return Some(Refusal::Invalid);

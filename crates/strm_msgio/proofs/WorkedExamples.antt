@@ -13,9 +13,10 @@ use Rattle.strm_ends.specs.Image.{Image, fresh}
 use Rattle.strm_call.specs.declared.refusal.Refusal.TheVariants.{BadMessage, WouldWait}
 use Rattle.strm_call.specs.declared.answer.More.TheVariants.{Nothing, Ctl, Data, Both}
 use Rattle.strm_call.specs.declared.answer.Reply.TheVariants as Reply
+use Rattle.strm_call.specs.Refusal.{first_that_holds}
 use Rattle.strm_call.specs.Begun.{begun}
 use Rattle.strm_msgio.specs.Cut.{cut_of}
-use Rattle.strm_msgio.specs.Read.{Reading, read_of, read_refusal, read_begun}
+use Rattle.strm_msgio.specs.Read.{Reading, read_of, read_refusals, read_begun}
 
 abbrev ab : List ℕ
 ab = 97 ∷ 98 ∷ []
@@ -106,23 +107,23 @@ holding mode prot q =
 abbrev hung_up : Image Kind
 hung_up = record start { a = record start.a { state = record start.a.state { hung = true } } }
 
-control_is_refused : read_refusal (holding Rmsgd Norm (proto_msg 0 ab None ∷ [])) A 1 ≡ Some BadMessage
+control_is_refused : first_that_holds (read_refusals (holding Rmsgd Norm (proto_msg 0 ab None ∷ [])) A 1) ≡ Some BadMessage
 control_is_refused = refl
 
-control_is_not_refused_as_data : read_refusal (holding Rmsgd Dat (proto_msg 0 ab None ∷ [])) A 1 ≡ None
+control_is_not_refused_as_data : first_that_holds (read_refusals (holding Rmsgd Dat (proto_msg 0 ab None ∷ [])) A 1) ≡ None
 control_is_not_refused_as_data = refl
 
-nothing_to_read_waits : read_refusal start A 1 ≡ Some WouldWait
+nothing_to_read_waits : first_that_holds (read_refusals start A 1) ≡ Some WouldWait
 nothing_to_read_waits = refl
 
 hung_up_end_gives_no_bytes : read_begun hung_up A 1 ≡ begun hung_up (Reply.Read [])
 hung_up_end_gives_no_bytes = refl
 
-hung_up_end_refuses_nothing : read_refusal hung_up A 1 ≡ None
+hung_up_end_refuses_nothing : first_that_holds (read_refusals hung_up A 1) ≡ None
 hung_up_end_refuses_nothing = refl
 
 -- a read of no bytes looks at nothing
-read_of_no_bytes_is_not_refused : read_refusal (holding Rnorm Norm (proto_msg 0 ab None ∷ [])) A 0 ≡ None
+read_of_no_bytes_is_not_refused : first_that_holds (read_refusals (holding Rnorm Norm (proto_msg 0 ab None ∷ [])) A 0) ≡ None
 read_of_no_bytes_is_not_refused = refl
 
 read_of_no_bytes_takes_nothing : read_begun (holding Rnorm Norm (empty ∷ [])) A 0 ≡ begun (holding Rnorm Norm (empty ∷ [])) (Reply.Read [])

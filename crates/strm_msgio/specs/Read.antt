@@ -1,6 +1,5 @@
 -- What a read gives of the messages at the head, and what stays of them (read(2); streamio(7), I_SRDOPT).
 use Rattle.std.specs.Prelude.{ℕ, ◌-◌, ◌&&◌, not, nat_le, nat_lt, Bool, true, false, Option, Some, None, List, [], ◌∷◌, ◌++◌, length, take, drop, take_while, flat_map, slice_get, suc, zero, if◌then◌else◌, is_some}
-use Rattle.std.specs.Option.{option_or}
 use Rattle.strm_msg.specs.Message.{Msg, Part}
 use Rattle.strm_msg.specs.declared.words.End.{End}
 use Rattle.strm_msg.specs.declared.words.Prot.{Prot}
@@ -10,7 +9,6 @@ use Rattle.strm_ends.specs.Image.{Image, end_of, with_head}
 use Rattle.strm_call.specs.declared.refusal.Refusal.{Refusal}
 use Rattle.strm_call.specs.declared.refusal.Refusal.TheVariants.{BadMessage, WouldWait}
 use Rattle.strm_call.specs.declared.answer.Reply.TheVariants as Reply
-use Rattle.strm_call.specs.Refusal.{refused_if}
 use Rattle.strm_call.specs.Begun.{Begun, begun}
 use Rattle.strm_msgio.specs.Cut.{cut_of}
 use Rattle.strm_msgio.specs.Take.{first_of, put_back_if, lacks_message}
@@ -90,11 +88,11 @@ is_bad_message prot [] = false
 is_bad_message prot (m ∷ q) = is_unread prot m
 
 -- a read of no bytes looks at nothing
-abbrev pub read_refusal : {K : Type 0} → Image K → End → ℕ → Option Refusal
-read_refusal image e zero = None
-read_refusal image e (suc n) =
+abbrev pub read_refusals : {K : Type 0} → Image K → End → ℕ → List (Bool × Refusal)
+read_refusals image e zero = []
+read_refusals image e (suc n) =
     let end = end_of image e in
-    option_or (refused_if (is_bad_message end.state.prot end.head) BadMessage) (refused_if (lacks_message end (first_of end.head) (λ m. true)) WouldWait)
+    (is_bad_message end.state.prot end.head, BadMessage) ∷ (lacks_message end (first_of end.head) (λ m. true), WouldWait) ∷ []
 
 abbrev pub read_begun : {K : Type 0} → Image K → End → ℕ → Begun K
 read_begun image e zero = begun image (Reply.Read [])

@@ -1,6 +1,5 @@
 -- Calls that send a message down: putmsg, putpmsg and write (putmsg(2), write(2)).
-use Rattle.std.specs.Prelude.{ℕ, ◌==◌, ◌||◌, not, nat_lt, Bool, true, false, Option, Some, None, List, length, option_map, is_none, if◌then◌else◌}
-use Rattle.std.specs.Option.{option_or}
+use Rattle.std.specs.Prelude.{ℕ, ◌==◌, ◌||◌, not, nat_lt, Bool, true, false, Option, Some, None, List, [], ◌∷◌, length, option_map, is_none, if◌then◌else◌}
 use Rattle.strm_msg.specs.Kind.{is_high}
 use Rattle.strm_msg.specs.Message.{Msg, Part, part_len, data_msg, proto_msg, pcproto_msg}
 use Rattle.strm_msg.specs.declared.words.End.{End}
@@ -16,7 +15,6 @@ use Rattle.strm_call.specs.declared.request.PutFlag.{PutFlag}
 use Rattle.strm_call.specs.declared.refusal.Refusal.{Refusal}
 use Rattle.strm_call.specs.declared.refusal.Refusal.TheVariants.{Invalid, TooLong, HungUp, WouldWait}
 use Rattle.strm_call.specs.declared.answer.Reply.TheVariants as Reply
-use Rattle.strm_call.specs.Refusal.{refused_if}
 use Rattle.strm_call.specs.Begun.{Begun, begun}
 
 -- an ordinary message of a band: with control a protocol message, else data; none without a part
@@ -54,22 +52,22 @@ abbrev pub would_wait : {K : Type 0} → Image K → End → Option ℕ → Bool
 would_wait image e None = false
 would_wait image e (Some band) = full_in (below image.driver (end_of image e) 0) band
 
-abbrev pub waiting_refusal : {K : Type 0} → Image K → End → Option ℕ → Option Refusal
-waiting_refusal image e band =
-    option_or (refused_if (end_of image e).state.hung HungUp) (refused_if (would_wait image e band) WouldWait)
+-- what refuses each call that sends, its parts being none too long
+abbrev pub waiting_refusals : {K : Type 0} → Image K → End → Option ℕ → List (Bool × Refusal)
+waiting_refusals image e band = ((end_of image e).state.hung, HungUp) ∷ (would_wait image e band, WouldWait) ∷ []
 
 -- what refuses each call that sends: a part that is too long, an end that is hung up, a queue that is full
-abbrev pub sending_refusal : {K : Type 0} → Image K → End → Part → Part → Option ℕ → Option Refusal
-sending_refusal image e ctl dat band = option_or (refused_if (is_too_long ctl dat) TooLong) (waiting_refusal image e band)
+abbrev pub sending_refusals : {K : Type 0} → Image K → End → Part → Part → Option ℕ → List (Bool × Refusal)
+sending_refusals image e ctl dat band = (is_too_long ctl dat, TooLong) ∷ waiting_refusals image e band
 
 -- a high message has control
 abbrev pub is_invalid_putmsg : Part → Priority → Bool
 is_invalid_putmsg ctl Norm = false
 is_invalid_putmsg ctl Hipri = is_none ctl
 
-abbrev pub putmsg_refusal : {K : Type 0} → Image K → End → Part → Part → Priority → Option Refusal
-putmsg_refusal image e ctl dat flag =
-    option_or (refused_if (is_invalid_putmsg ctl flag) Invalid) (sending_refusal image e ctl dat (ordinary_band (putmsg_message ctl dat flag)))
+abbrev pub putmsg_refusals : {K : Type 0} → Image K → End → Part → Part → Priority → List (Bool × Refusal)
+putmsg_refusals image e ctl dat flag =
+    (is_invalid_putmsg ctl flag, Invalid) ∷ sending_refusals image e ctl dat (ordinary_band (putmsg_message ctl dat flag))
 
 -- there is a flag, and a high message has control and band 0
 abbrev pub is_invalid_putpmsg : Part → ℕ → PutFlag → Bool
@@ -77,12 +75,12 @@ is_invalid_putpmsg ctl band PutFlag.Zero = true
 is_invalid_putpmsg ctl band PutFlag.Band = false
 is_invalid_putpmsg ctl band PutFlag.Hipri = is_none ctl || not (band == 0)
 
-abbrev pub putpmsg_refusal : {K : Type 0} → Image K → End → Part → Part → ℕ → PutFlag → Option Refusal
-putpmsg_refusal image e ctl dat band flag =
-    option_or (refused_if (is_invalid_putpmsg ctl band flag) Invalid) (sending_refusal image e ctl dat (ordinary_band (putpmsg_message ctl dat band flag)))
+abbrev pub putpmsg_refusals : {K : Type 0} → Image K → End → Part → Part → ℕ → PutFlag → List (Bool × Refusal)
+putpmsg_refusals image e ctl dat band flag =
+    (is_invalid_putpmsg ctl band flag, Invalid) ∷ sending_refusals image e ctl dat (ordinary_band (putpmsg_message ctl dat band flag))
 
-abbrev pub write_refusal : {K : Type 0} → Image K → End → List ℕ → Option Refusal
-write_refusal image e dat = sending_refusal image e None (Some dat) (Some 0)
+abbrev pub write_refusals : {K : Type 0} → Image K → End → List ℕ → List (Bool × Refusal)
+write_refusals image e dat = sending_refusals image e None (Some dat) (Some 0)
 
 -- for kinds of any meaning
 module _ {K : Type 0} (means : Meaning K) where

@@ -1,6 +1,5 @@
 -- Calls that take the first message at the head, or look at it: getmsg, getpmsg and peek (getmsg(2); streamio(7), I_PEEK).
 use Rattle.std.specs.Prelude.{ℕ, ◌||◌, not, nat_le, Bool, true, false, Option, Some, None, List, [], ◌∷◌, slice_get, if◌then◌else◌}
-use Rattle.std.specs.Option.{option_or}
 use Rattle.strm_msg.specs.Kind.{is_high}
 use Rattle.strm_msg.specs.Message.{Msg}
 use Rattle.strm_msg.specs.declared.words.End.{End}
@@ -17,7 +16,6 @@ use Rattle.strm_call.specs.declared.answer.More.TheVariants.{Nothing}
 use Rattle.strm_call.specs.declared.answer.Received.{Received}
 use Rattle.strm_call.specs.declared.answer.Peeked.{Peeked}
 use Rattle.strm_call.specs.declared.answer.Reply.{Reply}
-use Rattle.strm_call.specs.Refusal.{refused_if}
 use Rattle.strm_call.specs.Begun.{Begun, begun}
 use Rattle.strm_msgio.specs.Cut.{Most, cut_of}
 
@@ -41,8 +39,8 @@ abbrev pub lacks_message : {K : Type 0} → EndState K → Option Msg → (Msg �
 lacks_message e None takes = not e.state.hung
 lacks_message e (Some m) takes = not (takes m)
 
-abbrev pub getmsg_refusal : {K : Type 0} → Image K → End → Wanted → Option Refusal
-getmsg_refusal image e flag = refused_if (lacks_message (end_of image e) (first_of (end_of image e).head) (is_wanted flag)) WouldWait
+abbrev pub getmsg_refusals : {K : Type 0} → Image K → End → Wanted → List (Bool × Refusal)
+getmsg_refusals image e flag = (lacks_message (end_of image e) (first_of (end_of image e).head) (is_wanted flag), WouldWait) ∷ []
 
 abbrev pub is_zero : GetFlag → Bool
 is_zero GetFlag.Zero = true
@@ -50,9 +48,9 @@ is_zero GetFlag.Any = false
 is_zero GetFlag.Band = false
 is_zero GetFlag.Hipri = false
 
-abbrev pub getpmsg_refusal : {K : Type 0} → Image K → End → ℕ → GetFlag → Option Refusal
-getpmsg_refusal image e band flag =
-    option_or (refused_if (is_zero flag) Invalid) (refused_if (lacks_message (end_of image e) (first_of (end_of image e).head) (is_wanted_in flag band)) WouldWait)
+abbrev pub getpmsg_refusals : {K : Type 0} → Image K → End → ℕ → GetFlag → List (Bool × Refusal)
+getpmsg_refusals image e band flag =
+    (is_zero flag, Invalid) ∷ (lacks_message (end_of image e) (first_of (end_of image e).head) (is_wanted_in flag band), WouldWait) ∷ []
 
 abbrev pub put_back_if : List Msg → Option Msg → List Msg
 put_back_if q None = q

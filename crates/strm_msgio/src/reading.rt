@@ -3,8 +3,9 @@ ghost use Rattle.std.specs.Prelude.{◌≡◌, [], IsOk, ◌≤◌, ◌++◌, On
 ghost use Rattle.strm_msg.specs.Message.{part_len};
 ghost use Rattle.strm_ends.specs.Image.{end_of, with_head, KeepsHeadRoom};
 ghost use Rattle.strm_call.specs.declared.answer.Reply.TheVariants as Replies;
+ghost use Rattle.strm_call.specs.Refusal.{first_that_holds};
 ghost use Rattle.strm_msgio.specs.Take.{put_back_if};
-ghost use Rattle.strm_msgio.specs.Read.{bytes_in, bytes_read, bytes_of_all, is_unread, goes_on_to, reached, whole_in, rest_of, read_of, read_refusal, read_begun};
+ghost use Rattle.strm_msgio.specs.Read.{bytes_in, bytes_read, bytes_of_all, is_unread, goes_on_to, reached, whole_in, rest_of, read_of, read_refusals, read_begun};
 
 use crate::cut::Cut;
 use std::alloc::Global;
@@ -235,7 +236,7 @@ fn replace_front<M: ModuleOf>(
 /// norm protocol, and EAGAIN where no message is there and the end is not hung up (read(2)). A read
 /// of no bytes has none.
 pub fn read_refusal<M: ModuleOf>(chain: &Chain<M>, end: End, max: u16) -> Option<Refusal>
-    ensures { result ≡ read_refusal chain.now.image end max }
+    ensures { result ≡ first_that_holds (read_refusals chain.now.image end max) }
 {
     let state = chain.state(end);
     match chain.head(end).first() {

@@ -4,7 +4,8 @@ ghost use Rattle.strm_msg.specs.Message.{part_len};
 ghost use Rattle.strm_chain.specs.Deliver.{is_there};
 ghost use Rattle.strm_chain.specs.declared.spot.Spot.TheVariants as Spots;
 ghost use Rattle.strm_call.specs.Begun.{Fails};
-ghost use Rattle.strm_msgio.specs.Send.{putmsg_refusal, putpmsg_refusal, write_refusal, putmsg_begun, putpmsg_begun, write_begun, putmsg_message, putpmsg_message, ordinary_message, high_message, ordinary_band, waiting_refusal, sending_refusal, sent_of};
+ghost use Rattle.strm_call.specs.Refusal.{first_that_holds};
+ghost use Rattle.strm_msgio.specs.Send.{putmsg_refusals, putpmsg_refusals, write_refusals, putmsg_begun, putpmsg_begun, write_begun, putmsg_message, putpmsg_message, ordinary_message, high_message, ordinary_band, waiting_refusals, sending_refusals, sent_of};
 
 use strm_call::{MAX_CONTROL, MAX_DATA, Priority, PutFlag, Refusal, Reply, deliver};
 use strm_chain::{Chain, ChainFault, Spot};
@@ -24,7 +25,7 @@ fn is_longer(part: &Option<Bytes>, most: usize) -> bool
 /// What refuses each call that sends, but for a part that is too long: an end that is hung up, and a
 /// first write queue that is full in the band of an ordinary message.
 fn waiting_refusal<M: ModuleOf>(chain: &Chain<M>, end: End, band: Option<u8>) -> Option<Refusal>
-    ensures { result ≡ waiting_refusal chain.now.image end band }
+    ensures { result ≡ first_that_holds (waiting_refusals chain.now.image end band) }
 {
     if chain.state(end).hung {
         return Some(Refusal::HungUp);
@@ -43,7 +44,7 @@ fn sending_refusal<M: ModuleOf>(
     dat: &Option<Bytes>,
     band: Option<u8>,
 ) -> Option<Refusal>
-    ensures { result ≡ sending_refusal chain.now.image end ctl.now dat.now band }
+    ensures { result ≡ first_that_holds (sending_refusals chain.now.image end ctl.now dat.now band) }
 {
     if is_longer(ctl, MAX_CONTROL) || is_longer(dat, MAX_DATA) {
         return Some(Refusal::TooLong);
@@ -117,7 +118,7 @@ pub fn putmsg_refusal<M: ModuleOf>(
     dat: &Option<Bytes>,
     flag: Priority,
 ) -> Option<Refusal>
-    ensures { result ≡ putmsg_refusal chain.now.image end ctl.now dat.now flag }
+    ensures { result ≡ first_that_holds (putmsg_refusals chain.now.image end ctl.now dat.now flag) }
 {
     let band = match flag {
         Priority::Norm => ordinary_band(0, ctl, dat),
@@ -166,7 +167,7 @@ pub fn putpmsg_refusal<M: ModuleOf>(
     band: u8,
     flag: PutFlag,
 ) -> Option<Refusal>
-    ensures { result ≡ putpmsg_refusal chain.now.image end ctl.now dat.now band flag }
+    ensures { result ≡ first_that_holds (putpmsg_refusals chain.now.image end ctl.now dat.now band flag) }
 {
     let ordinary = match flag {
         PutFlag::Zero => return Some(Refusal::Invalid),
@@ -208,7 +209,7 @@ pub fn putpmsg<M: ModuleOf>(
 /// The first of a write's own refusals that holds: ERANGE for more than `MAX_DATA` bytes, ENXIO for
 /// an end that is hung up, and EAGAIN where band 0 is full in the first write queue (write(2)).
 pub fn write_refusal<M: ModuleOf>(chain: &Chain<M>, end: End, dat: &Bytes) -> Option<Refusal>
-    ensures { result ≡ write_refusal chain.now.image end dat.now }
+    ensures { result ≡ first_that_holds (write_refusals chain.now.image end dat.now) }
 {
     if dat.len() > MAX_DATA {
         return Some(Refusal::TooLong);

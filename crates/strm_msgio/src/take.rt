@@ -7,7 +7,8 @@ ghost use Rattle.strm_call.specs.declared.answer.Reply.TheVariants as Replies;
 ghost use Rattle.strm_call.specs.declared.answer.Received.TheVariants as Receivers;
 ghost use Rattle.strm_call.specs.declared.answer.More.TheVariants as Mores;
 ghost use Rattle.strm_call.specs.declared.request.Priority.TheVariants as Priorities;
-ghost use Rattle.strm_msgio.specs.Take.{first_of, peeked_of, is_wanted, is_wanted_in, getmsg_refusal, getpmsg_refusal, put_back_if, priority_of, received_of, getmsg_begun, getpmsg_begun, peek_begun};
+ghost use Rattle.strm_call.specs.Refusal.{first_that_holds};
+ghost use Rattle.strm_msgio.specs.Take.{first_of, peeked_of, is_wanted, is_wanted_in, getmsg_refusals, getpmsg_refusals, put_back_if, priority_of, received_of, getmsg_begun, getpmsg_begun, peek_begun};
 
 use crate::cut::Cut;
 use std::alloc::Global;
@@ -113,7 +114,7 @@ fn replace_first<M: ModuleOf>(
 /// The refusal of a getmsg's own: EAGAIN where no message is there and the end is not hung up, or
 /// the first is not the one that is wanted (getmsg(2)).
 pub fn getmsg_refusal<M: ModuleOf>(chain: &Chain<M>, end: End, flag: Wanted) -> Option<Refusal>
-    ensures { result ≡ getmsg_refusal chain.now.image end flag }
+    ensures { result ≡ first_that_holds (getmsg_refusals chain.now.image end flag) }
 {
     let is_there = match chain.head(end).first() {
         Some(m) => is_wanted(flag, m),
@@ -135,7 +136,7 @@ pub fn getpmsg_refusal<M: ModuleOf>(
     band: u8,
     flag: GetFlag,
 ) -> Option<Refusal>
-    ensures { result ≡ getpmsg_refusal chain.now.image end band flag }
+    ensures { result ≡ first_that_holds (getpmsg_refusals chain.now.image end band flag) }
 {
     if flag == GetFlag::Zero {
         return Some(Refusal::Invalid);

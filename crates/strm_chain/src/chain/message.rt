@@ -8,6 +8,7 @@ ghost use Rattle.strm_ends.specs.Image.{end_of, with_end, with_drv, driver_does}
 ghost use Rattle.strm_ends.specs.Held.{is_flush};
 ghost use Rattle.strm_ends.specs.Same.{SameModules};
 ghost use Rattle.strm_ends.specs.declared.place.NextQueue.TheVariants.{Of};
+ghost use Rattle.strm_chain.specs.declared.number.TheConstants.{QUEUES};
 ghost use Rattle.strm_chain.specs.Number.{number_of};
 ghost use Rattle.strm_ends.specs.Held.{module_place};
 ghost use Rattle.strm_module.specs.Calm.{is_calm, IsCalm};
@@ -37,7 +38,7 @@ impl<M: ModuleOf> Chain<M> {
     /// The queue of a side of module `i`, if there is such a module.
     fn module_queue(&self, end: End, i: usize, side: Side) -> Option<NextQueue>
         ensures some { IfSome result (λ queue. queue ≡ Of (module_place side end i)) }
-        ensures few { IfSome result (λ queue. number_of queue < 40) }
+        ensures few { IfSome result (λ queue. number_of queue < QUEUES) }
         ensures none { IfNone result (pair_at (end_of self.now.image end).modules i ≡ None) }
         ensures ordinary { HoldsOrdinary (end_of self.now.image end) }
     {

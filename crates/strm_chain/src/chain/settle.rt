@@ -4,7 +4,8 @@ ghost use Rattle.strm_queue.specs.Run.{one_more};
 ghost use Rattle.strm_module.specs.Calm.{IsCalm};
 ghost use Rattle.strm_ends.specs.Count.{place_count};
 ghost use Rattle.strm_chain.specs.Enabled.{is_enabled};
-ghost use Rattle.strm_chain.specs.Count.{HasMoved, most_looks};
+ghost use Rattle.strm_chain.specs.Count.{AreLooks, HasMoved, most_looks};
+ghost use Rattle.strm_chain.specs.declared.number.TheConstants.{QUEUES};
 ghost use Rattle.strm_ends.specs.Same.{SameModules};
 ghost use Rattle.strm_chain.specs.Fault.{Refuses};
 ghost use Rattle.strm_ends.specs.Flow.{may, IsQuiet, NoneMay};
@@ -38,6 +39,7 @@ impl<M: ModuleOf> Chain<M> {
         ensures image { self.new.image ≡ self.old.image }
         ensures given { self.new.run.given ≡ 0 }
         ensures few { length self.new.run.items ≤ place_count self.old.image }
+        ensures numbers { length self.new.run.items ≤ QUEUES }
     {
         // The proof learns from the length that each place is enabled once.
         let _ = self.enabling.len();
@@ -54,7 +56,7 @@ impl<M: ModuleOf> Chain<M> {
         ensures moves { IfOk result (λ settled. Leads M.Kind.means self.old.image settled.moves self.new.image) }
         ensures quiet { OnOk result (IsQuiet self.new.image) }
         ensures looks { IfOk result (λ settled. settled.looks ≡ self.new.run.given) }
-        ensures least { IfOk result (λ settled. length settled.moves ≤ settled.looks) }
+        ensures few { IfOk result (λ settled. AreLooks settled.moves settled.looks) }
         ensures most { IfOk result (λ settled. IsCalm M.Kind.means → settled.looks ≤ most_looks self.old.image settled.moves self.new.image) }
         ensures none { OnOk result (self.new.run.items ≡ []) }
         ensures whole { OnOk result (self.old.image.broken ≡ false) }
@@ -86,7 +88,7 @@ impl<M: ModuleOf> Chain<M> {
         ensures ok { OnOk result (self.new.image ≡ move M.Kind.means self.old.image place) }
         ensures moves { OnOk result (moves.new ≡ moves.old ++ place ∷ []) }
         ensures given { OnOk result (self.new.run.given ≡ self.old.run.given) }
-        ensures few { OnOk result (length self.new.run.items ≤ 40) }
+        ensures few { OnOk result (length self.new.run.items ≤ QUEUES) }
         ensures more { OnOk result (IsCalm M.Kind.means → is_enabled self.old.run place ≡ true → HasMoved self.old self.new) }
         ensures counted { OnOk result (length moves.new < 18446744073709551616) }
         ensures same { OnOk result (SameModules self.old.image self.new.image) }

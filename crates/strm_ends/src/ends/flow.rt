@@ -1,5 +1,6 @@
 //! Flow control: which queue is next after a place's, and whether a place may or must move.
 ghost use Rattle.std.specs.Prelude.{◌≡◌, ◌≤◌, true, false, IfSome, is_some, length, option_copied, option_map};
+ghost use Rattle.strm_qpair.specs.declared.end.TheConstants.{MOST_MODULES};
 ghost use Rattle.strm_qpair.specs.Canput.{fill_of, below, full_in, slack_in};
 ghost use Rattle.strm_ends.specs.Image.{end_of};
 ghost use Rattle.strm_ends.specs.Path.{ahead, front_of};
@@ -18,7 +19,7 @@ use strm_queue::BandQueue;
 
 /// The queue below a module, where the first write queue below it was looked for.
 fn next_down(driver: Driver, end: End, next: Option<usize>) -> Option<NextQueue>
-    requires { IfSome next (λ i. i ≤ 8) }
+    requires { IfSome next (λ i. i ≤ MOST_MODULES) }
     ensures value { result ≡ next_down driver end next }
     ensures few { IfSome result (λ queue. IsCounted queue) }
 {
@@ -35,7 +36,7 @@ fn next_down(driver: Driver, end: End, next: Option<usize>) -> Option<NextQueue>
 
 /// The queue above a module, where the first read queue above it was looked for.
 fn next_up(is_open: bool, end: End, next: Option<usize>) -> Option<NextQueue>
-    requires { IfSome next (λ i. i ≤ 8) }
+    requires { IfSome next (λ i. i ≤ MOST_MODULES) }
     ensures value { result ≡ next_up is_open end next }
     ensures few { IfSome result (λ queue. IsCounted queue) }
 {

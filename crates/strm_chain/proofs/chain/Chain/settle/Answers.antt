@@ -22,6 +22,7 @@ loop-place-preserved g c =
           let rested = c.in-Some.ensures.rests c.if-may.false in
           let same = ap message_count c.look.ensures.image in
           omega (arith, before, rested, same, counted);
+      own = omega (arith, l.own, c.in-Some.ensures.rests c.if-may.false, counted);
       counted = l.counted;
     }
 
@@ -55,5 +56,6 @@ loop-place-preserved-in-Continue-1 g c =
           let same = ap message_count c.look.ensures.image in
           let more = c.in_ok-move_one.ensures.more kinds (c.in-Some.ensures.enabled c.if-may.true) in
           omega (arith, before, looked, same, counted, kept, more, long, all);
+      own = omega (arith, l.own, counted, kept, c.in_ok-move_one.ensures.few, long, all);
       counted = few;
     }

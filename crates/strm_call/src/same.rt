@@ -1,0 +1,218 @@
+//! Whether two answers are the same, for who rests on that they are or are not.
+ghost use Rattle.std.specs.Prelude.{◌≡◌, ◌↔◌, true};
+
+use crate::answer::{Acknowledged, Answer, Name, Peeked, Received, Reply};
+use crate::refusal::Refusal;
+use strm_msg::Bytes;
+
+/// Whether two parts that may be missing are the same.
+pub fn is_same_part(one: &Option<Bytes>, other: &Option<Bytes>) -> bool
+    ensures { result ≡ true ↔ one.now ≡ other.now }
+{
+    match (one, other) {
+        (Some(one), Some(other)) => one.as_slice() == other.as_slice(),
+        (None, None) => true,
+        _ => false,
+    }
+}
+
+/// Whether two names are the same.
+fn is_same_name(one: &Name, other: &Name) -> bool
+    ensures { result ≡ true ↔ one.now ≡ other.now }
+{
+    one.as_slice() == other.as_slice()
+}
+
+/// Whether two lists of names are the same.
+fn are_same_names(one: &[Name], other: &[Name]) -> bool
+    ensures { result ≡ true ↔ one.now ≡ other.now }
+{
+    match (one.split_first(), other.split_first()) {
+        (Some((first, one)), Some((name, other))) => {
+            is_same_name(first, name) && are_same_names(one, other)
+        }
+        (None, None) => true,
+        _ => false,
+    }
+}
+
+/// Whether two bands or priorities are the same.
+fn is_same_received(one: Received, other: Received) -> bool
+    ensures { result ≡ true ↔ one ≡ other }
+{
+    match (one, other) {
+        (Received::Band { band }, Received::Band { band: b }) => band == b,
+        (Received::Hipri, Received::Hipri) => true,
+        _ => false,
+    }
+}
+
+/// Whether two refusals are the same.
+fn is_same_refusal(one: Refusal, other: Refusal) -> bool
+    ensures { result ≡ true ↔ one ≡ other }
+{
+    one == other
+}
+
+impl Peeked {
+    /// Whether another is the same.
+    fn is_same(&self, other: &Peeked) -> bool
+        ensures { result ≡ true ↔ self.now ≡ other.now }
+    {
+        is_same_part(&self.ctl, &other.ctl)
+            && is_same_part(&self.dat, &other.dat)
+            && self.flag == other.flag
+    }
+}
+
+/// Whether what was seen of two first messages is the same.
+fn is_same_sight(one: &Option<Peeked>, other: &Option<Peeked>) -> bool
+    ensures { result ≡ true ↔ one.now ≡ other.now }
+{
+    match (one, other) {
+        (Some(one), Some(other)) => one.is_same(other),
+        (None, None) => true,
+        _ => false,
+    }
+}
+
+impl Acknowledged {
+    /// Whether another is the same.
+    fn is_same(&self, other: &Acknowledged) -> bool
+        ensures { result ≡ true ↔ self.now ≡ other.now }
+    {
+        match (self, other) {
+            (Acknowledged::Ack { rval, dat }, Acknowledged::Ack { rval: r, dat: d }) => {
+                rval == r && is_same_part(dat, d)
+            }
+            (Acknowledged::Nak { errno }, Acknowledged::Nak { errno: e }) => errno == e,
+            (Acknowledged::Timeout, Acknowledged::Timeout) => true,
+            _ => false,
+        }
+    }
+}
+
+impl Reply {
+    /// Whether another is the same.
+    pub fn is_same(&self, other: &Reply) -> bool
+        ensures { result ≡ true ↔ self.now ≡ other.now }
+    {
+        match self {
+            Reply::Putmsg => matches!(other, Reply::Putmsg),
+            Reply::Putpmsg => matches!(other, Reply::Putpmsg),
+            Reply::Getmsg {
+                ctl,
+                dat,
+                flag,
+                more,
+            } => match other {
+                Reply::Getmsg {
+                    ctl: c,
+                    dat: d,
+                    flag: f,
+                    more: m,
+                } => is_same_part(ctl, c) && is_same_part(dat, d) && flag == f && more == m,
+                _ => false,
+            },
+            Reply::Getpmsg {
+                ctl,
+                dat,
+                flag,
+                more,
+            } => match other {
+                Reply::Getpmsg {
+                    ctl: c,
+                    dat: d,
+                    flag: f,
+                    more: m,
+                } => {
+                    is_same_part(ctl, c)
+                        && is_same_part(dat, d)
+                        && is_same_received(*flag, *f)
+                        && more == m
+                }
+                _ => false,
+            },
+            Reply::Read { dat } => match other {
+                Reply::Read { dat: d } => dat.as_slice() == d.as_slice(),
+                _ => false,
+            },
+            Reply::Write { len } => match other {
+                Reply::Write { len: l } => len == l,
+                _ => false,
+            },
+            Reply::Push => matches!(other, Reply::Push),
+            Reply::Nread { messages, bytes } => match other {
+                Reply::Nread {
+                    messages: m,
+                    bytes: b,
+                } => messages == m && bytes == b,
+                _ => false,
+            },
+            Reply::Peek { found } => match other {
+                Reply::Peek { found: f } => is_same_sight(found, f),
+                _ => false,
+            },
+            Reply::SetRead => matches!(other, Reply::SetRead),
+            Reply::GetRead { mode, prot } => match other {
+                Reply::GetRead { mode: m, prot: p } => mode == m && prot == p,
+                _ => false,
+            },
+            Reply::Canput { can } => match other {
+                Reply::Canput { can: c } => can == c,
+                _ => false,
+            },
+            Reply::Ckband { waits } => match other {
+                Reply::Ckband { waits: w } => waits == w,
+                _ => false,
+            },
+            Reply::Getband { band } => match other {
+                Reply::Getband { band: b } => band == b,
+                _ => false,
+            },
+            Reply::Pop { name } => match other {
+                Reply::Pop { name: n } => is_same_name(name, n),
+                _ => false,
+            },
+            Reply::Look { name } => match other {
+                Reply::Look { name: n } => is_same_name(name, n),
+                _ => false,
+            },
+            Reply::List { names } => match other {
+                Reply::List { names: n } => are_same_names(names.as_slice(), n.as_slice()),
+                _ => false,
+            },
+            Reply::Find { found } => match other {
+                Reply::Find { found: f } => found == f,
+                _ => false,
+            },
+            Reply::Str { answer } => match other {
+                Reply::Str { answer: a } => answer.is_same(a),
+                _ => false,
+            },
+            Reply::Flush => matches!(other, Reply::Flush),
+            Reply::FlushBand => matches!(other, Reply::FlushBand),
+            Reply::Close { names } => match other {
+                Reply::Close { names: n } => are_same_names(names.as_slice(), n.as_slice()),
+                _ => false,
+            },
+            Reply::Line => matches!(other, Reply::Line),
+        }
+    }
+}
+
+impl Answer {
+    /// Whether another is the same.
+    pub fn is_same(&self, other: &Answer) -> bool
+        ensures { result ≡ true ↔ self.now ≡ other.now }
+    {
+        match (self, other) {
+            (Answer::Done(reply), Answer::Done(other)) => reply.is_same(other),
+            (Answer::Refused(refusal), Answer::Refused(other)) => {
+                is_same_refusal(*refusal, *other)
+            }
+            (Answer::Broke, Answer::Broke) => true,
+            _ => false,
+        }
+    }
+}

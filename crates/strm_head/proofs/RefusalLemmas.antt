@@ -1,0 +1,22 @@
+-- The first refusal that holds, of those that all calls share and those of a call of its kind.
+use Rattle.std.proofs.Common.{◌≡◌, Bool, true, false, Option, Some, None, List, [], ◌∷◌, ◌++◌, refl}
+use Rattle.std.specs.Option.{option_or}
+use Rattle.strm_msg.specs.declared.words.End.{End}
+use Rattle.strm_module.specs.declared.shape.Shape.{Shape}
+use Rattle.strm_ends.specs.Image.{Image}
+use Rattle.strm_call.specs.declared.request.Request.{Request}
+use Rattle.strm_call.specs.declared.request.Request.TheVariants.{Close}
+use Rattle.strm_call.specs.declared.refusal.Refusal.{Refusal}
+use Rattle.strm_call.specs.Refusal.{first_that_holds}
+use Rattle.strm_head.specs.Begin.{common_refusals, own_refusals, refusal_of}
+
+-- of two lists, one behind the other
+first_of_both : (first later : List (Bool × Refusal)) → first_that_holds (first ++ later) ≡ option_or (first_that_holds first) (first_that_holds later)
+first_of_both [] later = refl
+first_of_both ((true, refusal) ∷ first) later = refl
+first_of_both ((false, refusal) ∷ first) later = first_of_both first later
+
+-- of all that may refuse a call that is no close
+pub first_of_all : {K : Type 0} (image : Image K) (e : End) (request : Request (Shape K)) → (request ≡ Close → ⊥) → refusal_of image e request ≡ option_or (first_that_holds (common_refusals image e)) (first_that_holds (own_refusals image e request))
+first_of_all image e Close other = absurd (other refl)
+first_of_all image e request other = first_of_both (common_refusals image e) (own_refusals image e request)

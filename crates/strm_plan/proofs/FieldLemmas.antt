@@ -17,6 +17,7 @@ use Rattle.strm_verb.specs.Field.{number_at, marks_at, part_upto, optional_upto,
 use Rattle.strm_verb.specs.Arrival.{message_at, data_at, proto_at, pcproto_at, flush_at, flush_msg_at, hangup_at, error_at}
 use Rattle.strm_verb.specs.declared.arrival.MessageWord.{MessageWord}
 use Rattle.strm_verb.specs.declared.fault.Cause.TheVariants as causes
+use Rattle.strm_verb.specs.declared.field.TheConstants.{MOST_BAND, MOST_WORD}
 use Rattle.strm_plan.specs.Reading.{ring_at, rings_at, setup_at}
 use Rattle.strm_plan.proofs.StepLemmas.{through, on, passed, under, same, same_found, found_in}
 
@@ -41,19 +42,19 @@ number_within most text n is =
 marks_fit : (text : List ℕ) (marks : ℕ × ℕ) → marks_at text ≡ Ok marks → nat_lt marks.1 marks.0 ≡ true
 marks_fit text marks is =
     through (or_fault causes.Number (halves_of 47 text)) _ marks is (λ halves cut is.
-    through (number_at 4294967295 halves.0) _ marks is (λ high one is.
-    through (number_at 4294967295 halves.1) _ marks is (λ low other is.
+    through (number_at MOST_WORD halves.0) _ marks is (λ high one is.
+    through (number_at MOST_WORD halves.1) _ marks is (λ low other is.
     passed (nat_lt low high) (Ok (pair high low)) marks causes.Marks is (λ below is.
     same (λ (m : ℕ × ℕ). nat_lt m.1 m.0 ≡ true) (pair high low) marks is below))))
 
 -- a ring that is read can be made
-ring_within : (text : List ℕ) (ring : ℕ) → ring_at text ≡ Ok ring → (nat_le 1 ring && nat_le ring 4096) ≡ true
+ring_within : (text : List ℕ) (ring : ℕ) → ring_at text ≡ Ok ring → (nat_le 1 ring && nat_le ring MOST_RING) ≡ true
 ring_within text ring is =
     through (number_at MOST_RING text) (λ n. cond (nat_le 1 n) (Ok n) (Err causes.Number)) ring is (λ n read next.
     passed (nat_le 1 n) (Ok n) ring causes.Number next (λ least is.
-    same (λ (m : ℕ). (nat_le 1 m && nat_le m 4096) ≡ true) n ring is (both (nat_le 1 n) (nat_le n 4096) least (number_within MOST_RING text n read))))
+    same (λ (m : ℕ). (nat_le 1 m && nat_le m MOST_RING) ≡ true) n ring is (both (nat_le 1 n) (nat_le n MOST_RING) least (number_within MOST_RING text n read))))
 
-rings_within : (driver : Driver) (texts : List (List ℕ)) (ring : ℕ) → rings_at driver texts ≡ Ok ring → (not (is_line driver) || (nat_le 1 ring && nat_le ring 4096)) ≡ true
+rings_within : (driver : Driver) (texts : List (List ℕ)) (ring : ℕ) → rings_at driver texts ≡ Ok ring → (not (is_line driver) || (nat_le 1 ring && nat_le ring MOST_RING)) ≡ true
 rings_within Echo texts ring is = refl
 rings_within Loop texts ring is = refl
 rings_within Line [] ring is = absurd cc
@@ -92,7 +93,7 @@ data_from_line : (texts : List (List ℕ)) (m : Msg) → data_at texts ≡ Ok m 
 data_from_line [] m is = absurd cc
 data_from_line (band ∷ []) m is = absurd cc
 data_from_line (band ∷ dat ∷ []) m is =
-    through (number_at 255 band) _ m is (λ b _ is.
+    through (number_at MOST_BAND band) _ m is (λ b _ is.
     through (part_upto MAX_DATA dat) _ m is (λ bytes _ is.
     same FromLine (data_msg b bytes) m is refl))
 data_from_line (band ∷ dat ∷ more ∷ texts) m is = absurd cc
@@ -102,7 +103,7 @@ proto_from_line [] m is = absurd cc
 proto_from_line (band ∷ []) m is = absurd cc
 proto_from_line (band ∷ ctl ∷ []) m is = absurd cc
 proto_from_line (band ∷ ctl ∷ dat ∷ []) m is =
-    through (number_at 255 band) _ m is (λ b _ is.
+    through (number_at MOST_BAND band) _ m is (λ b _ is.
     through (part_upto MAX_CONTROL ctl) _ m is (λ control _ is.
     through (optional_upto MAX_DATA dat) _ m is (λ bytes _ is.
     same FromLine (proto_msg b control bytes) m is refl)))

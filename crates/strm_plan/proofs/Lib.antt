@@ -3,3 +3,4 @@ pub mod LineLemmas
 pub mod SoundLemmas
 pub mod StepLemmas
 pub mod StreamLemmas
+pub mod ThereLemmas

@@ -1,5 +1,5 @@
 -- Each line keeps what a run asks of a plan.
-use Rattle.std.proofs.Common.{◌≡◌, ◌≤◌, ℕ, ◌+◌, ◌==◌, nat_lt, Bool, true, false, cond, List, [], ◌∷◌, ◌++◌, length, slice_index, codes, Result, Ok, Err, refl, arith}
+use Rattle.std.proofs.Common.{◌≡◌, ◌≤◌, ℕ, ◌+◌, ◌==◌, nat_lt, ◌&&◌, not, Bool, true, false, cond, List, [], ◌∷◌, ◌++◌, length, slice_index, slice_get, codes, Option, Some, Result, Ok, Err, refl, arith}
 use Rattle.std.specs.List.{All, list_all}
 use Rattle.std.specs.Str.{bytes_eq}
 use Rattle.std.proofs.lemmas.Bool.{ltb-true}
@@ -8,6 +8,7 @@ use Rattle.std.proofs.lemmas.List.Elements.{All-nil, All-push}
 use Rattle.strm_msg.specs.Message.{Msg}
 use Rattle.strm_msg.specs.Kind.{is_from_line}
 use Rattle.strm_qpair.specs.declared.driver.Driver.{Driver}
+use Rattle.strm_head.specs.Step.{is_line}
 use Rattle.strm_history.specs.Setup.{is_fit, is_ring}
 use Rattle.strm_history.specs.declared.setup.Setup.{Setup}
 use Rattle.strm_text.specs.Bytes.{is_allowed}
@@ -20,12 +21,13 @@ use Rattle.strm_verb.specs.declared.fault.Cause.{Cause}
 use Rattle.strm_verb.specs.declared.fault.Cause.TheVariants as causes
 use Rattle.strm_verb.specs.declared.verb.Verb.{Verb}
 use Rattle.strm_plan.specs.Plan.{Call, Process, Fed, Partial, Place, Nowhere, In_process, In_feed}
-use Rattle.strm_plan.specs.Reading.{ended, ended_at, plan_of, fresh_name, driver_at, setup_arity, setup_at, setup_onto, declared_at, has_room, with_stream, stream_onto, process_name, with_process, process_onto, with_feed, feed_onto, call_at, with_call, call_onto, with_message, message_onto, inner_onto, outside, word_onto, fields_onto, line_onto, modules_after, nothing_yet}
+use Rattle.strm_plan.specs.Reading.{ended, ended_at, plan_of, fresh_name, driver_at, setup_arity, setup_at, setup_onto, declared_at, has_room, with_stream, stream_onto, process_name, with_process, process_onto, has_feed, with_feed, feed_onto, call_at, with_call, call_onto, with_message, message_onto, inner_onto, outside, word_onto, fields_onto, line_onto, modules_after, nothing_yet}
 use Rattle.strm_plan.specs.Targets.{stream_names, stream_at}
-use Rattle.strm_plan.specs.Sound.{AreSetups, AreFromLine, IsSound}
+use Rattle.strm_plan.specs.Sound.{AreSetups, AreFromLine, end_is_there, line_is_there, AreCallsThere, AreProcessesThere, AreLinesThere, AreOnce, IsSound}
 use Rattle.strm_plan.specs.declared.draft.TheConstants.{MOST_STREAMS, MOST_PROCESSES, MOST_CALLS, MOST_MESSAGES, LONGEST_LINE}
-use Rattle.strm_plan.proofs.StepLemmas.{through, passed, either, same}
+use Rattle.strm_plan.proofs.StepLemmas.{through, passed, either, same, found_in}
 use Rattle.strm_plan.proofs.FieldLemmas.{setup_fits, message_from_line}
+use Rattle.strm_plan.proofs.ThereLemmas.{IsPlaceThere, call_there, stream_found, line_there, processes_more, lines_more, place_more, unfed, both_of, once_more}
 
 -- a process that goes on is one more than those that ended
 abbrev going : Place → ℕ
@@ -39,13 +41,21 @@ AreGoing Nowhere = Unit {0}
 AreGoing (In_process process) = Unit {0}
 AreGoing (In_feed feed) = All (λ m. is_from_line m.kind ≡ true) feed.messages
 
+-- all is there that a plan names so far, and no line has two feeds
+pub record AreThere (d : Partial) : Type 0 where
+  pub calls : AreProcessesThere d.streams d.processes
+  pub lines : AreLinesThere d.streams d.feeds
+  pub once : AreOnce d.feeds
+  pub going_on : IsPlaceThere d.streams d.feeds d.place
+
 -- a plan of which a run can be made when it ends here
 pub record IsKept (d : Partial) : Type 0 where
   pub setups : AreSetups d.streams
   pub few_streams : length d.streams ≤ MOST_STREAMS
   pub few_processes : length d.processes + going d.place ≤ MOST_PROCESSES
-  pub lines : AreFromLine d.feeds
+  pub messages : AreFromLine d.feeds
   pub going_on : AreGoing d.place
+  pub there : AreThere d
 
 -- what a line keeps, which declares one module at most
 pub record Keeps (d e : Partial) : Type 0 where
@@ -60,15 +70,27 @@ ended_at_kept d (In_process process) k = record {
   setups = k.setups;
   few_streams = k.few_streams;
   few_processes = omega (arith, k.few_processes, length-append d.processes (process ∷ []));
-  lines = k.lines;
+  messages = k.messages;
   going_on = tt;
+  there = record {
+    calls = All-push (λ (p : Process). AreCallsThere d.streams p.calls) d.processes process k.there.calls k.there.going_on;
+    lines = k.there.lines;
+    once = k.there.once;
+    going_on = tt;
+  };
 }
 ended_at_kept d (In_feed feed) k = record {
   setups = k.setups;
   few_streams = k.few_streams;
   few_processes = k.few_processes;
-  lines = All-push (λ (f : Fed). All (λ m. is_from_line m.kind ≡ true) f.messages) d.feeds feed k.lines k.going_on;
+  messages = All-push (λ (f : Fed). All (λ m. is_from_line m.kind ≡ true) f.messages) d.feeds feed k.messages k.going_on;
   going_on = tt;
+  there = record {
+    calls = k.there.calls;
+    lines = All-push (λ (f : Fed). line_is_there (slice_get d.streams f.stream) ≡ true) d.feeds feed k.there.lines k.there.going_on.0;
+    once = once_more d.feeds feed k.there.once k.there.going_on.1;
+    going_on = tt;
+  };
 }
 
 ended_kept : (d : Partial) → IsKept d → IsKept (ended d)
@@ -89,15 +111,29 @@ ended_place d (In_feed feed) = refl
 pub kept_sound : (d : Partial) → IsKept d → IsSound (plan_of d)
 kept_sound d k =
     let e = ended_kept d k in
-    record { setups = e.setups; few_streams = e.few_streams; few_processes = omega (arith, e.few_processes); lines = e.lines }
+    record {
+      setups = e.setups;
+      few_streams = e.few_streams;
+      few_processes = omega (arith, e.few_processes);
+      messages = e.messages;
+      calls = e.there.calls;
+      lines = e.there.lines;
+      once = e.there.once;
+    }
 
 pub nothing_kept : IsKept nothing_yet
 nothing_kept = record {
   setups = All-nil (λ (stream : List ℕ × Setup). (is_fit stream.1 ≡ true) × (is_ring stream.1 ≡ true));
   few_streams = omega arith;
   few_processes = omega arith;
-  lines = All-nil (λ (f : Fed). All (λ m. is_from_line m.kind ≡ true) f.messages);
+  messages = All-nil (λ (f : Fed). All (λ m. is_from_line m.kind ≡ true) f.messages);
   going_on = tt;
+  there = record {
+    calls = All-nil (λ (p : Process). AreCallsThere [] p.calls);
+    lines = All-nil (λ (f : Fed). line_is_there (slice_get nothing_yet.streams f.stream) ≡ true);
+    once = λ i j d before within. absurd (omega (arith, within));
+    going_on = tt;
+  };
 }
 
 -- ---- a stream
@@ -113,8 +149,14 @@ with_stream_keeps d e name setup fits is k =
         setups = All-push (λ (stream : List ℕ × Setup). (is_fit stream.1 ≡ true) × (is_ring stream.1 ≡ true)) d.streams (named name setup) k.setups fits;
         few_streams = omega (arith, ltb-true (length d.streams) MOST_STREAMS room, length-append d.streams (named name setup ∷ []));
         few_processes = k.few_processes;
-        lines = k.lines;
+        messages = k.messages;
         going_on = k.going_on;
+        there = record {
+          calls = processes_more d.streams (named name setup) d.processes k.there.calls;
+          lines = lines_more d.streams (named name setup) d.feeds k.there.lines;
+          once = k.there.once;
+          going_on = place_more d.streams (named name setup) d.feeds d.place k.there.going_on;
+        };
       };
       modules = omega arith;
     }))
@@ -147,8 +189,14 @@ with_process_keeps d e name is k =
         setups = k.setups;
         few_streams = k.few_streams;
         few_processes = omega (arith, ltb-true (length d.processes) MOST_PROCESSES room);
-        lines = k.lines;
+        messages = k.messages;
         going_on = tt;
+        there = record {
+          calls = k.there.calls;
+          lines = k.there.lines;
+          once = k.there.once;
+          going_on = All-nil (λ (call : Call). end_is_there (slice_get d.streams call.stream) call.end ≡ true);
+        };
       };
       modules = omega arith;
     }))
@@ -167,16 +215,23 @@ new_feed number = record { stream = number; messages = [] }
 from_line : Msg → Type 0
 from_line m = is_from_line m.kind ≡ true
 
-with_feed_keeps : (d e : Partial) (found : ℕ × Driver) → with_feed d found ≡ Ok e → IsKept d → Keeps d e
-with_feed_keeps d e found is k =
-    passed _ (Ok (record d { place = In_feed (new_feed found.0) })) e causes.OutOfPlace is (λ _ is.
+with_feed_keeps : (d e : Partial) (text : List ℕ) (found : ℕ × Driver) → stream_at d.streams text ≡ Some found → with_feed d found ≡ Ok e → IsKept d → Keeps d e
+with_feed_keeps d e text found named is k =
+    passed (is_line found.1 && not (has_feed d.feeds found.0)) (Ok (record d { place = In_feed (new_feed found.0) })) e causes.OutOfPlace is (λ free is.
+    let line = both_of (is_line found.1) (has_feed d.feeds found.0) free in
     same (Keeps d) (record d { place = In_feed (new_feed found.0) }) e is (record {
       kept = record {
         setups = k.setups;
         few_streams = k.few_streams;
         few_processes = omega (arith, k.few_processes);
-        lines = k.lines;
+        messages = k.messages;
         going_on = All-nil (λ (m : Msg). is_from_line m.kind ≡ true);
+        there = record {
+          calls = k.there.calls;
+          lines = k.there.lines;
+          once = k.there.once;
+          going_on = (line_there d.streams found (stream_found d.streams text found named) line.0, unfed d.feeds found.0 line.1);
+        };
       };
       modules = omega arith;
     }))
@@ -184,7 +239,7 @@ with_feed_keeps d e found is k =
 feed_keeps : (d e : Partial) (texts : List (List ℕ)) → feed_onto d texts ≡ Ok e → IsKept d → Keeps d e
 unfolding feed_onto
 feed_keeps d e [] is k = absurd cc
-feed_keeps d e (name ∷ []) is k = through (or_fault causes.NoSuch (stream_at d.streams name)) (λ found. with_feed d found) e is (λ found _ is. with_feed_keeps d e found is k)
+feed_keeps d e (name ∷ []) is k = through (or_fault causes.NoSuch (stream_at d.streams name)) (λ found. with_feed d found) e is (λ found named is. with_feed_keeps d e name found (found_in (stream_at d.streams name) causes.NoSuch found named) is k)
 feed_keeps d e (name ∷ more ∷ texts) is k = absurd cc
 
 -- ---- a call of a process
@@ -199,15 +254,21 @@ called process call = record { name = process.name; calls = process.calls ++ cal
 call_keeps : (d e : Partial) (process : Process) (verb : Verb) (texts : List (List ℕ)) → call_onto d process verb texts ≡ Ok e → IsKept (record d { place = In_process process }) → Keeps d e
 unfolding call_onto
 call_keeps d e process verb texts is k =
-    through (call_at d.streams (d.modules + 1) verb texts) (λ call. with_call d process verb call) e is (λ call _ is.
+    through (call_at d.streams (d.modules + 1) verb texts) (λ call. with_call d process verb call) e is (λ call read is.
     passed (nat_lt (length process.calls) MOST_CALLS) (Ok (record d { modules = modules_after verb d.modules; place = In_process (called process call) })) e causes.TooMany is (λ _ is.
     same (Keeps d) (record d { modules = modules_after verb d.modules; place = In_process (called process call) }) e is (record {
       kept = record {
         setups = k.setups;
         few_streams = k.few_streams;
         few_processes = k.few_processes;
-        lines = k.lines;
+        messages = k.messages;
         going_on = tt;
+        there = record {
+          calls = k.there.calls;
+          lines = k.there.lines;
+          once = k.there.once;
+          going_on = All-push (λ (c : Call). end_is_there (slice_get d.streams c.stream) c.end ≡ true) process.calls call k.there.going_on (call_there d.streams (d.modules + 1) verb texts call read);
+        };
       };
       modules = one_module verb d.modules (is_push verb);
     })))
@@ -227,8 +288,9 @@ message_keeps d e feed word texts is k =
         setups = k.setups;
         few_streams = k.few_streams;
         few_processes = k.few_processes;
-        lines = k.lines;
+        messages = k.messages;
         going_on = All-push (λ (m : Msg). is_from_line m.kind ≡ true) feed.messages m k.going_on (message_from_line word texts m read);
+        there = record { calls = k.there.calls; lines = k.there.lines; once = k.there.once; going_on = k.there.going_on };
       };
       modules = omega arith;
     })))

@@ -1,8 +1,12 @@
--- What each plan meets that is read from a script: all that a run asks for.
-use Rattle.std.specs.Prelude.{◌≡◌, ◌≤◌, true, List, length, All}
+-- What each plan meets that is read from a script: all that a run asks for, and that all is there which it names.
+use Rattle.std.specs.Prelude.{◌≡◌, ◌≤◌, ℕ, Bool, true, false, Option, Some, None, List, length, All, AllPairs, slice_get}
 use Rattle.strm_msg.specs.Kind.{is_from_line}
+use Rattle.strm_msg.specs.declared.words.End.{End}
+use Rattle.strm_ends.specs.Image.{has_end}
+use Rattle.strm_head.specs.Step.{is_line}
 use Rattle.strm_history.specs.Setup.{is_fit, is_ring}
-use Rattle.strm_plan.specs.Plan.{Streams, Fed, Whole}
+use Rattle.strm_history.specs.declared.setup.Setup.{Setup}
+use Rattle.strm_plan.specs.Plan.{Streams, Call, Process, Fed, Whole}
 use Rattle.strm_plan.specs.declared.draft.TheConstants.{MOST_STREAMS, MOST_PROCESSES}
 
 -- each stream can be made
@@ -13,9 +17,38 @@ AreSetups streams = All (λ stream. (is_fit stream.1 ≡ true) × (is_ring strea
 abbrev pub AreFromLine : List Fed → Type 0
 AreFromLine feeds = All (λ feed. All (λ m. is_from_line m.kind ≡ true) feed.messages) feeds
 
--- all that a run asks of a plan
+-- the stream is there, and has this end
+abbrev pub end_is_there : Option (List ℕ × Setup) → End → Bool
+end_is_there None end = false
+end_is_there (Some stream) end = has_end stream.1.driver end
+
+-- the stream is there, and is a line
+abbrev pub line_is_there : Option (List ℕ × Setup) → Bool
+line_is_there None = false
+line_is_there (Some stream) = is_line stream.1.driver
+
+-- each call is on a stream and an end that are there
+abbrev pub AreCallsThere : Streams → List Call → Type 0
+AreCallsThere streams calls = All (λ call. end_is_there (slice_get streams call.stream) call.end ≡ true) calls
+
+-- so is each of each process
+abbrev pub AreProcessesThere : Streams → List Process → Type 0
+AreProcessesThere streams processes = All (λ process. AreCallsThere streams process.calls) processes
+
+-- each feed is for a line
+abbrev pub AreLinesThere : Streams → List Fed → Type 0
+AreLinesThere streams feeds = All (λ feed. line_is_there (slice_get streams feed.stream) ≡ true) feeds
+
+-- no two feeds are for the same line
+abbrev pub AreOnce : List Fed → Type 0
+AreOnce feeds = AllPairs (λ one other. one.stream ≡ other.stream → ⊥) feeds
+
+-- all that a run asks of a plan, and all that it looks for there
 pub record IsSound (plan : Whole) : Type 0 where
   pub setups : AreSetups plan.streams
   pub few_streams : length plan.streams ≤ MOST_STREAMS
   pub few_processes : length plan.processes ≤ MOST_PROCESSES
-  pub lines : AreFromLine plan.feeds
+  pub messages : AreFromLine plan.feeds
+  pub calls : AreProcessesThere plan.streams plan.processes
+  pub lines : AreLinesThere plan.streams plan.feeds
+  pub once : AreOnce plan.feeds

@@ -1,2 +1,3 @@
+pub mod FaultLemmas
 pub mod MoreLemmas
 pub mod PlanLemmas

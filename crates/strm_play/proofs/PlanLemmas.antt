@@ -1,9 +1,11 @@
 -- A plan that was read meets what a run asks for, and what a run says of scripts and feeds is said of the plan.
-use Rattle.std.proofs.Common.{◌≡◌, ℕ, zero, suc, ◌<◌, ◌≤◌, ◌==◌, ◌&&◌, Bool, true, cond, List, [], ◌∷◌, map, length, get_or, All, refl, ap, sym, ◌∙◌, subst, arith}
+use Rattle.std.proofs.Common.{◌≡◌, ℕ, zero, suc, ◌<◌, ◌≤◌, ◌==◌, ◌&&◌, Bool, true, cond, List, [], ◌∷◌, map, length, get_or, slice_get, All, refl, ap, sym, ◌∙◌, subst, arith}
+use Rattle.std.specs.List.{AllPairs}
 use Rattle.std.proofs.lemmas.List.{length-map}
 use Rattle.std.proofs.lemmas.List.Elements.{All-map, All-head, All-tail, All-cons, All-nil}
 use Rattle.arrayvec.specs.ArrayVec.{ArrayVec}
 use Rattle.strm_msg.specs.Kind.{is_from_line}
+use Rattle.strm_msg.specs.declared.words.End.{End}
 use Rattle.strm_msg.specs.Message.{Msg}
 use Rattle.strm_module.specs.declared.kind.Kind.{Kind}
 use Rattle.strm_module.specs.declared.shape.Shape.{Shape}
@@ -11,11 +13,14 @@ use Rattle.strm_history.specs.Setup.{is_fit, is_ring}
 use Rattle.strm_history.specs.declared.setup.Setup.{Setup}
 use Rattle.strm_run.specs.declared.script.Feed.{Feed}
 use Rattle.strm_run.specs.declared.script.Script.{Script}
+use Rattle.strm_run.specs.declared.script.ScriptCall.{ScriptCall}
 use Rattle.strm_run.specs.declared.transcript.StreamLog.{StreamLog}
 use Rattle.strm_run.specs.Scripts as runs
 use Rattle.strm_run.specs.Transcript.{IsFed}
-use Rattle.strm_plan.specs.Plan.{streams_view, feed_view, process_view}
-use Rattle.strm_plan.specs.Sound.{AreSetups, AreFromLine}
+use Rattle.strm_plan.specs.Plan.{streams_view, feed_view, process_view, call_view}
+use Rattle.strm_plan.specs.Sound as plans
+use Rattle.strm_plan.specs.Sound.{AreSetups, AreFromLine, AreProcessesThere, AreLinesThere, AreOnce}
+use Rattle.strm_plan.specs.declared.plan.CallLine.{CallLine}
 use Rattle.strm_plan.specs.declared.plan.FeedDecl.{FeedDecl}
 use Rattle.strm_plan.specs.declared.plan.ProcessDecl.{ProcessDecl}
 use Rattle.strm_play.specs.Playing.{calls_of_processes, calls_of_scripts, fed, played_fed, played_line}
@@ -76,3 +81,91 @@ feed_messages (feed ∷ feeds) number = ap (λ (others : List Msg). cond (feed.s
 pub fed_of_plan : (log : StreamLog Kind) (feeds : List Feed) (decls : List FeedDecl) (number : ℕ) → map played_fed feeds ≡ map fed decls → IsFed (runs.feed_of feeds number) log → IsFed (messages_for (map fed decls) number) log
 fed_of_plan log feeds decls number same was =
     subst (λ messages. IsFed messages log) (feed_messages feeds number ∙ ap (λ all. messages_for all number) same) was
+
+-- ---- all is there that a plan names
+
+abbrev Entries : Type 0
+Entries = List (ArrayVec ℕ × Setup)
+
+abbrev setups_in : Entries → List Setup
+setups_in entries = map (λ entry. entry.1) entries
+
+-- an end is there as a plan sees its streams, and as a run sees their setups
+same_end : (entries : Entries) (number : ℕ) (end : End) → plans.end_is_there (slice_get (streams_view entries) number) end ≡ runs.end_is_there (slice_get (setups_in entries) number) end
+same_end [] number end = refl
+same_end (entry ∷ entries) zero end = refl
+same_end (entry ∷ entries) (suc number) end = same_end entries number end
+
+same_line : (entries : Entries) (number : ℕ) → plans.line_is_there (slice_get (streams_view entries) number) ≡ runs.line_is_there (slice_get (setups_in entries) number)
+same_line [] number = refl
+same_line (entry ∷ entries) zero = refl
+same_line (entry ∷ entries) (suc number) = same_line entries number
+
+-- the calls of a process
+process_there : (entries : Entries) (lines : List CallLine) → plans.AreCallsThere (streams_view entries) (map call_view lines) → runs.AreCallsThere (setups_in entries) (map played_line lines)
+process_there entries lines there =
+    let each = unmapped (λ call. plans.end_is_there (slice_get (streams_view entries) call.stream) call.end ≡ true) call_view lines there in
+    All-map (λ (one : ScriptCall (Shape Kind)). runs.end_is_there (slice_get (setups_in entries) one.stream) one.call.end ≡ true) played_line lines
+    (λ k d under. let line = get_or lines k d in sym (same_end entries line.stream line.call.end) ∙ each k d under)
+
+-- those of all processes, by the lists of calls
+scripts_there : (entries : Entries) (scripts : List (Script (Shape Kind))) (processes : List ProcessDecl) → calls_of_scripts scripts ≡ calls_of_processes processes → AreProcessesThere (streams_view entries) (map process_view processes) → All (λ script. runs.AreCallsThere (setups_in entries) script.calls.items) scripts
+scripts_there entries scripts processes same there =
+    let each = unmapped (λ process. plans.AreCallsThere (streams_view entries) process.calls) process_view processes there in
+    let lists : All (λ (calls : List (ScriptCall (Shape Kind))). runs.AreCallsThere (setups_in entries) calls) (calls_of_processes processes) =
+    All-map (λ (calls : List (ScriptCall (Shape Kind))). runs.AreCallsThere (setups_in entries) calls) (λ (process : ProcessDecl). map played_line process.calls.items) processes (λ k d under. process_there entries (get_or processes k d).calls.items (each k d under)) in
+    unmapped (λ (calls : List (ScriptCall (Shape Kind))). runs.AreCallsThere (setups_in entries) calls) (λ (script : Script (Shape Kind)). script.calls.items) scripts
+    (subst (All (λ (calls : List (ScriptCall (Shape Kind))). runs.AreCallsThere (setups_in entries) calls)) (sym same) lists)
+
+-- the feeds of lines, by the numbers of their streams
+feeds_there : (entries : Entries) (feeds : List Feed) (decls : List FeedDecl) → map played_fed feeds ≡ map fed decls → AreLinesThere (streams_view entries) (map feed_view decls) → All (λ feed. runs.line_is_there (slice_get (setups_in entries) feed.stream) ≡ true) feeds
+feeds_there entries feeds decls same there =
+    let each = unmapped (λ feed. plans.line_is_there (slice_get (streams_view entries) feed.stream) ≡ true) feed_view decls there in
+    let pairs : All (λ (pair : ℕ × List Msg). runs.line_is_there (slice_get (setups_in entries) pair.0) ≡ true) (map fed decls) =
+    All-map (λ (pair : ℕ × List Msg). runs.line_is_there (slice_get (setups_in entries) pair.0) ≡ true) fed decls (λ k d under. sym (same_line entries (get_or decls k d).stream) ∙ each k d under) in
+    unmapped (λ (pair : ℕ × List Msg). runs.line_is_there (slice_get (setups_in entries) pair.0) ≡ true) played_fed feeds
+    (subst (All (λ (pair : ℕ × List Msg). runs.line_is_there (slice_get (setups_in entries) pair.0) ≡ true)) (sym same) pairs)
+
+-- what is made of an element
+at_map : {X Y : Type 0} (f : X → Y) (xs : List X) (k : ℕ) (d : X) → k < length xs → get_or (map f xs) k (f d) ≡ f (get_or xs k d)
+at_map f [] k d under = absurd (omega (arith, under))
+at_map f (x ∷ xs) zero d under = refl
+at_map f (x ∷ xs) (suc k) d under = at_map f xs k d (omega (arith, under))
+
+-- what holds of pairs of what is made holds of pairs of elements, and the other way round
+pairs_unmapped : {X Y : Type 0} (R : Y → Y → Type 0) (f : X → Y) (xs : List X) → AllPairs R (map f xs) → AllPairs (λ one other. R (f one) (f other)) xs
+pairs_unmapped R f xs all i j d before under =
+    let many : length (map f xs) ≡ length xs = length-map xs f in
+    subst (λ y. R y (f (get_or xs j d))) (at_map f xs i d (omega (arith, before, under)))
+    (subst (λ y. R (get_or (map f xs) i (f d)) y) (at_map f xs j d under) (all i j (f d) before (omega (arith, many, under))))
+
+get_or_any : {X : Type 0} (xs : List X) (k : ℕ) (d e : X) → k < length xs → get_or xs k d ≡ get_or xs k e
+get_or_any [] k d e under = absurd (omega (arith, under))
+get_or_any (x ∷ xs) zero d e under = refl
+get_or_any (x ∷ xs) (suc k) d e under = get_or_any xs k d e (omega (arith, under))
+
+pairs_mapped : {X Y : Type 0} (R : Y → Y → Type 0) (f : X → Y) (xs : List X) → AllPairs (λ one other. R (f one) (f other)) xs → AllPairs R (map f xs)
+pairs_mapped R f [] all i j d before under = absurd (omega (arith, under))
+pairs_mapped R f (x ∷ xs) all i j d before under =
+    let many : length (map f (x ∷ xs)) ≡ length (x ∷ xs) = length-map (x ∷ xs) f in
+    let j_under : j < length (x ∷ xs) = omega (arith, many, under) in
+    let i_under : i < length (x ∷ xs) = omega (arith, before, j_under) in
+    subst (λ y. R y (get_or (map f (x ∷ xs)) j d)) (sym (get_or_any (map f (x ∷ xs)) i d (f x) (omega (arith, many, i_under)) ∙ at_map f (x ∷ xs) i x i_under))
+    (subst (λ y. R (f (get_or (x ∷ xs) i x)) y) (sym (get_or_any (map f (x ∷ xs)) j d (f x) under ∙ at_map f (x ∷ xs) j x j_under)) (all i j x before j_under))
+
+abbrev Differ : ℕ × List Msg → ℕ × List Msg → Type 0
+Differ one other = one.0 ≡ other.0 → ⊥
+
+-- no two feeds are for the same line
+feeds_once : (feeds : List Feed) (decls : List FeedDecl) → map played_fed feeds ≡ map fed decls → AreOnce (map feed_view decls) → AllPairs (λ one other. one.stream ≡ other.stream → ⊥) feeds
+feeds_once feeds decls same once =
+    let of_decls = pairs_unmapped (λ one other. one.stream ≡ other.stream → ⊥) feed_view decls once in
+    pairs_unmapped Differ played_fed feeds (subst (λ pairs. AllPairs Differ pairs) (sym same) (pairs_mapped Differ fed decls of_decls))
+
+-- so all is there that the run of a plan names
+pub all_there : (entries : Entries) (scripts : List (Script (Shape Kind))) (processes : List ProcessDecl) (feeds : List Feed) (decls : List FeedDecl) → calls_of_scripts scripts ≡ calls_of_processes processes → map played_fed feeds ≡ map fed decls → AreProcessesThere (streams_view entries) (map process_view processes) → AreLinesThere (streams_view entries) (map feed_view decls) → AreOnce (map feed_view decls) → runs.AreThere (setups_in entries) scripts feeds
+all_there entries scripts processes feeds decls same_calls same_feeds calls lines once = record {
+  calls = scripts_there entries scripts processes same_calls calls;
+  lines = feeds_there entries feeds decls same_feeds lines;
+  once = feeds_once feeds decls same_feeds once;
+}

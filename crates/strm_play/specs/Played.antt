@@ -1,5 +1,5 @@
 -- What a script that was played leaves.
-use Rattle.std.specs.Prelude.{◌≡◌, ◌⊎◌, ℕ, ◌<◌, ◌==◌, List, [], ◌∷◌, length, map, get_or, Ok, Err, if◌then◌else◌}
+use Rattle.std.specs.Prelude.{◌≡◌, ◌⊎◌, ℕ, ◌<◌, ◌==◌, Bool, true, false, not, List, [], ◌∷◌, length, map, get_or, Ok, Err, if◌then◌else◌}
 use Rattle.strm_msg.specs.Message.{Msg}
 use Rattle.strm_module.specs.declared.kind.Kind.{Kind}
 use Rattle.strm_module.specs.declared.shape.Shape.{Shape}
@@ -9,8 +9,10 @@ use Rattle.strm_history.specs.History.{own}
 use Rattle.strm_history.specs.Entry.{asked_of}
 use Rattle.strm_run.specs.declared.script.ScriptCall.{ScriptCall}
 use Rattle.strm_run.specs.declared.transcript.StreamLog.{StreamLog}
-use Rattle.strm_run.specs.Scripts.{calls_on}
+use Rattle.strm_run.specs.Scripts.{calls_on, is_crew}
 use Rattle.strm_run.specs.Transcript.{IsFed, IsLegal}
+use Rattle.strm_run.specs.declared.fault.RunFault.{RunFault}
+use Rattle.strm_run.specs.declared.fault.RunFault.TheVariants as runs
 use Rattle.strm_plan.specs.Plan.{plan_view}
 use Rattle.strm_plan.specs.Reading.{spelt}
 use Rattle.strm_plan.specs.Spelling.{IsNoMemory}
@@ -41,7 +43,22 @@ pub record IsPlayed (bytes : List ℕ) (outcome : Outcome) : Type 0 where
   pub calls : (k caller : ℕ) (log : StreamLog Kind) → k < length (setups_of plan) → map asked_of (own caller (get_or outcome.transcript.streams.items k log).history.items) ≡ calls_on k (calls_of plan caller)
   pub arrivals : (k : ℕ) (log : StreamLog Kind) → k < length (setups_of plan) → IsFed (messages_for (map fed plan.feeds.items) k) (get_or outcome.transcript.streams.items k log)
 
--- a fault of the script is its first, or want of memory; a run is made of a script alone
-abbrev pub IsFaultOf : List ℕ → PlayFault → Type 0
-IsFaultOf bytes (Script fault) = IsNoMemory fault ⊎ (spelt bytes ≡ Err (record { line = fault.line; cause = fault.cause }))
-IsFaultOf bytes (Run fault) = (plan : Plan) × (spelt bytes ≡ Ok (plan_view plan))
+-- which faults the run of a script may have with so many workers: `Workers` where they are not 1 to `MOST_WORKERS`, and then no other
+-- but want of memory, which may come before the run; never `NoSuch`, as a script names nothing that it has not declared
+abbrev pub may_have : ℕ → RunFault → Bool
+may_have workers runs.Workers = not (is_crew workers)
+may_have workers runs.NoSuch = false
+may_have workers runs.NoMem = true
+may_have workers runs.Unlike = is_crew workers
+may_have workers runs.Unfinished = is_crew workers
+
+-- the bytes are a script, and its run may have this fault
+pub record IsFaultOfRun (bytes : List ℕ) (workers : ℕ) (fault : RunFault) : Type 0 where
+  pub plan : Plan
+  pub spells : spelt bytes ≡ Ok (plan_view plan)
+  pub may : may_have workers fault ≡ true
+
+-- a fault of the script is its first, or want of memory; a fault of its run is told of a script alone
+abbrev pub IsFaultOf : List ℕ → ℕ → PlayFault → Type 0
+IsFaultOf bytes workers (Script fault) = IsNoMemory fault ⊎ (spelt bytes ≡ Err (record { line = fault.line; cause = fault.cause }))
+IsFaultOf bytes workers (Run fault) = IsFaultOfRun bytes workers fault

@@ -1,4 +1,7 @@
 //! Why a script was not played.
+ghost use Rattle.std.specs.Prelude.{Some};
+ghost use Rattle.strm_play.specs.Fault.{fault_text};
+
 use std::fmt;
 use strm_msg::NoMem;
 use strm_plan::ScriptFault;
@@ -16,10 +19,16 @@ pub enum PlayFault {
 
 /// Printed as `line N: C TEXT`, or as `run fault N TEXT`.
 impl fmt::Display for PlayFault {
+    ghost output = { λ fault. Some (fault_text fault) };
+
     fn fmt<W: fmt::Write>(&self, f: &mut fmt::Formatter<W>) -> fmt::Result {
         match self {
             PlayFault::Script(fault) => write!(f, "{fault}"),
-            PlayFault::Run(fault) => write!(f, "run fault {} {}", fault.number(), fault.text()),
+            PlayFault::Run(fault) => {
+                let number = fault.number();
+                let text = fault.text();
+                write!(f, "run fault {number} {text}")
+            }
         }
     }
 }

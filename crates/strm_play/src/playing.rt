@@ -1,5 +1,6 @@
 //! A script is read and run.
-ghost use Rattle.std.specs.Prelude.{◌≡◌, IfOk, IfErr};
+ghost use Rattle.std.specs.Prelude.{◌≡◌, true, IfOk, IfErr};
+ghost use Rattle.strm_run.specs.Scripts.{is_crew};
 ghost use Rattle.strm_play.specs.Played.{IsPlayed, IsFaultOf};
 
 use crate::fault::PlayFault;
@@ -29,11 +30,12 @@ impl Gate for Open {
     fn after(&self, _: u32, _: u64) {}
 }
 
-/// Plays a script with as many worker threads as are asked for, 1 to 64: its streams are made, the calls
-/// of its processes are made on them, and its feeds come in beside. It returns when all threads have ended.
+/// Plays a script with as many worker threads as are asked for, 1 to `MOST_WORKERS`: its streams are made, the
+/// calls of its processes are made on them, and its feeds come in beside. It returns when all threads have ended.
 ///
-/// Refused with `Script` and the first fault, where it is no script; then with `Run` as a run is: where there
-/// are not 1 to 64 workers, and for want of memory or of a thread.
+/// Refused with `Script` and the first fault, where it is no script; then with `Run`: for want of memory before
+/// the run; then as a run is, with `Workers` exactly where there are not 1 to `MOST_WORKERS` of them, and never
+/// with `NoSuch`, since a script names no stream and no end that it has not declared.
 pub fn play<R: Threads + Wait + Sync>(
     rt: &R,
     alloc: Global,
@@ -41,7 +43,8 @@ pub fn play<R: Threads + Wait + Sync>(
     workers: u32,
 ) -> Result<Outcome, PlayFault>
     ensures played { IfOk result (λ outcome. IsPlayed bytes.now outcome) }
-    ensures fault { IfErr result (λ fault. IsFaultOf bytes.now fault) }
+    ensures workers { IfOk result (λ _. is_crew workers ≡ true) }
+    ensures fault { IfErr result (λ fault. IsFaultOf bytes.now workers fault) }
 {
     let plan = parse(alloc, bytes)?;
     let Handed {

@@ -14,6 +14,7 @@ use Rattle.strm_verb.specs.Fault.{◌>>=◌, or_fault}
 use Rattle.strm_verb.specs.Field.{Bytes, Number, Word, part_field, maximum_field, number_at, part_at}
 use Rattle.strm_verb.specs.declared.fault.Cause.{Cause}
 use Rattle.strm_verb.specs.declared.fault.Cause.TheVariants as causes
+use Rattle.strm_verb.specs.declared.field.TheConstants.{MOST_ASKED}
 use Rattle.strm_script.specs.ReadBack.{AreBytes, A_part, A_part_if_any, No_part, A_maximum, No_maximum, A_number, A_word, FieldsAreReadBack}
 
 -- a digit that stands behind others
@@ -98,8 +99,8 @@ fields_back form field (A_part_if_any bytes are) =
 fields_back form field No_part = refl
 fields_back form field (A_maximum n within) =
     let below : n < 2 ^ 64 = omega (arith, within) in
-    ap (λ (b : Bool). cond b (Ok None) (number_at 65535 (decimal n) >>= λ m. Ok (Some m)) >>= λ most. Ok (maximum_field most)) (not_missing (decimal n) (number_begins n below))
-    ∙ ap (λ (read : Result ℕ Cause). (read >>= λ m. Ok (Some m)) >>= λ most. Ok (maximum_field most)) (number_read 65535 n within below)
+    ap (λ (b : Bool). cond b (Ok None) (number_at MOST_ASKED (decimal n) >>= λ m. Ok (Some m)) >>= λ most. Ok (maximum_field most)) (not_missing (decimal n) (number_begins n below))
+    ∙ ap (λ (read : Result ℕ Cause). (read >>= λ m. Ok (Some m)) >>= λ most. Ok (maximum_field most)) (number_read MOST_ASKED n within below)
 fields_back form field No_maximum = refl
 fields_back form field (A_number most n within below) = ap (λ (read : Result ℕ Cause). read >>= λ m. Ok (Number m)) (number_read most n within below)
 fields_back form field (A_word words word is) =

@@ -3,6 +3,7 @@ use Rattle.std.specs.Prelude.{◌≡◌, ℕ, ◌≤◌, ◌<◌, ◌^◌, true,
 use Rattle.std.specs.Str.{bytes_eq}
 use Rattle.std.specs.List.{list_any}
 use Rattle.strm_verb.specs.Field.{Form, Whole, Optional, Maximum, Upto, Choice, Field, Bytes, Number, Word, part_field, maximum_field, field_at}
+use Rattle.strm_verb.specs.declared.field.TheConstants.{MOST_ASKED}
 use Rattle.strm_script.specs.Fields.{text_of}
 
 abbrev pub AreBytes : List ℕ → Type 0
@@ -13,7 +14,7 @@ pub data May : Form → Field → Type 0 where
   A_part : (bytes : List ℕ) → AreBytes bytes → May Whole (Bytes bytes)
   A_part_if_any : (bytes : List ℕ) → AreBytes bytes → May Optional (Bytes bytes)
   No_part : May Optional (part_field None)
-  A_maximum : (n : ℕ) → n ≤ 65535 → May Maximum (Number n)
+  A_maximum : (n : ℕ) → n ≤ MOST_ASKED → May Maximum (Number n)
   No_maximum : May Maximum (maximum_field None)
   A_number : (most n : ℕ) → n ≤ most → n < 2 ^ 64 → May (Upto most) (Number n)
   A_word : (words : List (List ℕ)) (word : List ℕ) → list_any (bytes_eq word) words ≡ true → May (Choice words) (Word word)

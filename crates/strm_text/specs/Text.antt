@@ -3,6 +3,8 @@ use Rattle.std.specs.Prelude.{ℕ, ◌+◌, ◌-◌, ◌*◌, ◌==◌, ◌&&◌
 use Rattle.std.specs.Option.{option_map}
 use Rattle.std.specs.List.{slice_split, list_all, before_first, after_first, position_or_len}
 use Rattle.strm_text.specs.Bytes.{is_blank, is_digit, is_of_name, is_itself, hex_of}
+use Rattle.strm_text.specs.declared.parts.TheConstants.{MOST_TIMES}
+use Rattle.strm_text.specs.declared.words.TheConstants.{MOST_DIGITS}
 
 infixl 10 ◌>>=◌
 abbrev pub ◌>>=◌ : {A B : Type 0} → Option A → (A → Option B) → Option B
@@ -23,10 +25,10 @@ abbrev pub number_from : ℕ → List ℕ → Option ℕ
 number_from value [] = Some value
 number_from value (digit ∷ digits) = if is_digit digit then number_from (value * 10 + (digit - 48)) digits else None
 
--- 1 to 20 digits, whose number is `most` at most
+-- 1 to `MOST_DIGITS` digits, whose number is `most` at most
 abbrev pub number_of : ℕ → List ℕ → Option ℕ
 number_of most text =
-    if nat_le 1 (length text) && nat_le (length text) 20 then (number_from 0 text >>= λ value. if nat_le value most then Some value else None)
+    if nat_le 1 (length text) && nat_le (length text) MOST_DIGITS then (number_from 0 text >>= λ value. if nat_le value most then Some value else None)
     else None
 
 -- 1 to `longest` digits, letters and `_`
@@ -61,9 +63,9 @@ abbrev pub two_digits : List ℕ → Option ℕ
 two_digits (a ∷ b ∷ []) = byte_of a b
 two_digits _ = None
 
--- `N:hh`: how often, 0 to 65535, and which byte
+-- `N:hh`: how often, 0 to `MOST_TIMES`, and which byte
 abbrev pub times_of : List ℕ → Option (ℕ × ℕ)
-times_of text = halves_of 58 text >>= λ halves. number_of 65535 halves.0 >>= λ count. two_digits halves.1 >>= λ byte. Some (count, byte)
+times_of text = halves_of 58 text >>= λ halves. number_of MOST_TIMES halves.0 >>= λ count. two_digits halves.1 >>= λ byte. Some (count, byte)
 
 -- so often that byte
 abbrev pub repeated_of : List ℕ → Option (List ℕ)

@@ -31,7 +31,7 @@ fn are_of_name(text: &[u8]) -> bool
     text.iter().all(|byte| is_of_name(*byte))
 }
 
-/// A number of 1 to 20 decimal digits, which is `most` at most; nothing where the text is none.
+/// A number of 1 to `MOST_DIGITS` decimal digits, which is `most` at most; nothing where the text is none.
 pub fn number(text: &[u8], most: u64) -> Option<u64>
     ensures { result ≡ number_of most text.now }
 {

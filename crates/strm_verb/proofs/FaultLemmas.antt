@@ -9,6 +9,7 @@ use Rattle.strm_verb.specs.Arrival.{proto_at}
 use Rattle.strm_verb.specs.declared.fault.Cause.{Cause}
 use Rattle.strm_verb.specs.declared.fault.ReadError.{ReadError}
 use Rattle.strm_verb.specs.declared.fault.ReadError.TheVariants as errors
+use Rattle.strm_verb.specs.declared.field.TheConstants.{MOST_BAND}
 
 -- where the first of two fails, both together do
 fails_first : {A B : Type 0} (error : ReadError) (read : Result A Cause) (next : A → Result B Cause) → Fails error read → Fails error (read >>= next)
@@ -28,10 +29,10 @@ from_fails error (a ∷ b ∷ []) d least below fails = fails_first error (part_
 from_fails error (a ∷ b ∷ c ∷ texts) d least below fails = absurd (omega (arith, below))
 
 -- PART is no part behind a band
-pub control_fails : (error : ReadError) (texts : List (Bor (List ℕ))) (d : Bor (List ℕ)) (b : ℕ) → 3 ≤ length texts → length texts < 4 → number_at 255 (get_or texts 0 d).now ≡ Ok b → Fails error (part_upto MAX_CONTROL (get_or texts 1 d).now) → Fails error (proto_at (map (λ text. text.now) texts))
+pub control_fails : (error : ReadError) (texts : List (Bor (List ℕ))) (d : Bor (List ℕ)) (b : ℕ) → 3 ≤ length texts → length texts < 4 → number_at MOST_BAND (get_or texts 0 d).now ≡ Ok b → Fails error (part_upto MAX_CONTROL (get_or texts 1 d).now) → Fails error (proto_at (map (λ text. text.now) texts))
 control_fails error [] d b least below band fails = absurd (omega (arith, least))
 control_fails error (x ∷ []) d b least below band fails = absurd (omega (arith, least))
 control_fails error (x ∷ y ∷ []) d b least below band fails = absurd (omega (arith, least))
 control_fails error (x ∷ y ∷ z ∷ []) d b least below band fails =
-    fails_second error (number_at 255 x.now) b (λ n. part_upto MAX_CONTROL y.now) (λ n control. optional_upto MAX_DATA z.now >>= λ bytes. Ok (proto_msg n control bytes)) band fails
+    fails_second error (number_at MOST_BAND x.now) b (λ n. part_upto MAX_CONTROL y.now) (λ n control. optional_upto MAX_DATA z.now >>= λ bytes. Ok (proto_msg n control bytes)) band fails
 control_fails error (x ∷ y ∷ z ∷ w ∷ texts) d b least below band fails = absurd (omega (arith, below))

@@ -11,6 +11,7 @@ use Rattle.strm_verb.specs.Field.{number_at, part_upto, optional_upto, errno_at}
 use Rattle.strm_verb.specs.declared.fault.Cause.{Cause}
 use Rattle.strm_verb.specs.declared.fault.Cause.TheVariants as causes
 use Rattle.strm_verb.specs.declared.arrival.MessageWord.{MessageWord}
+use Rattle.strm_verb.specs.declared.field.TheConstants.{MOST_BAND}
 
 -- the word of a message
 abbrev pub message_word : MessageWord → List ℕ
@@ -39,7 +40,7 @@ flush_at text =
 -- BAND PART
 abbrev pub data_at : List (List ℕ) → Result Msg Cause
 data_at (band ∷ dat ∷ []) = do
-  b ← number_at 255 band
+  b ← number_at MOST_BAND band
   bytes ← part_upto MAX_DATA dat
   Ok (data_msg b bytes)
 data_at texts = Err causes.Fields
@@ -47,7 +48,7 @@ data_at texts = Err causes.Fields
 -- BAND PART DAT
 abbrev pub proto_at : List (List ℕ) → Result Msg Cause
 proto_at (band ∷ ctl ∷ dat ∷ []) = do
-  b ← number_at 255 band
+  b ← number_at MOST_BAND band
   control ← part_upto MAX_CONTROL ctl
   bytes ← optional_upto MAX_DATA dat
   Ok (proto_msg b control bytes)

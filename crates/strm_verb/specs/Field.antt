@@ -10,6 +10,7 @@ use Rattle.strm_verb.specs.Fault.{◌>>=◌, or_fault}
 use Rattle.strm_verb.specs.Words.{all_errnos}
 use Rattle.strm_verb.specs.declared.fault.Cause.{Cause}
 use Rattle.strm_verb.specs.declared.fault.Cause.TheVariants as causes
+use Rattle.strm_verb.specs.declared.field.TheConstants.{MOST_ASKED, MOST_WORD}
 
 -- what a field may be
 pub data Form : Type 0 where
@@ -17,7 +18,7 @@ pub data Form : Type 0 where
   Whole : Form
   -- a part, or `-` for none
   Optional : Form
-  -- a number of bytes up to 65535, or `-1` for none
+  -- a number of bytes up to `MOST_ASKED`, or `-1` for none
   Maximum : Form
   -- a number up to a limit
   Upto : (most : ℕ) → Form
@@ -54,7 +55,7 @@ optional_at text = if bytes_eq text (codes "-") then Ok None else (part_at text 
 
 -- a maximum that is missing is the two bytes `-1`, and nothing else
 abbrev pub maximum_at : List ℕ → Result (Option ℕ) Cause
-maximum_at text = if bytes_eq text (codes "-1") then Ok None else (number_at 65535 text >>= λ n. Ok (Some n))
+maximum_at text = if bytes_eq text (codes "-1") then Ok None else (number_at MOST_ASKED text >>= λ n. Ok (Some n))
 
 abbrev pub choice_at : List (List ℕ) → List ℕ → Result (List ℕ) Cause
 choice_at words text = if list_any (bytes_eq text) words then Ok text else Err causes.UnknownWord
@@ -86,8 +87,8 @@ fields_at forms texts = if length texts == length forms then each_at forms texts
 abbrev pub marks_at : List ℕ → Result (ℕ × ℕ) Cause
 marks_at text = do
   halves ← or_fault causes.Number (halves_of 47 text)
-  high ← number_at 4294967295 halves.0
-  low ← number_at 4294967295 halves.1
+  high ← number_at MOST_WORD halves.0
+  low ← number_at MOST_WORD halves.1
   if nat_lt low high then Ok (high, low) else Err causes.Marks
 
 -- marks as a pair, the high one first

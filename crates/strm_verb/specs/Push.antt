@@ -10,6 +10,7 @@ use Rattle.strm_verb.specs.Fault.{◌>>=◌, or_fault}
 use Rattle.strm_verb.specs.Field.{number_at, part_at, side_at}
 use Rattle.strm_verb.specs.declared.fault.Cause.{Cause}
 use Rattle.strm_verb.specs.declared.fault.Cause.TheVariants as causes
+use Rattle.strm_verb.specs.declared.field.TheConstants.{MOST_BAND}
 use Rattle.strm_verb.specs.declared.push.KindWord.{KindWord}
 use Rattle.strm_verb.specs.declared.push.KindWord.TheVariants as words
 
@@ -69,7 +70,7 @@ table_at texts = Err causes.Fields
 
 -- BAND
 abbrev pub band_at : List (List ℕ) → Result Kind Cause
-band_at (text ∷ []) = number_at 255 text >>= λ band. Ok (Kind.Band band)
+band_at (text ∷ []) = number_at MOST_BAND text >>= λ band. Ok (Kind.Band band)
 band_at texts = Err causes.Fields
 
 -- a kind without fields of its own

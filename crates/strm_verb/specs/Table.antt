@@ -10,6 +10,7 @@ use Rattle.strm_verb.specs.Words.{priority_word, priority_words, put_word, put_w
 use Rattle.strm_verb.specs.Field.{Form, Whole, Optional, Maximum, Upto, Choice, Field, Bytes, Number, Word, part_field, maximum_field, fields_at}
 use Rattle.strm_verb.specs.Push.{push_arity, shape_at}
 use Rattle.strm_verb.specs.declared.fault.Cause.{Cause}
+use Rattle.strm_verb.specs.declared.field.TheConstants.{MOST_ASKED, MOST_BAND, MOST_WORD}
 use Rattle.strm_verb.specs.declared.verb.Verb.{Verb}
 
 -- the word of a call
@@ -47,19 +48,19 @@ verb_named text = find (λ verb. bytes_eq (word_of verb) text) all_verbs
 -- the fields of a call behind NAME:END, from left to right. Those of a push hang on the kind of its module, and stand in Push
 abbrev pub forms_of : Verb → List Form
 forms_of Verb.Putmsg = Optional ∷ Optional ∷ Choice priority_words ∷ []
-forms_of Verb.Putpmsg = Optional ∷ Optional ∷ Upto 255 ∷ Choice put_words ∷ []
+forms_of Verb.Putpmsg = Optional ∷ Optional ∷ Upto MOST_BAND ∷ Choice put_words ∷ []
 forms_of Verb.Getmsg = Maximum ∷ Maximum ∷ Choice wanted_words ∷ []
-forms_of Verb.Getpmsg = Maximum ∷ Maximum ∷ Upto 255 ∷ Choice get_words ∷ []
-forms_of Verb.Read = Upto 65535 ∷ []
+forms_of Verb.Getpmsg = Maximum ∷ Maximum ∷ Upto MOST_BAND ∷ Choice get_words ∷ []
+forms_of Verb.Read = Upto MOST_ASKED ∷ []
 forms_of Verb.Write = Whole ∷ []
 forms_of Verb.Find = Whole ∷ []
-forms_of Verb.Str = Upto 4294967295 ∷ Optional ∷ []
+forms_of Verb.Str = Upto MOST_WORD ∷ Optional ∷ []
 forms_of Verb.Flush = Choice flush_words ∷ []
-forms_of Verb.FlushBand = Upto 255 ∷ Choice flush_words ∷ []
+forms_of Verb.FlushBand = Upto MOST_BAND ∷ Choice flush_words ∷ []
 forms_of Verb.Peek = Maximum ∷ Maximum ∷ Choice wanted_words ∷ []
 forms_of Verb.SetRead = Choice mode_words ∷ Choice prot_words ∷ []
-forms_of Verb.Canput = Upto 255 ∷ []
-forms_of Verb.Ckband = Upto 255 ∷ []
+forms_of Verb.Canput = Upto MOST_BAND ∷ []
+forms_of Verb.Ckband = Upto MOST_BAND ∷ []
 forms_of verb = []
 
 abbrev pub is_push : Verb → Bool

@@ -10,6 +10,15 @@ use strm_msg::Bytes;
 use strm_queue::Marks;
 use strm_text::{number, part, split_once};
 
+/// The greatest band.
+pub const MOST_BAND: u64 = 255;
+
+/// The most bytes that a call asks for.
+pub const MOST_ASKED: u64 = 65_535;
+
+/// The greatest water mark, and the greatest command of an ioctl.
+pub const MOST_WORD: u64 = 4_294_967_295;
+
 /// A number that is `most` at most; nothing where the text is none.
 fn limited(text: &[u8], most: u64) -> Option<u64>
     ensures value { result ≡ number_of most text.now }
@@ -28,31 +37,31 @@ pub fn number_at(text: &[u8], most: u64) -> Result<u64, ReadError>
     }
 }
 
-/// A number up to 255. Refused where the text is none.
+/// A number up to `MOST_BAND`. Refused where the text is none.
 pub(crate) fn byte_at(text: &[u8]) -> Result<u8, ReadError>
-    ensures { Gives (λ n. n) result (fields.number_at 255 text.now) }
+    ensures { Gives (λ n. n) result (fields.number_at MOST_BAND text.now) }
 {
-    match limited(text, 255) {
+    match limited(text, MOST_BAND) {
         Some(n) => Ok(n as u8),
         None => Err(ReadError::Fault(Cause::Number)),
     }
 }
 
-/// A number up to 65535. Refused where the text is none.
+/// A number up to `MOST_ASKED`. Refused where the text is none.
 pub(crate) fn short_at(text: &[u8]) -> Result<u16, ReadError>
-    ensures { Gives (λ n. n) result (fields.number_at 65535 text.now) }
+    ensures { Gives (λ n. n) result (fields.number_at MOST_ASKED text.now) }
 {
-    match limited(text, 65_535) {
+    match limited(text, MOST_ASKED) {
         Some(n) => Ok(n as u16),
         None => Err(ReadError::Fault(Cause::Number)),
     }
 }
 
-/// A number up to 4294967295. Refused where the text is none.
+/// A number up to `MOST_WORD`. Refused where the text is none.
 pub(crate) fn word_at(text: &[u8]) -> Result<u32, ReadError>
-    ensures { Gives (λ n. n) result (fields.number_at 4294967295 text.now) }
+    ensures { Gives (λ n. n) result (fields.number_at MOST_WORD text.now) }
 {
-    match limited(text, 4_294_967_295) {
+    match limited(text, MOST_WORD) {
         Some(n) => Ok(n as u32),
         None => Err(ReadError::Fault(Cause::Number)),
     }
@@ -78,7 +87,7 @@ pub(crate) fn optional_at(alloc: Global, text: &[u8]) -> Result<Option<Bytes>, R
     Ok(Some(part_at(alloc, text)?))
 }
 
-/// A number up to 65535, or none for `-1`. Refused where the text is neither.
+/// A number up to `MOST_ASKED`, or none for `-1`. Refused where the text is neither.
 pub(crate) fn maximum_at(text: &[u8]) -> Result<Option<u16>, ReadError>
     ensures { Gives (λ most. most) result (fields.maximum_at text.now) }
 {
@@ -104,7 +113,7 @@ fn water_at(text: &[u8]) -> Result<Marks, ReadError>
     }
 }
 
-/// The high and the low mark of `HI/LO`. Refused where a mark is no number up to 4294967295, and
+/// The high and the low mark of `HI/LO`. Refused where a mark is no number up to `MOST_WORD`, and
 /// then where the low one is not below the high one.
 pub fn marks_at(text: &[u8]) -> Result<(u32, u32), ReadError>
     ensures { Gives (λ marks. marks) result (fields.marks_at text.now) }

@@ -11,7 +11,7 @@ mod words;
 
 pub use arrival::{MessageWord, message_at};
 pub use fault::{Cause, ReadError};
-pub use field::{marks_at, number_at};
+pub use field::{MOST_ASKED, MOST_BAND, MOST_WORD, marks_at, number_at};
 pub use push::{KindWord, PushDecl};
 pub use request::request_at;
 pub use verb::Verb;

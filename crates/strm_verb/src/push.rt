@@ -186,7 +186,7 @@ fn table_at(alloc: Global, texts: &[&[u8]]) -> Result<Kind, ReadError>
 }
 
 /// The kind of BAND. Refused where there is not this one field, and where it is no number up to
-/// 255.
+/// `MOST_BAND`.
 fn band_at(texts: &[&[u8]]) -> Result<Kind, ReadError>
     ensures { Gives (λ kind. kind) result (pushes.band_at (map (λ text. text.now) texts.now)) }
 {

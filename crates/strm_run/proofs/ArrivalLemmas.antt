@@ -8,7 +8,7 @@ use Rattle.strm_head.specs.declared.event.Event.TheVariants.{Asked, Arrived}
 use Rattle.strm_history.specs.declared.entry.Entry.{Entry}
 use Rattle.strm_history.specs.Entry.{came_in}
 use Rattle.strm_history.specs.History.{arrivals}
-use Rattle.strm_run.specs.Transcript.{has_come_in}
+use Rattle.strm_run.specs.Inside.Ending.{has_come_in}
 
 one_more : {P : Type 0} (event : Event P) (others : List Msg) → length (came_in event ++ others) ≡ cond (has_come_in event) (1 + length others) (length others)
 one_more (Asked request) others = refl

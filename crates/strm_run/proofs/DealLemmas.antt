@@ -9,8 +9,9 @@ use Rattle.strm_shared.specs.Seat.{SeatValue}
 use Rattle.strm_run.specs.declared.script.ScriptCall.{ScriptCall}
 use Rattle.strm_run.specs.declared.script.Script.{Script}
 use Rattle.strm_run.specs.Scripts.{calls_on, script_of}
-use Rattle.strm_run.specs.Run.{RunValue, IsPlayer, IsSeated}
-use Rattle.strm_run.specs.Opening.{callers_of, AreDealt, AreSeated}
+use Rattle.strm_run.specs.Run.{RunValue}
+use Rattle.strm_run.specs.Inside.Run.{IsPlayer, IsSeated}
+use Rattle.strm_run.specs.Inside.Opening.{callers_of, AreDealt, AreSeated}
 use Rattle.strm_run.proofs.ReachedLemmas.{fails_more, passes_more}
 
 -- the worker of a caller is there

@@ -22,10 +22,11 @@ use Rattle.strm_run.specs.declared.fault.RunFault.{RunFault}
 use Rattle.strm_run.specs.declared.script.Script.{Script}
 use Rattle.strm_run.specs.declared.transcript.StreamLog.{StreamLog}
 use Rattle.strm_run.specs.Scripts.{calls_on, script_of, feed_of}
-use Rattle.strm_run.specs.Run.{RunValue, ArePlayed, AreStreams, HasPlayed}
-use Rattle.strm_run.specs.Table.{IsTransposed}
-use Rattle.strm_run.specs.Transcript.{IsFed, IsPartOf}
-use Rattle.strm_run.specs.Ending.{AreSeatsPlayed, AreLinesFed, AreLogs, IsLog, IsLogOf, IsOffered, IsStream, fault_of}
+use Rattle.strm_run.specs.Run.{RunValue}
+use Rattle.strm_run.specs.Transcript.{AreLogs, IsFed, IsLog, IsPartOf}
+use Rattle.strm_run.specs.Inside.Run.{ArePlayed, AreStreams, HasPlayed}
+use Rattle.strm_run.specs.Inside.Table.{IsTransposed}
+use Rattle.strm_run.specs.Inside.Ending.{fault_of, AreLinesFed, AreSeatsPlayed, IsLogOf, IsOffered, IsStream}
 use Rattle.strm_run.proofs.TableLemmas.{row_there}
 
 -- past the last caller there is no script

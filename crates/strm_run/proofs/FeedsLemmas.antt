@@ -10,8 +10,9 @@ use Rattle.strm_history.specs.declared.setup.Setup.{Setup}
 use Rattle.strm_shared.specs.Ending.{fresh_feed, FeedValue}
 use Rattle.strm_run.specs.declared.script.Feed.{Feed}
 use Rattle.strm_run.specs.Scripts.{feed_of, line_is_there}
-use Rattle.strm_run.specs.Run.{RunValue, IsFeeding}
-use Rattle.strm_run.specs.Opening.{callers_of, lines_below, AreFeeders, AreFeeds}
+use Rattle.strm_run.specs.Run.{RunValue}
+use Rattle.strm_run.specs.Inside.Run.{IsFeeding}
+use Rattle.strm_run.specs.Inside.Opening.{callers_of, lines_below, AreFeeders, AreFeeds}
 use Rattle.strm_run.proofs.ReachedLemmas.{fails_more, passes_more, reached_is, reached_there}
 use Rattle.strm_run.proofs.TableLemmas.{first}
 use Rattle.strm_run.proofs.ThereLemmas.{line_at}
@@ -90,8 +91,8 @@ module _ {K : Type 0} (run : RunValue K) (feeders before after : List (Option Fe
 
   -- one that is there is a line's
   module _ (found : FeedValue) (there : feeder ≡ Some found) where
-    chosen : (is_line (get_or run.setups at setup).driver ≡ true) × (found ≡ record { number = at; accepted = [] })
-    chosen = some_if (is_line (get_or run.setups at setup).driver) (record { number = at; accepted = [] }) found (fresh ∙ there)
+    chosen : (is_line (get_or run.setups at setup).driver ≡ true) × (found ≡ record { number = at; offers = 0; accepted = [] })
+    chosen = some_if (is_line (get_or run.setups at setup).driver) (record { number = at; offers = 0; accepted = [] }) found (fresh ∙ there)
 
     pub lines_found : (lines : List ℕ) → lines ≡ lines_below run.setups at → lines ++ found.number ∷ [] ≡ lines_below run.setups (at + 1)
     lines_found lines was =
@@ -102,9 +103,9 @@ module _ {K : Type 0} (run : RunValue K) (feeders before after : List (Option Fe
     feeding_found feeds now messages fed behind stood =
         let mine : messages.items ≡ feed_of run.feeds at =
         ap (λ (v : Vec Msg Global). v.items) (stood ∙ behind at messages (omega arith)) ∙ fed.each at messages setup_there in
-        subst (λ (f : FeedValue). IsFeeding run f messages.items) (sym chosen.1) (record { there = setup_there; none = refl; feed = mine })
+        subst (λ (f : FeedValue). IsFeeding run f messages.items) (sym chosen.1) (record { there = setup_there; begins = refl; none = refl; feed = mine })
 
   -- the other streams have none
   pub lines_none : (lines : List ℕ) → ((found : FeedValue) → feeder ≡ Some found → ⊥) → lines ≡ lines_below run.setups at → lines ≡ lines_below run.setups (at + 1)
   lines_none lines none was =
-      was ∙ sym (lines_same run.setups at (line_at run.setups at setup setup_there ∙ none_if (is_line (get_or run.setups at setup).driver) (record { number = at; accepted = [] }) feeder fresh none))
+      was ∙ sym (lines_same run.setups at (line_at run.setups at setup setup_there ∙ none_if (is_line (get_or run.setups at setup).driver) (record { number = at; offers = 0; accepted = [] }) feeder fresh none))

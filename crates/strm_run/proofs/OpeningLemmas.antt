@@ -5,9 +5,9 @@ use Rattle.strm_history.specs.declared.setup.Setup.{Setup}
 use Rattle.strm_shared.specs.declared.fault.SharedFault.{SharedFault}
 use Rattle.strm_shared.specs.Seat.{SeatValue}
 use Rattle.strm_shared.specs.Ending.{fresh_seats, fresh_feed, FeedValue, SharedValue}
-use Rattle.strm_run.specs.Table.{IsTransposed}
 use Rattle.strm_run.specs.Run.{RunValue}
-use Rattle.strm_run.specs.Opening.{AreSeated, AreSeatsOn}
+use Rattle.strm_run.specs.Inside.Opening.{AreSeated, AreSeatsOn}
+use Rattle.strm_run.specs.Inside.Table.{IsTransposed}
 
 -- what holds of each, as of one more behind them
 each_push : {X : Type 0} (P : ℕ → X → Type 0) (xs : List X) (x : X) (at : ℕ) → length xs ≡ at → ((k : ℕ) (d : X) → k < at → P k (get_or xs k d)) → P at x → (k : ℕ) (d : X) → k < at + 1 → P k (get_or (xs ++ x ∷ []) k d)

@@ -12,7 +12,8 @@ use Rattle.strm_shared.specs.Seat.{SeatValue}
 use Rattle.strm_shared.specs.Ending.{SharedValue, Counted}
 use Rattle.strm_run.specs.declared.script.ScriptCall.{ScriptCall}
 use Rattle.strm_run.specs.Scripts.{calls_on, script_of}
-use Rattle.strm_run.specs.Run.{RunValue, AreStreams, ArePlayed, IsPlayer, IsSeated}
+use Rattle.strm_run.specs.Run.{RunValue}
+use Rattle.strm_run.specs.Inside.Run.{ArePlayed, AreStreams, IsPlayer, IsSeated}
 
 -- a call that was made is counted
 pub done_counts : {P : Type 0} (call : Call P) (seat after : SeatValue) (called : Called P) → is_done called ≡ true → Counted call seat called after → after ≡ record seat { calls = seat.calls + 1 }

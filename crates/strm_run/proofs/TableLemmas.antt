@@ -2,7 +2,7 @@
 use Rattle.std.proofs.Common.{◌≡◌, ℕ, ◌+◌, ◌<◌, ◌≤◌, List, [], ◌∷◌, ◌++◌, length, get_or, set, Vec, Global, sym, ◌∙◌, ap, subst, arith, below_more}
 use Rattle.std.proofs.Math.Seq.{get_or-append_seam}
 use Rattle.std.proofs.lemmas.List.{length-set, length_push, length-append, get_or_default, get_or-set_same, get_or-set_other, get_or_append_left}
-use Rattle.strm_run.specs.Table.{IsAdded, IsTransposed}
+use Rattle.strm_run.specs.Inside.Table.{IsAdded, IsTransposed}
 
 -- the first rows have one element more
 pub record IsAddedTo {T : Type 0} (rows : List (Vec T Global)) (column : List T) (at : ℕ) (now : List (Vec T Global)) : Type 0 where

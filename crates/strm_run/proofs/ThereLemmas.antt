@@ -12,8 +12,8 @@ use Rattle.strm_run.specs.declared.script.Script.{Script}
 use Rattle.strm_run.specs.declared.script.Feed.{Feed}
 use Rattle.strm_run.specs.Scripts.{end_is_there, feed_of, line_is_there, AreThere}
 use Rattle.strm_run.specs.Run.{RunValue}
-use Rattle.strm_run.specs.Opening.{AreFeeds}
-use Rattle.strm_run.specs.Ending.{AreLinesFed}
+use Rattle.strm_run.specs.Inside.Opening.{AreFeeds}
+use Rattle.strm_run.specs.Inside.Ending.{AreLinesFed}
 
 -- a stream that has an end is there
 end_within : (setups : List Setup) (number : ℕ) (at_end : End) → end_is_there (slice_get setups number) at_end ≡ true → number < length setups

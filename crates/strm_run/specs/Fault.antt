@@ -1,5 +1,5 @@
 -- Why a run gave no transcript.
-use Rattle.std.specs.Prelude.{ℕ, Bool, true, false, List, codes}
+use Rattle.std.specs.Prelude.{ℕ, List, codes}
 use Rattle.strm_run.specs.declared.fault.RunFault.{RunFault}
 use Rattle.strm_run.specs.declared.fault.RunFault.TheVariants.{Workers, NoSuch, NoMem, Unlike, Unfinished}
 
@@ -17,11 +17,3 @@ text_of NoSuch = codes "no such stream or end"
 text_of NoMem = codes "no memory"
 text_of Unlike = codes "unlike"
 text_of Unfinished = codes "unfinished"
-
--- it is found after all threads have ended, or where memory is wanting
-abbrev pub is_late : RunFault → Bool
-is_late Workers = false
-is_late NoSuch = false
-is_late NoMem = true
-is_late Unlike = true
-is_late Unfinished = true

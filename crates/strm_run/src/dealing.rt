@@ -1,6 +1,6 @@
 //! The callers of a run, and who plays what.
 ghost use Rattle.std.specs.Prelude.{◌≡◌, ◌<◌, ◌^◌, [], length, All, IfOk};
-ghost use Rattle.strm_run.specs.Opening.{callers_of, AreDealt, AreSeated};
+ghost use Rattle.strm_run.specs.Inside.Opening.{callers_of, AreDealt, AreSeated};
 
 use crate::about::Plays;
 use crate::player::Player;
@@ -15,7 +15,8 @@ use strm_shared::Seat;
 
 /// A list of answers for each stream, with none in it. Refused for want of memory alone.
 fn no_answers(alloc: Global, streams: usize) -> Result<Vec<VecDeque<Answer>>, NoMem>
-    ensures { IfOk result (λ all. length all.items ≡ streams) }
+    ensures many { IfOk result (λ all. length all.items ≡ streams) }
+    ensures none { IfOk result (λ all. All (λ answers. answers.items ≡ []) all.items) }
 {
     let mut all = Vec::new(alloc);
     for _ in 0..streams {

@@ -1,10 +1,10 @@
 //! The streams of a run, as they end.
 ghost use Rattle.std.specs.Prelude.{◌≡◌, true, false, [], length, option_map, All, Err, IfErr, IfOk, IsOkAnd, MatchResult};
 ghost use Rattle.strm_head.specs.Step.{is_line};
-ghost use Rattle.strm_run.specs.Fault.{is_late};
+ghost use Rattle.strm_run.specs.Transcript.{AreLogs, IsLog};
+ghost use Rattle.strm_run.specs.Inside.Run.{ArePlayed, HasPlayed};
+ghost use Rattle.strm_run.specs.Inside.Ending.{fault_of, is_end_refused, overrun_of, AreLinesFed, AreSeatsPlayed, IsLate, IsLogOf, IsOffered, IsStream};
 ghost use Rattle.strm_run.specs.Scripts.{feed_of};
-ghost use Rattle.strm_run.specs.Run.{ArePlayed, HasPlayed};
-ghost use Rattle.strm_run.specs.Ending.{AreSeatsPlayed, AreLinesFed, AreLogs, IsLog, IsLogOf, IsOffered, IsStream, fault_of, overrun_of};
 
 use crate::about::{Of, Plays};
 use crate::fault::RunFault;
@@ -45,7 +45,7 @@ fn log_of_end<M: ModuleOf>(
     overrun: u64,
 ) -> Result<StreamLog<M::Kind>, RunFault>
     ensures ended { MatchResult ended (λ done. IsOkAnd result (λ log. IsLogOf done.history.items done.stream accepted overrun log)) (λ fault. result ≡ Err (fault_of fault)) }
-    ensures late { IfErr result (λ fault. is_late fault ≡ true) }
+    ensures refusal { IfErr result (λ fault. is_end_refused fault ≡ true) }
 {
     match ended {
         Ok(ended) => Ok(log_of(ended, accepted, overrun)),
@@ -64,7 +64,7 @@ fn end_one<M: ModuleOf, N: Plays<M::Kind>>(
     requires seats { All (HasPlayed N.run shared.number) seats.items }
     requires unfed { is_line shared.setup.driver ≡ false → feed_of N.run.feeds shared.number ≡ [] }
     ensures log { IfOk result (λ log. IsLog M.Kind.means N.run shared.number shared.setup log) }
-    ensures late { IfErr result (λ fault. is_late fault ≡ true) }
+    ensures refusal { IfErr result (λ fault. is_end_refused fault ≡ true) }
 {
     let (feed, overrun) = fed(offered);
     let accepted = match &feed {
@@ -74,7 +74,7 @@ fn end_one<M: ModuleOf, N: Plays<M::Kind>>(
     log_of_end(shared.end(seats, feed), accepted, overrun)
 }
 
-/// Ends the streams of a run, in order.
+/// Ends the streams of a run, in order. The first that does not end gives the fault.
 pub(crate) fn end_all<M: ModuleOf, N: Plays<M::Kind>>(
     alloc: Global,
     streams: Streams<M, N>,
@@ -85,7 +85,7 @@ pub(crate) fn end_all<M: ModuleOf, N: Plays<M::Kind>>(
     requires offered { length offered.items ≡ length N.run.setups }
     requires lines { AreLinesFed N.run }
     ensures logs { IfOk result (λ logs. AreLogs M.Kind.means N.run logs.items) }
-    ensures late { IfErr result (λ fault. is_late fault ≡ true) }
+    ensures refusal { IfErr result (λ fault. is_end_refused fault ≡ true) }
 {
     let Ok(mut logs) = Vec::with_capacity(alloc, offered.len()) else {
         return Err(RunFault::NoMem);
@@ -123,6 +123,7 @@ fn returned<K, N: Plays<K>>(
 }
 
 /// Ends a run: the transcript, where each stream ended, and the histories have what each caller was told.
+/// `Unlike` is answered only where each stream has ended.
 pub(crate) fn finish<M: ModuleOf, N: Plays<M::Kind>>(
     alloc: Global,
     streams: Streams<M, N>,
@@ -133,7 +134,7 @@ pub(crate) fn finish<M: ModuleOf, N: Plays<M::Kind>>(
     requires many { length N.run.setups ≡ many }
     requires lines { AreLinesFed N.run }
     ensures logs { IfOk result (λ transcript. AreLogs M.Kind.means N.run transcript.streams.items) }
-    ensures late { IfErr result (λ fault. is_late fault ≡ true) }
+    ensures late { IfErr result (λ fault. IsLate M.Kind.means N.run fault) }
 {
     let (seats, told) = returned(alloc, played)?;
     let seats = transposed(alloc, seats, many)?;

@@ -1,7 +1,9 @@
 //! A feeder that offers its feed.
-ghost use Rattle.std.specs.Prelude.{◌≡◌, ◌<◌, true, false, [], ◌∷◌, ◌++◌, length, All};
+ghost use Rattle.std.specs.Prelude.{◌≡◌, ◌<◌, true, false, [], ◌∷◌, ◌++◌, length, slice_get, All, Some};
 ghost use Rattle.strm_msg.specs.Kind.{is_from_line};
-ghost use Rattle.strm_run.specs.Run.{IsFeeding, HasOffered};
+ghost use Rattle.strm_shared.specs.Ending.{one_more};
+ghost use Rattle.strm_run.specs.Scripts.{feed_of};
+ghost use Rattle.strm_run.specs.Inside.Run.{HasOffered, IsFeeding};
 
 use crate::about::{Of, Plays};
 use std::marker::{Model, PhantomData};
@@ -21,7 +23,7 @@ pub(crate) struct Feeding<K, N: Plays<K>> {
 impl<K, N: Plays<K>> Model for Feeding<K, N> {
     ghost use Rattle.std.specs.Prelude.{ℕ, ◌≡◌, true, All};
     ghost use Rattle.strm_msg.specs.Kind.{is_from_line};
-    ghost use Rattle.strm_run.specs.Run.{IsFeeding};
+    ghost use Rattle.strm_run.specs.Inside.Run.{IsFeeding};
 
     ghost Value = { ℕ };
 
@@ -39,7 +41,7 @@ pub(crate) struct Offered<K, N: Plays<K>> {
 }
 
 impl<K, N: Plays<K>> Model for Offered<K, N> {
-    ghost use Rattle.strm_run.specs.Run.{OfferedValue, HasOffered};
+    ghost use Rattle.strm_run.specs.Inside.Run.{HasOffered, OfferedValue};
 
     ghost Value = { OfferedValue };
 
@@ -55,9 +57,10 @@ fn accepts<M: ModuleOf, N: Plays<M::Kind>, R: Wait>(
     shared: &Shared<M, Of<N>>,
     m: Message,
 ) -> bool
-    requires { is_from_line m.kind ≡ true }
-    ensures accepted { result ≡ true → feeder.new ≡ record feeder.old { accepted = feeder.old.accepted ++ m ∷ [] } }
-    ensures none { result ≡ false → feeder.new ≡ feeder.old }
+    requires line { is_from_line m.kind ≡ true }
+    requires next { slice_get (feed_of N.run.feeds feeder.old.number) feeder.old.offers ≡ Some m }
+    ensures accepted { result ≡ true → feeder.new ≡ record feeder.old { offers = one_more feeder.old.offers; accepted = feeder.old.accepted ++ m ∷ [] } }
+    ensures none { result ≡ false → feeder.new ≡ record feeder.old { offers = one_more feeder.old.offers } }
 {
     feeder.arrive(rt, shared, m).is_ok()
 }

@@ -1,7 +1,7 @@
 //! The feeders of a run, each with its feed.
 ghost use Rattle.std.specs.Prelude.{◌≡◌, ◌<◌, true, [], length, All, AllPairs, IfOk};
 ghost use Rattle.strm_msg.specs.Kind.{is_from_line};
-ghost use Rattle.strm_run.specs.Opening.{lines_of, AreFeeds, AreFeeders};
+ghost use Rattle.strm_run.specs.Inside.Opening.{lines_of, AreFeeders, AreFeeds};
 
 use crate::about::Plays;
 use crate::feeding::{Feeding, Offered};

@@ -1,7 +1,7 @@
 //! The streams of a run, as they are made.
 ghost use Rattle.std.specs.Prelude.{◌≡◌, ◌<◌, ◌^◌, ◌∷◌, ◌++◌, [], true, length, All, IfOk, IsErrOf, IsOk, OnOk};
 ghost use Rattle.strm_history.specs.Setup.{is_fit, is_ring};
-ghost use Rattle.strm_run.specs.Opening.{AreOpened};
+ghost use Rattle.strm_run.specs.Inside.Opening.{AreOpened};
 
 use crate::about::{Of, Plays};
 use std::alloc::Global;

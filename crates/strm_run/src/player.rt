@@ -3,7 +3,7 @@ ghost use Rattle.std.specs.Prelude.{◌≡◌, ◌+◌, ◌++◌, true, length, 
 ghost use Rattle.strm_head.specs.declared.event.Event.TheVariants.{Asked};
 ghost use Rattle.strm_run.specs.Scripts.{calls_on, script_of};
 ghost use Rattle.strm_history.specs.Log.{is_done};
-ghost use Rattle.strm_run.specs.Run.{told_of, ArePlayed, CallsDoFit, IsPlayer};
+ghost use Rattle.strm_run.specs.Inside.Run.{told_of, ArePlayed, CallsDoFit, IsPlayer};
 
 use crate::about::{Of, Plays};
 use crate::script::{Gate, ScriptCall};
@@ -29,7 +29,7 @@ pub(crate) struct Player<M: ModuleOf, N: Plays<M::Kind>> {
 
 impl<M: ModuleOf, N: Plays<M::Kind>> Model for Player<M, N> {
     ghost use Rattle.std.specs.Prelude.{ℕ, length};
-    ghost use Rattle.strm_run.specs.Run.{IsPlayer};
+    ghost use Rattle.strm_run.specs.Inside.Run.{IsPlayer};
 
     ghost Value = { ℕ };
 
@@ -49,7 +49,7 @@ pub(crate) struct Played<K, N: Plays<K>> {
 
 impl<K, N: Plays<K>> Model for Played<K, N> {
     ghost use Rattle.std.specs.Prelude.{ℕ, length};
-    ghost use Rattle.strm_run.specs.Run.{ArePlayed};
+    ghost use Rattle.strm_run.specs.Inside.Run.{ArePlayed};
 
     ghost Value = { ℕ };
 

@@ -2,11 +2,11 @@
 ghost use Rattle.std.specs.Prelude.{◌≡◌, ◌↔◌, ◌<◌, ◌^◌, ℕ, true, false, length, get_or, map, All, IfOk, IfErr, IsErrOf};
 ghost use Rattle.strm_history.specs.History.{own};
 ghost use Rattle.strm_history.specs.Entry.{asked_of};
-ghost use Rattle.strm_run.specs.Fault.{is_late};
 ghost use Rattle.strm_run.specs.Scripts.{calls_on, script_of, feed_of, is_crew, is_setup, AreFromLine, AreThere};
-ghost use Rattle.strm_run.specs.Run.{CallsDoFit, CallsFit};
-ghost use Rattle.strm_run.specs.Transcript.{IsFed, IsLegal};
-ghost use Rattle.strm_run.specs.Ending.{AreLogs};
+ghost use Rattle.strm_run.specs.Run.{CallsFit};
+ghost use Rattle.strm_run.specs.Transcript.{AreLogs, HaveEnded, IsFed, IsLegal};
+ghost use Rattle.strm_run.specs.Inside.Run.{CallsDoFit};
+ghost use Rattle.strm_run.specs.Inside.Ending.{IsLate};
 
 use crate::about::Plays;
 use crate::dealing::{deal, seated};
@@ -49,7 +49,7 @@ where
     requires crew { is_crew workers ≡ true }
     requires there { AreThere setups.items scripts.items feeds.items }
     ensures logs { IfOk result (λ transcript. AreLogs M.Kind.means N.run transcript.streams.items) }
-    ensures late { IfErr result (λ fault. is_late fault ≡ true) }
+    ensures late { IfErr result (λ fault. IsLate M.Kind.means N.run fault) }
 {
     let many = setups.len();
     let callers = scripts.len();
@@ -78,8 +78,8 @@ where
 /// Refused, in this order: with `Workers` exactly where there are not 1 to 64 workers; with `NoSuch`
 /// exactly where a call is on a stream or an end that is not there, or a feed is for no line or for one
 /// that has another; both before anything is made. Then with `NoMem` for want of memory or of a thread,
-/// with `Unfinished` where a stream did not end, and with `Unlike` where a caller was told another answer
-/// than the history has. Then all modules are dropped.
+/// with `Unfinished` where a stream did not end, the first of them, and where all ended with `Unlike`, if a
+/// caller was told another answer than the history has. Then all modules are dropped.
 pub fn run<M: ModuleOf, R: Threads + Wait + Sync, G: Gate>(
     rt: &R,
     alloc: Global,
@@ -97,6 +97,7 @@ where
     requires feeds { AreFromLine feeds.items }
     ensures workers { IsErrOf result RunFault.Workers ↔ (is_crew workers ≡ false) }
     ensures no_such { IsErrOf result RunFault.NoSuch ↔ ((is_crew workers ≡ true) × (AreThere setups.items scripts.items feeds.items → ⊥)) }
+    ensures unlike { IsErrOf result RunFault.Unlike → HaveEnded M.Kind.means (record { setups = setups.items; scripts = scripts.items; feeds = feeds.items }) }
     ensures many { IfOk result (λ transcript. length transcript.streams.items ≡ length setups.items) }
     ensures legal { IfOk result (λ transcript. (k : ℕ) (setup : _) (log : _) → k < length setups.items → IsLegal M.Kind.means (get_or setups.items k setup) (get_or transcript.streams.items k log)) }
     ensures calls { IfOk result (λ transcript. (k caller : ℕ) (log : _) → k < length setups.items → map asked_of (own caller (get_or transcript.streams.items k log).history.items) ≡ calls_on k (script_of scripts.items caller)) }

@@ -1,6 +1,6 @@
 //! The streams of a run.
 ghost use Rattle.std.specs.Prelude.{◌≡◌, ◌<◌, length};
-ghost use Rattle.strm_run.specs.Run.{AreStreams};
+ghost use Rattle.strm_run.specs.Inside.Run.{AreStreams};
 
 use crate::about::{Of, Plays};
 use std::marker::Model;
@@ -16,7 +16,7 @@ pub(crate) struct Streams<M: ModuleOf, N: Plays<M::Kind>> {
 impl<M: ModuleOf, N: Plays<M::Kind>> Model for Streams<M, N> {
     ghost use Rattle.std.specs.Prelude.{List};
     ghost use Rattle.strm_shared.specs.Ending.{SharedValue};
-    ghost use Rattle.strm_run.specs.Run.{AreStreams};
+    ghost use Rattle.strm_run.specs.Inside.Run.{AreStreams};
 
     ghost Value = { List SharedValue };
 

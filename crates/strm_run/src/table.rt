@@ -1,6 +1,6 @@
 //! Columns turned into rows.
 ghost use Rattle.std.specs.Prelude.{◌≡◌, [], length, All, IfOk, OnOk};
-ghost use Rattle.strm_run.specs.Table.{IsAdded, IsTransposed};
+ghost use Rattle.strm_run.specs.Inside.Table.{IsAdded, IsTransposed};
 
 use std::alloc::Global;
 use strm_msg::NoMem;

@@ -1,7 +1,7 @@
 //! The threads of a run.
 ghost use Rattle.std.specs.Prelude.{◌≡◌};
 ghost use Rattle.std.specs.Thread.{IsSend, IsSync};
-ghost use Rattle.strm_run.specs.Run.{CallsDoFit};
+ghost use Rattle.strm_run.specs.Inside.Run.{CallsDoFit};
 
 use crate::about::Plays;
 use crate::feeding::{Feeding, Offered};

@@ -3,7 +3,8 @@ ghost use Rattle.std.specs.Prelude.{◌≡◌, length, count_by};
 ghost use Rattle.strm_msg.specs.declared.words.End.TheVariants.{A, B};
 ghost use Rattle.strm_ends.specs.Image.{end_of};
 ghost use Rattle.strm_history.specs.History.{arrivals};
-ghost use Rattle.strm_run.specs.Transcript.{names_at, has_come_in};
+ghost use Rattle.strm_run.specs.Transcript.{names_at};
+ghost use Rattle.strm_run.specs.Inside.Ending.{has_come_in};
 
 use arrayvec::ArrayVec;
 use strm_head::{Event, MOST_MODULES, Name, Stream};

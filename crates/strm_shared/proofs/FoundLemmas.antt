@@ -1,12 +1,31 @@
 -- What callers and the line of a shared stream find of its history.
-use Rattle.std.proofs.Common.{◌≡◌, ℕ, ◌+◌, ◌<◌, ◌++◌, List, ◌∷◌, Option, length, drop, get_or, sym, ◌∙◌, ap}
+use Rattle.std.proofs.Common.{◌≡◌, ℕ, zero, suc, ◌+◌, ◌<◌, ◌++◌, Bool, List, [], ◌∷◌, Option, Some, None, length, map, take, drop, get_or, sym, ◌∙◌, ap, subst}
+use Rattle.std.specs.Option.{option_or}
 use Rattle.std.proofs.lemmas.List.{drop_more}
+use Rattle.std.proofs.lemmas.Simd.{map-map}
+use Rattle.arrayvec.specs.ArrayVec.{ArrayVec}
 use Rattle.strm_msg.specs.Message.{Msg}
+use Rattle.strm_msg.specs.declared.words.End.{End}
+use Rattle.strm_qpair.specs.Pair.{QueuePair}
+use Rattle.strm_ends.specs.declared.place.Place.{Place}
+use Rattle.strm_ends.specs.Image.{Image, end_of}
 use Rattle.strm_module.specs.Kinds.{Meaning}
 use Rattle.strm_module.specs.declared.shape.Shape.{Shape}
 use Rattle.strm_call.specs.declared.answer.Answer.{Answer}
 use Rattle.strm_call.specs.declared.answer.Answer.TheVariants as Answers
-use Rattle.strm_head.specs.Begin.{back_of}
+use Rattle.strm_call.specs.declared.answer.Reply.TheVariants as ReplyOf
+use Rattle.strm_call.specs.declared.request.Request.{Request}
+use Rattle.strm_call.specs.declared.request.Request.TheVariants as Requests
+use Rattle.strm_call.specs.declared.refusal.Refusal.{Refusal}
+use Rattle.strm_call.specs.declared.refusal.Refusal.TheVariants.{Invalid, HungUp}
+use Rattle.strm_call.specs.Refusal.{refused_if}
+use Rattle.strm_call.specs.Begun.{reply_after}
+use Rattle.strm_ioctl.specs.Ask.{is_empty}
+use Rattle.strm_ioctl.specs.Modules.{pop_refusal, first_name}
+use Rattle.strm_head.specs.declared.event.Event.{Event}
+use Rattle.strm_head.specs.declared.event.Event.TheVariants.{Asked}
+use Rattle.strm_head.specs.Begin.{back_of, begun_of, common_refusal, handed_out, refusal_of}
+use Rattle.strm_head.specs.Step.{Step}
 use Rattle.strm_history.specs.declared.entry.Entry.{Entry}
 use Rattle.strm_history.specs.declared.call.Call.{Call}
 use Rattle.strm_history.specs.declared.call.Called.{Called}
@@ -15,19 +34,72 @@ use Rattle.strm_history.specs.declared.call.Landed.{Landed}
 use Rattle.strm_history.specs.declared.call.Landed.TheVariants.{Entered, Full, NoMem}
 use Rattle.strm_history.specs.Entry.{came_in}
 use Rattle.strm_history.specs.History.{arrivals}
-use Rattle.strm_history.specs.Log.{LogValue, CallsBy, Lands}
-use Rattle.strm_shared.specs.Ending.{HandsBackRefused, HandsBack, ComesBack}
+use Rattle.strm_history.specs.Log.{LogValue, CallsBy, IsCalled, Lands}
+use Rattle.strm_shared.specs.Ending.{Replies, HandsOut, HandsBackMade, HandsBack, ComesBack}
+
+-- where the second refusal holds, one does
+second_none : (first second : Option Refusal) → option_or first second ≡ None → second ≡ None
+second_none None second is = is
+second_none (Some refusal) second is = absurd cc
+
+-- a pop that is not refused has a module to take out, the topmost
+pop_out : {K : Type 0} (modules : List (QueuePair K)) (hung : Bool) (answer : Answer) (back : List (Option (Shape K))) → option_or (refused_if (is_empty modules) Invalid) (refused_if hung HungUp) ≡ None → Replies answer (ReplyOf.Pop (first_name modules)) → back ≡ handed_out (take 1 (map (λ s. s.shape) modules)) → HandsOut Requests.Pop answer back
+pop_out [] hung answer back none replies comes = absurd cc
+pop_out (topmost ∷ others) hung answer back none replies comes = (topmost.shape, replies, comes)
+
+-- a close takes all out
+close_out : {K : Type 0} (modules : List (QueuePair K)) (answer : Answer) (back : List (Option (Shape K))) → Replies answer (ReplyOf.Close (record { items = map (λ s. s.shape.name) modules })) → back ≡ handed_out (map (λ s. s.shape) modules) → HandsOut Requests.Close answer back
+close_out modules answer back replies comes = (
+  map (λ s. s.shape) modules,
+  subst (λ (names : List (ArrayVec ℕ)). Replies answer (ReplyOf.Close (record { items = names }))) (sym (map-map (λ (s : Shape _). s.name) (λ (s : QueuePair _). s.shape) modules)) replies,
+  comes,
+)
 
 -- for kinds of any meaning
 module _ {K : Type 0} (means : Meaning K) where
-  refused_back : (old : LogValue K) (call : Call (Shape K)) (answer : Answer) (back : List (Option (Shape K))) → back ≡ back_of means old.image call.end call.request answer → HandsBackRefused call answer back
-  refused_back old call (Answers.Refused refusal) back is = is
-  refused_back old call (Answers.Done reply) back is = tt
-  refused_back old call Answers.Broke back is = tt
+  -- what a call that is not refused takes out, by the call
+  hands_out : (image : Image K) (e : End) (request : Request (Shape K)) (answer : Answer) (back : List (Option (Shape K))) (kept : Option Msg) → refusal_of image e request ≡ None → Replies answer (reply_after (begun_of means image e request) kept) → back ≡ handed_out (begun_of means image e request).out → HandsOut request answer back
+  hands_out image e Requests.Pop answer back kept none replies comes = pop_out (end_of image e).modules (end_of image e).state.hung answer back (second_none (common_refusal image e) (pop_refusal image e) none) replies comes
+  hands_out image e Requests.Close answer back kept none replies comes = close_out (end_of image e).modules answer back replies comes
+  hands_out image e (Requests.Putmsg ctl dat flag) answer back kept none replies comes = comes
+  hands_out image e (Requests.Putpmsg ctl dat band flag) answer back kept none replies comes = comes
+  hands_out image e (Requests.Getmsg maxctl maxdat flag) answer back kept none replies comes = comes
+  hands_out image e (Requests.Getpmsg maxctl maxdat band flag) answer back kept none replies comes = comes
+  hands_out image e (Requests.Read zero) answer back kept none replies comes = comes
+  hands_out image e (Requests.Read (suc n)) answer back kept none replies comes = comes
+  hands_out image e (Requests.Write dat) answer back kept none replies comes = comes
+  hands_out image e (Requests.Push shape) answer back kept none replies comes = comes
+  hands_out image e Requests.Nread answer back kept none replies comes = comes
+  hands_out image e (Requests.Peek maxctl maxdat flag) answer back kept none replies comes = comes
+  hands_out image e (Requests.SetRead mode prot) answer back kept none replies comes = comes
+  hands_out image e Requests.GetRead answer back kept none replies comes = comes
+  hands_out image e (Requests.Canput band) answer back kept none replies comes = comes
+  hands_out image e (Requests.Ckband band) answer back kept none replies comes = comes
+  hands_out image e Requests.Getband answer back kept none replies comes = comes
+  hands_out image e Requests.Look answer back kept none replies comes = comes
+  hands_out image e Requests.List answer back kept none replies comes = comes
+  hands_out image e (Requests.Find name) answer back kept none replies comes = comes
+  hands_out image e (Requests.Str cmd dat) answer back kept none replies comes = comes
+  hands_out image e (Requests.Flush r w) answer back kept none replies comes = comes
+  hands_out image e (Requests.FlushBand band r w) answer back kept none replies comes = comes
+
+  -- of a step that a call has made
+  made_back : (image : Image K) (call : Call (Shape K)) (answer : Answer) (moves : List Place) (out : List ℕ) (after : Image K) (back : List (Option (Shape K))) → Step means image call.end (Asked call.request) answer moves out after → back ≡ back_of means image call.end call.request answer → HandsBackMade call answer back
+  made_back image call (Answers.Refused refusal) moves out after back step comes = comes
+  made_back image call (Answers.Done reply) moves out after back step comes =
+      hands_out image call.end call.request (Answers.Done reply) back (end_of step.2.settled call.end).state.kept step.0 step.2.replies comes
+  made_back image call Answers.Broke moves out after back step comes = hands_out image call.end call.request Answers.Broke back None step.0 tt comes
+
+  called_back : (old new : LogValue K) (caller : ℕ) (call : Call (Shape K)) (answer : Answer) (back : List (Option (Shape K))) → IsCalled means old caller call answer back new → HandsBackMade call answer back
+  called_back old new caller call answer back is =
+      let entry = is.enters.entry in
+      let at_end : Step means old.image call.end entry.event entry.answer entry.moves entry.out.items new.image = subst (λ (e : End). Step means old.image e entry.event entry.answer entry.moves entry.out.items new.image) is.enters.at is.enters.step.step in
+      let has : Step means old.image call.end (Asked call.request) entry.answer entry.moves entry.out.items new.image = subst (λ (event : Event (Shape K)). Step means old.image call.end event entry.answer entry.moves entry.out.items new.image) is.enters.has at_end in
+      made_back old.image call answer entry.moves entry.out.items new.image back (subst (λ (a : Answer). Step means old.image call.end (Asked call.request) a entry.moves entry.out.items new.image) is.enters.answers has) is.comes_back
 
   -- what a caller, or a line, can tell of it
   pub hands_back : (old : LogValue K) (caller : ℕ) (call : Call (Shape K)) (result : Called (Shape K)) (new : LogValue K) → CallsBy means old caller call result new → HandsBack call result
-  hands_back old caller call (Done answer back) new is = refused_back old call answer back.items is.comes_back
+  hands_back old caller call (Done answer back) new is = called_back old new caller call answer back.items is
   hands_back old caller call (NoRoom same) new is = is.0
 
   pub comes_back : (old : LogValue K) (m : Msg) (result : Landed) (new : LogValue K) → Lands means old m result new → ComesBack m result

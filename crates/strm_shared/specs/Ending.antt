@@ -1,9 +1,14 @@
 -- What a shared stream, its seats and its feeder are to a contract, and what must agree at the end.
-use Rattle.std.specs.Prelude.{◌≡◌, ℕ, ◌+◌, ◌<◌, ◌==◌, nat_lt, zero, suc, not, Bool, true, Option, Some, None, List, [], ◌∷◌, ◌++◌, length, All, Any, if◌then◌else◌, ⊤}
+use Rattle.std.specs.Prelude.{◌≡◌, ℕ, ◌+◌, ◌-◌, ◌^◌, ◌<◌, ◌==◌, min, nat_lt, zero, suc, not, Bool, true, Option, Some, None, List, [], ◌∷◌, ◌++◌, length, map, All, Any, if◌then◌else◌, ⊤}
 use Rattle.strm_msg.specs.Message.{Msg}
+use Rattle.strm_module.specs.declared.shape.Shape.{Shape}
+use Rattle.strm_call.specs.declared.request.Request.{Request}
+use Rattle.strm_call.specs.declared.request.Request.TheVariants as Requests
+use Rattle.strm_call.specs.declared.answer.Reply.{Reply}
+use Rattle.strm_call.specs.declared.answer.Reply.TheVariants as ReplyOf
 use Rattle.strm_call.specs.declared.answer.Answer.{Answer}
 use Rattle.strm_call.specs.declared.answer.Answer.TheVariants as Answers
-use Rattle.strm_head.specs.Begin.{pushed_of}
+use Rattle.strm_head.specs.Begin.{pushed_of, handed_out}
 use Rattle.strm_head.specs.Step.{is_line}
 use Rattle.strm_history.specs.declared.setup.Setup.{Setup}
 use Rattle.strm_history.specs.declared.entry.Who.{Who}
@@ -23,9 +28,10 @@ pub record SharedValue : Type 0 where
   pub setup : Setup
   pub seats : ℕ
 
--- a feeder, and what it leaves: the number of the stream, and the messages that it had accepted
+-- a feeder, and what it leaves: the number of the stream, how many offers it has made, and the messages that it had accepted
 pub record FeedValue : Type 0 where
   pub number : ℕ
+  pub offers : ℕ
   pub accepted : List Msg
 
 -- a seat for each caller, that has made no call
@@ -33,9 +39,13 @@ abbrev pub fresh_seats : ℕ → ℕ → List SeatValue
 fresh_seats number zero = []
 fresh_seats number (suc callers) = fresh_seats number callers ++ record { number = number; caller = callers; calls = 0 } ∷ []
 
--- the feeder of a line, that had nothing accepted; the other drivers have none
+-- the feeder of a line, that has offered nothing; the other drivers have none
 abbrev pub fresh_feed : ℕ → Setup → Option FeedValue
-fresh_feed number setup = if is_line setup.driver then Some (record { number = number; accepted = [] }) else None
+fresh_feed number setup = if is_line setup.driver then Some (record { number = number; offers = 0; accepted = [] }) else None
+
+-- one offer more; a count that can go no further stays
+abbrev pub one_more : ℕ → ℕ
+one_more offers = min (offers + 1) (2 ^ 64 - 1)
 
 -- as many seats as callers, all of one stream, and one for each caller
 pub record AreSeats (number callers : ℕ) (seats : List SeatValue) : Type 0 where
@@ -48,15 +58,29 @@ abbrev pub Counted : {P : Type 0} → Call P → SeatValue → Called P → Seat
 Counted call seat (Done answer back) after = after ≡ record seat { calls = seat.calls + 1 }
 Counted call seat (NoRoom same) after = after ≡ seat
 
--- the module of a refused push comes back with the answer
-abbrev pub HandsBackRefused : {P : Type 0} → Call P → Answer → List (Option P) → Type 0
-HandsBackRefused call (Answers.Refused refusal) back = back ≡ pushed_of call.request
-HandsBackRefused call (Answers.Done reply) back = ⊤
-HandsBackRefused call Answers.Broke back = ⊤
+-- the answer has this reply, if it has one
+abbrev pub Replies : Answer → Reply → Type 0
+Replies (Answers.Done own) reply = own ≡ reply
+Replies (Answers.Refused refusal) reply = ⊤
+Replies Answers.Broke reply = ⊤
 
--- so does a call that was not made
-abbrev pub HandsBack : {P : Type 0} → Call P → Called P → Type 0
-HandsBack call (Done answer back) = HandsBackRefused call answer back.items
+-- what a call takes out comes back: of a pop one module, which the reply names; of a close some, topmost first, which the reply
+-- names in this order; of another call nothing
+abbrev pub HandsOut : {K : Type 0} → Request (Shape K) → Answer → List (Option (Shape K)) → Type 0
+HandsOut {K} Requests.Pop answer back = (one : Shape K) × Replies answer (ReplyOf.Pop one.name) × (back ≡ Some one ∷ [])
+HandsOut {K} Requests.Close answer back =
+    (all : List (Shape K)) × Replies answer (ReplyOf.Close (record { items = map (λ s. s.name) all })) × (back ≡ handed_out all)
+HandsOut request answer back = back ≡ []
+
+-- of a refused call the module that it was to push comes back, of another what it has taken out
+abbrev pub HandsBackMade : {K : Type 0} → Call (Shape K) → Answer → List (Option (Shape K)) → Type 0
+HandsBackMade call (Answers.Refused refusal) back = back ≡ pushed_of call.request
+HandsBackMade call (Answers.Done reply) back = HandsOut call.request (Answers.Done reply) back
+HandsBackMade call Answers.Broke back = HandsOut call.request Answers.Broke back
+
+-- a call that was not made comes back
+abbrev pub HandsBack : {K : Type 0} → Call (Shape K) → Called (Shape K) → Type 0
+HandsBack call (Done answer back) = HandsBackMade call answer back.items
 HandsBack call (NoRoom same) = same ≡ call
 
 -- a message that did not come in comes back

@@ -19,4 +19,3 @@ pub use feeder::{FeedEnd, Feeder};
 pub use runs::{AnyCalls, Runs};
 pub use seat::Seat;
 pub use shared::{Ended, Shared};
-pub use strm_history::{Call, Called, Entry, MOST_RING, Setup, Who};

@@ -1,12 +1,13 @@
 //! What a run is about.
 use std::marker::Brand;
 
-/// What a run is about: which calls its callers make on which streams. Proofs alone speak of it; a
-/// program names it by a type, which has no values and costs nothing.
+/// What a run is about: which calls its callers make on which streams, and what its lines are fed. Proofs
+/// alone speak of it; a program names it by a type, which has no values and costs nothing.
 ///
 /// `K` is what the modules are.
 pub trait Runs<K> {
     ghost use Rattle.std.specs.Prelude.{ℕ, List, Option};
+    ghost use Rattle.strm_msg.specs.Message.{Msg};
     ghost use Rattle.strm_msg.specs.declared.words.End.{End};
     ghost use Rattle.strm_module.specs.declared.shape.Shape.{Shape};
     ghost use Rattle.strm_head.specs.declared.event.Event.{Event};
@@ -14,20 +15,27 @@ pub trait Runs<K> {
     /// Of a stream's number and a caller: the calls that the caller makes there, in order, or none where
     /// it may make any.
     ghost calls: { ℕ → ℕ → Option (List (End × Event (Shape K))) };
+
+    /// Of a stream's number: the messages that its feeder offers, in order, or none where it may offer any.
+    ghost feed: { ℕ → Option (List Msg) };
 }
 
-/// A run of any calls.
+/// A run of any calls and any feeds.
 pub struct AnyCalls;
 
 impl<K> Runs<K> for AnyCalls {
     ghost use Rattle.std.specs.Prelude.{None};
 
     ghost calls = { λ number caller. None };
+
+    ghost feed = { λ number. None };
 }
 
-/// A run of calls that a proof picks.
+/// A run that a proof picks.
 impl<K> Runs<K> for Brand {
     ghost use Rattle.std.specs.Prelude.{None};
 
     ghost calls = { λ number caller. None };
+
+    ghost feed = { λ number. None };
 }

@@ -1,6 +1,6 @@
 use Rattle.std.proofs.Common.{◌≡◌, ◌++◌, length}
 use Rattle.std.specs.Vec.Iter.{into_iter_items, into_iter_len}
-use Rattle.strm_run.specs.Opening.{AreDealt}
+use Rattle.strm_run.specs.Inside.Opening.{AreDealt}
 use Rattle.strm_run.proofs.dealing.deal.Given as goal
 
 -- the callers so far are dealt out

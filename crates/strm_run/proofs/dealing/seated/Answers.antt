@@ -20,7 +20,7 @@ new-requires-in-loop-script-after_bounds g c κs within =
     (subst (λ (script : Script _). All (λ one. one.stream < length g.N.Plays.run.setups) script.calls.items) (reached_is g.N.Plays.run.scripts c.loop-script.yielded _ c.in-Some.script c.in-Some.script c.loop-script.caller is was.place) (on_streams c.loop-script.caller c.in-Some.script there))
     was.behind
     (rw c.replace-mine.ensures.value c.index_mut.ensures.value)
-    (c.in_ok-answers.ensures ∙ sym c.requires.streams)
+    (c.in_ok-answers.ensures.many ∙ sym c.requires.streams)
 
 pub loop-script-preserved : goal.loop-script-preserved
 loop-script-preserved g c =

@@ -1,7 +1,7 @@
 use Rattle.std.proofs.Common.{◌≡◌, ℕ, ◌++◌, ◌≤◌, length, get_or, Vec, Global}
 use Rattle.std.specs.Vec.Iter.{into_iter_items, into_iter_len}
 use Rattle.strm_shared.specs.Seat.{SeatValue}
-use Rattle.strm_run.specs.Opening.{callers_of}
+use Rattle.strm_run.specs.Inside.Opening.{callers_of}
 use Rattle.strm_run.proofs.dealing.seated.Given as goal
 
 -- the callers so far sit, and the seats of the others are there

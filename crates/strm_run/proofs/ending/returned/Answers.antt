@@ -1,5 +1,5 @@
 use Rattle.std.proofs.Common.{◌≡◌, length, subst}
-use Rattle.strm_run.specs.Run.{ArePlayed}
+use Rattle.strm_run.specs.Inside.Run.{ArePlayed}
 use Rattle.strm_run.proofs.EachLemmas.{each_pushed}
 use Rattle.strm_run.proofs.ending.returned.Goals as goal
 

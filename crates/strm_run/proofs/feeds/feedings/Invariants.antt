@@ -1,7 +1,7 @@
 use Rattle.std.proofs.Common.{◌≡◌, ℕ, ◌++◌, ◌≤◌, length, get_or, Vec, Global}
 use Rattle.std.specs.Vec.Iter.{into_iter_items, into_iter_len}
 use Rattle.strm_msg.specs.Message.{Msg}
-use Rattle.strm_run.specs.Opening.{lines_below}
+use Rattle.strm_run.specs.Inside.Opening.{lines_below}
 use Rattle.strm_run.proofs.feeds.feedings.Given as goal
 
 -- the lines so far have a feeder, and what the others are fed is there

@@ -1,6 +1,6 @@
 use Rattle.std.proofs.Common.{◌≡◌, ◌++◌, ◌<◌, length, All}
 use Rattle.std.specs.Vec.Iter.{into_iter_items, into_iter_len}
-use Rattle.strm_run.specs.Opening.{AreFeeds}
+use Rattle.strm_run.specs.Inside.Opening.{AreFeeds}
 use Rattle.strm_run.proofs.feeds.feeds_of.Given as goal
 
 -- each stream has what the feeds so far have for it

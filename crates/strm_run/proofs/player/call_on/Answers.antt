@@ -1,5 +1,5 @@
 use Rattle.std.proofs.Common.{rules}
-use Rattle.strm_run.specs.Run.{Fits}
+use Rattle.strm_run.specs.Inside.Run.{Fits}
 use Rattle.strm_run.proofs.PlayLemmas.{done_counts, on_ok}
 use Rattle.strm_run.proofs.player.call_on.Goals as goal
 

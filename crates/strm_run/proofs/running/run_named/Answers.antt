@@ -1,5 +1,5 @@
 use Rattle.std.proofs.Common.{◌≡◌, ◌∙◌, rules, ap, length, sym, subst}
-use Rattle.strm_run.specs.Table.{IsTransposed}
+use Rattle.strm_run.specs.Inside.Table.{IsTransposed}
 use Rattle.strm_run.proofs.OpeningLemmas.{columns_high, seated_after}
 use Rattle.strm_run.proofs.ThereLemmas.{calls_there, feeds_there, kinds_fed, run_lines_fed}
 use Rattle.strm_run.proofs.running.run_named.Goals as goal

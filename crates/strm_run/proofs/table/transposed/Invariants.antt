@@ -1,6 +1,6 @@
 use Rattle.std.proofs.Common.{◌≡◌, ◌++◌, length, All}
 use Rattle.std.specs.Vec.Iter.{into_iter_items, into_iter_len}
-use Rattle.strm_run.specs.Table.{IsTransposed}
+use Rattle.strm_run.specs.Inside.Table.{IsTransposed}
 use Rattle.strm_run.proofs.table.transposed.Given as goal
 
 -- the rows are those of the columns so far

@@ -5,11 +5,12 @@ use Rattle.strm_run.specs.Scripts.{feed_of}
 use Rattle.strm_run.specs.Transcript.{IsPartOf}
 use Rattle.strm_run.proofs.feeding.Feeding.offer.Given as goal
 
--- what was accepted is a part of the messages so far, and the others came back
+-- the messages so far were offered; what was accepted is a part of them, and the others came back
 abbrev pub invariant-loop-m : goal.invariant-loop-m
 invariant-loop-m g l = record {
   left : into_iter_len l.m-iterator ≡ length (into_iter_items l.m-iterator);
   rest : l.yielded ++ into_iter_items l.m-iterator ≡ feed_of g.N.Plays.run.feeds l.feeder.number;
+  offers : l.feeder.offers ≡ length l.yielded;
   there : l.feeder.number < length g.N.Plays.run.setups;
   few : length (feed_of g.N.Plays.run.feeds l.feeder.number) < 2 ^ 63;
   kinds : All (λ m. is_from_line m.kind ≡ true) (into_iter_items l.m-iterator);

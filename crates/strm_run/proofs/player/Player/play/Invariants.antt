@@ -1,6 +1,6 @@
 use Rattle.std.proofs.Common.{◌≡◌, length}
 use Rattle.std.specs.Vec.Iter.{into_iter_items, into_iter_len}
-use Rattle.strm_run.specs.Run.{IsPlayer}
+use Rattle.strm_run.specs.Inside.Run.{IsPlayer}
 use Rattle.strm_run.proofs.player.Player.play.Given as goal
 
 -- the calls that are left are those that the seats have not made

@@ -1,24 +1,26 @@
--- What a run leaves, and what its seats are then.
-use Rattle.std.specs.Prelude.{◌≡◌, ℕ, ◌<◌, false, Option, Some, None, List, [], All, get_or, length, map, Vec}
+-- The seats and feeders of a run when its threads have ended, and how its streams end.
+use Rattle.std.specs.Prelude.{◌≡◌, ℕ, ◌<◌, Bool, true, false, Option, Some, None, List, [], All, get_or, length, Vec, ⊤}
 use Rattle.std.specs.Global.{Global}
 use Rattle.strm_msg.specs.declared.words.End.TheVariants.{A, B}
 use Rattle.strm_module.specs.Kinds.{Meaning}
 use Rattle.strm_ends.specs.Image.{Image, end_of}
 use Rattle.strm_head.specs.Step.{is_line}
+use Rattle.strm_head.specs.declared.event.Event.{Event}
+use Rattle.strm_head.specs.declared.event.Event.TheVariants.{Asked, Arrived}
 use Rattle.strm_history.specs.declared.setup.Setup.{Setup}
 use Rattle.strm_history.specs.declared.entry.Entry.{Entry}
 use Rattle.strm_shared.specs.declared.fault.EndFault.{EndFault}
 use Rattle.strm_shared.specs.declared.fault.EndFault.TheVariants as EndFaults
-use Rattle.strm_history.specs.History.{own, arrivals}
+use Rattle.strm_history.specs.History.{arrivals}
 use Rattle.strm_shared.specs.Seat.{SeatValue}
-use Rattle.strm_history.specs.Entry.{asked_of}
 use Rattle.strm_shared.specs.Ending.{FeedValue, SharedValue}
 use Rattle.strm_run.specs.declared.fault.RunFault.{RunFault}
 use Rattle.strm_run.specs.declared.fault.RunFault.TheVariants as RunFaults
 use Rattle.strm_run.specs.declared.transcript.StreamLog.{StreamLog}
-use Rattle.strm_run.specs.Scripts.{calls_on, script_of, feed_of}
-use Rattle.strm_run.specs.Run.{RunValue, OfferedValue, HasOffered, HasPlayed}
-use Rattle.strm_run.specs.Transcript.{IsLegal, IsFed, names_at}
+use Rattle.strm_run.specs.Scripts.{feed_of}
+use Rattle.strm_run.specs.Run.{RunValue}
+use Rattle.strm_run.specs.Inside.Run.{OfferedValue, HasOffered, HasPlayed}
+use Rattle.strm_run.specs.Transcript.{names_at, HaveEnded}
 
 -- the seats of callers that have played their scripts, in order of the streams
 pub record AreSeatsPlayed {K : Type 0} (run : RunValue K) (seats : List (Vec SeatValue Global)) : Type 0 where
@@ -45,11 +47,24 @@ abbrev pub IsOffered : {K : Type 0} → RunValue K → Option FeedValue → ℕ 
 IsOffered run None overrun = overrun ≡ 0
 IsOffered run (Some feed) overrun = HasOffered run feed overrun
 
+-- the end of a stream was refused: memory was wanting, or the stream is unfinished
+abbrev pub is_end_refused : RunFault → Bool
+is_end_refused RunFaults.Workers = false
+is_end_refused RunFaults.NoSuch = false
+is_end_refused RunFaults.NoMem = true
+is_end_refused RunFaults.Unlike = false
+is_end_refused RunFaults.Unfinished = true
+
 -- what the end of a stream that was refused is to the run
 abbrev pub fault_of : EndFault → RunFault
 fault_of EndFaults.Seats = RunFaults.Unfinished
 fault_of EndFaults.Unfinished = RunFaults.Unfinished
 fault_of EndFaults.NoMem = RunFaults.NoMem
+
+-- a message came in
+abbrev pub has_come_in : {P : Type 0} → Event P → Bool
+has_come_in (Asked request) = false
+has_come_in (Arrived m) = true
 
 -- what is left of a stream that ended with this history
 pub record IsLogOf {K : Type 0} (history : List (Entry K)) (stream : Image K) (accepted overrun : ℕ) (log : StreamLog K) : Type 0 where
@@ -62,14 +77,11 @@ pub record IsLogOf {K : Type 0} (history : List (Entry K)) (stream : Image K) (a
 
 -- for kinds of any meaning
 module _ {K : Type 0} (means : Meaning K) where
-  -- what a run leaves of a stream: a legal history, in which each caller's calls are those of its script for the stream, in order
-  -- and no others, and whose arrivals are of its feed
-  pub record IsLog (run : RunValue K) (number : ℕ) (setup : Setup) (log : StreamLog K) : Type 0 where
-    pub legal : IsLegal means setup log
-    pub calls : (caller : ℕ) → map asked_of (own caller log.history.items) ≡ calls_on number (script_of run.scripts caller)
-    pub fed : IsFed (feed_of run.feeds number) log
-
-  -- what it leaves of all, in order
-  pub record AreLogs (run : RunValue K) (logs : List (StreamLog K)) : Type 0 where
-    pub many : length logs ≡ length run.setups
-    pub each : (k : ℕ) (s : Setup) (d : StreamLog K) → k < length run.setups → IsLog run k (get_or run.setups k s) (get_or logs k d)
+  -- a fault of a run of which all is there: want of memory, a stream that did not end, or, where each has ended, answers that are
+  -- unlike
+  abbrev pub IsLate : RunValue K → RunFault → Type 0
+  IsLate run RunFaults.Workers = ⊥
+  IsLate run RunFaults.NoSuch = ⊥
+  IsLate run RunFaults.NoMem = ⊤
+  IsLate run RunFaults.Unfinished = ⊤
+  IsLate run RunFaults.Unlike = HaveEnded means run

@@ -7,7 +7,8 @@ use Rattle.strm_shared.specs.Seat.{SeatValue}
 use Rattle.strm_shared.specs.Ending.{fresh_seats, fresh_feed, FeedValue, SharedValue}
 use Rattle.strm_run.specs.declared.script.Feed.{Feed}
 use Rattle.strm_run.specs.Scripts.{feed_of, line_is_there}
-use Rattle.strm_run.specs.Run.{RunValue, AreStreams}
+use Rattle.strm_run.specs.Run.{RunValue}
+use Rattle.strm_run.specs.Inside.Run.{AreStreams}
 
 -- the seats on each stream, in order of the streams: one for each caller, that has made no call
 pub record AreSeatsOn {K : Type 0} (run : RunValue K) (seats : List (Vec SeatValue Global)) : Type 0 where

@@ -1,23 +1,22 @@
 -- What callers were told, step by step.
-use Rattle.std.proofs.Common.{◌≡◌, ℕ, zero, suc, ◌+◌, ◌<◌, ◌≤◌, ◌==◌, Bool, true, false, cond, List, [], ◌∷◌, ◌++◌, All, length, get_or, set, take, Vec, Global, refl, sym, ◌∙◌, ap, subst, arith, below_more}
+use Rattle.std.proofs.Common.{◌≡◌, ℕ, zero, suc, ◌+◌, ◌<◌, ◌≤◌, ◌==◌, Bool, true, false, cond, List, [], ◌∷◌, ◌++◌, All, append_assoc, length, map, get_or, set, take, Vec, Global, refl, sym, ◌∙◌, ap, subst, arith, below_more}
 use Rattle.std.specs.declared.collections.VecDeque.{VecDeque}
 use Rattle.std.proofs.Math.Seq.{get_or-append_seam}
-use Rattle.std.proofs.lemmas.List.{length-append, length_push, get_or_append_left, take_all, take_more}
+use Rattle.std.proofs.lemmas.List.{map-append, length_push, get_or_append_left, take_all, take_more}
 use Rattle.std.proofs.lemmas.List.Elements.{filter-append}
 use Rattle.std.proofs.lemmas.Bool.{eqb-true, eqb-false}
 use Rattle.strm_call.specs.declared.answer.Answer.{Answer}
 use Rattle.strm_history.specs.declared.entry.Who.TheVariants.{Caller}
 use Rattle.strm_history.specs.declared.entry.Entry.{Entry}
 use Rattle.strm_history.specs.Entry.{is_caller}
-use Rattle.strm_history.specs.History.{calls_of}
 use Rattle.strm_run.specs.declared.transcript.StreamLog.{StreamLog}
-use Rattle.strm_run.specs.Told.{answers_of, AreAllTold, LeavesTold}
+use Rattle.strm_run.specs.Told.{answers_in, answers_of, AreAllTold, LeavesTold}
 
--- one answer less of a caller
-one_less : (told : List (VecDeque Answer Global)) (at : ℕ) (d now : VecDeque Answer Global) → at < length told → length (get_or told at d).items ≡ suc (length now.items) → answers_of told at ≡ suc (answers_of (set told at now) at)
-one_less [] at d now below more = absurd (omega arith)
-one_less (first ∷ rest) zero d now below more = more
-one_less (first ∷ rest) (suc at) d now below more = one_less rest at d now (omega arith) more
+-- the first answer of a caller is taken out
+one_out : (told : List (VecDeque Answer Global)) (at : ℕ) (d now : VecDeque Answer Global) (one : Answer) → at < length told → (get_or told at d).items ≡ one ∷ now.items → answers_of told at ≡ one ∷ answers_of (set told at now) at
+one_out [] at d now one below next = absurd (omega arith)
+one_out (first ∷ rest) zero d now one below next = next
+one_out (first ∷ rest) (suc at) d now one below next = one_out rest at d now one (omega arith) next
 
 -- the others have theirs
 others_same : (told : List (VecDeque Answer Global)) (at caller : ℕ) (now : VecDeque Answer Global) → (at ≡ caller → ⊥) → answers_of told caller ≡ answers_of (set told at now) caller
@@ -27,22 +26,22 @@ others_same (first ∷ rest) zero (suc caller) now apart = refl
 others_same (first ∷ rest) (suc at) zero now apart = refl
 others_same (first ∷ rest) (suc at) (suc caller) now apart = others_same rest at caller now (λ same. apart (ap (λ n. suc n) same))
 
--- a step is its caller's
-module _ {K : Type 0} (entry : Entry K) (told : List (VecDeque Answer Global)) (at : ℕ) (was now : VecDeque Answer Global) (one : Answer) (by : entry.who ≡ Caller at) (below : at < length told) (stood : was ≡ get_or told at was) (next : was.items ≡ one ∷ now.items) where
-  steps_are : (caller : ℕ) (b : Bool) → (at == caller) ≡ b → calls_of caller (entry ∷ []) ≡ length (cond b (entry ∷ []) [])
-  steps_are caller b is = ap (λ w. length (cond (is_caller caller w) (entry ∷ []) [])) by ∙ ap (λ x. length (cond x (entry ∷ []) [])) is
+-- a step is its caller's, and the caller was told its answer
+module _ {K : Type 0} (entry : Entry K) (told : List (VecDeque Answer Global)) (at : ℕ) (was now : VecDeque Answer Global) (one : Answer) (by : entry.who ≡ Caller at) (below : at < length told) (stood : was ≡ get_or told at was) (next : was.items ≡ one ∷ now.items) (same_answer : one ≡ entry.answer) where
+  answers_are : (caller : ℕ) (b : Bool) → (at == caller) ≡ b → answers_in caller (entry ∷ []) ≡ map (λ (e : Entry K). e.answer) (cond b (entry ∷ []) [])
+  answers_are caller b is = ap (λ w. map (λ (e : Entry K). e.answer) (cond (is_caller caller w) (entry ∷ []) [])) by ∙ ap (λ x. map (λ (e : Entry K). e.answer) (cond x (entry ∷ []) [])) is
 
-  taken : (caller : ℕ) (b : Bool) → (at == caller) ≡ b → answers_of told caller ≡ calls_of caller (entry ∷ []) + answers_of (set told at now) caller
+  taken : (caller : ℕ) (b : Bool) → (at == caller) ≡ b → answers_of told caller ≡ answers_in caller (entry ∷ []) ++ answers_of (set told at now) caller
   taken caller true same =
       let here : at ≡ caller = eqb-true at caller same in
-      let less = one_less told at was now below (ap (λ (v : VecDeque Answer Global). length v.items) (sym stood) ∙ ap (λ l. length l) next) in
-      let steps : calls_of caller (entry ∷ []) ≡ 1 = steps_are caller true same in
-      let less_here : answers_of told caller ≡ suc (answers_of (set told at now) caller) = subst (λ n. answers_of told n ≡ suc (answers_of (set told at now) n)) here less in
-      omega arith
+      let out = one_out told at was now one below (ap (λ (v : VecDeque Answer Global). v.items) (sym stood) ∙ next) in
+      let out_here : answers_of told caller ≡ one ∷ answers_of (set told at now) caller = subst (λ n. answers_of told n ≡ one ∷ answers_of (set told at now) n) here out in
+      let steps : answers_in caller (entry ∷ []) ≡ entry.answer ∷ [] = answers_are caller true same in
+      out_here ∙ ap (λ x. x ∷ answers_of (set told at now) caller) same_answer ∙ ap (λ l. l ++ answers_of (set told at now) caller) (sym steps)
   taken caller false other =
       let same = others_same told at caller now (eqb-false at caller other) in
-      let steps : calls_of caller (entry ∷ []) ≡ 0 = steps_are caller false other in
-      omega arith
+      let steps : answers_in caller (entry ∷ []) ≡ [] = answers_are caller false other in
+      same ∙ ap (λ l. l ++ answers_of (set told at now) caller) (sym steps)
 
   -- whose next answer is taken out
   pub takes_one : LeavesTold told (entry ∷ []) (set told at now)
@@ -52,21 +51,21 @@ module _ {K : Type 0} (entry : Entry K) (told : List (VecDeque Answer Global)) (
 pub told_more : {K : Type 0} (history : List (Entry K)) (i : ℕ) (entry : Entry K) (told so_far left : List (VecDeque Answer Global)) → i < length history → entry ≡ get_or history i entry → LeavesTold told (take i history) so_far → LeavesTold so_far (entry ∷ []) left → LeavesTold told (take (i + 1) history) left
 told_more history i entry told so_far left below is before here caller =
     let more : take (i + 1) history ≡ take i history ++ entry ∷ [] = take_more history i entry below ∙ ap (λ e. take i history ++ e ∷ []) (sym is) in
-    let many : calls_of caller (take (i + 1) history) ≡ calls_of caller (take i history) + calls_of caller (entry ∷ []) = ap (λ h. calls_of caller h) more ∙ ap (λ l. length l) (filter-append _ (take i history) (entry ∷ [])) ∙ length-append _ _ in
-    let first = before caller in
-    let then = here caller in
-    omega arith
+    let all : answers_in caller (take (i + 1) history) ≡ answers_in caller (take i history) ++ answers_in caller (entry ∷ []) = ap (λ h. answers_in caller h) more ∙ ap (λ l. map (λ (e : Entry _). e.answer) l) (filter-append _ (take i history) (entry ∷ [])) ∙ map-append _ _ _ in
+    before caller ∙ ap (λ l. answers_in caller (take i history) ++ l) (here caller)
+    ∙ sym (append_assoc (answers_in caller (take i history)) (answers_in caller (entry ∷ [])) (answers_of left caller))
+    ∙ ap (λ l. l ++ answers_of left caller) (sym all)
 
 -- where each list is empty, nothing is left
-pub none_left : (told : List (VecDeque Answer Global)) (caller : ℕ) → All (λ answers. answers.items ≡ []) told → answers_of told caller ≡ 0
+pub none_left : (told : List (VecDeque Answer Global)) (caller : ℕ) → All (λ answers. answers.items ≡ []) told → answers_of told caller ≡ []
 none_left [] caller all = refl
-none_left (first ∷ rest) zero all = ap (λ l. length l) (all 0 first (omega arith))
+none_left (first ∷ rest) zero all = all 0 first (omega arith)
 none_left (first ∷ rest) (suc caller) all = none_left rest caller (λ k d below. all (suc k) d (omega arith))
 
 -- no step more, and nothing left
 pub told_all : {K : Type 0} (history : List (Entry K)) (i : ℕ) (told left : List (VecDeque Answer Global)) → length history ≤ i → LeavesTold told (take i history) left → All (λ answers. answers.items ≡ []) left → LeavesTold told history []
 told_all history i told left past so_far none caller =
-    so_far caller ∙ ap (λ h. calls_of caller h + answers_of left caller) (take_all i history past) ∙ ap (λ n. calls_of caller history + n) (none_left left caller none)
+    so_far caller ∙ ap (λ h. answers_in caller h ++ answers_of left caller) (take_all i history past) ∙ ap (λ l. answers_in caller history ++ l) (none_left left caller none)
 
 -- one stream more
 pub all_told_more : {K : Type 0} (logs : List (StreamLog K)) (so_far : List (Vec (VecDeque Answer Global) Global)) (at : ℕ) (answers : Vec (VecDeque Answer Global) Global) (log : StreamLog K) → AreAllTold logs so_far → at ≡ length so_far → at < length logs → ((e : StreamLog K) → log ≡ get_or logs at e) → LeavesTold answers.items log.history.items [] → AreAllTold logs (so_far ++ answers ∷ [])

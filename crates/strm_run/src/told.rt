@@ -19,7 +19,7 @@ fn is_told<K>(entry: &Entry<K>, told: &mut Vec<VecDeque<Answer>>) -> bool
         return false;
     }
     match told[at].pop_front() {
-        Some(answer) => answer == entry.answer,
+        Some(answer) => answer.is_same(&entry.answer),
         None => false,
     }
 }

@@ -1,7 +1,7 @@
 //! A feeder that offers its feed.
 ghost use Rattle.std.specs.Prelude.{◌≡◌, ◌<◌, true, false, [], ◌∷◌, ◌++◌, length, slice_get, All, Some};
 ghost use Rattle.strm_msg.specs.Kind.{is_from_line};
-ghost use Rattle.strm_shared.specs.Ending.{one_more};
+ghost use Rattle.strm_queue.specs.Run.{one_more};
 ghost use Rattle.strm_run.specs.Scripts.{feed_of};
 ghost use Rattle.strm_run.specs.Inside.Run.{HasOffered, IsFeeding};
 

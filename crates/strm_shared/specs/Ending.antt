@@ -1,5 +1,5 @@
 -- What a shared stream, its seats and its feeder are to a contract, and what must agree at the end.
-use Rattle.std.specs.Prelude.{◌≡◌, ℕ, ◌+◌, ◌-◌, ◌^◌, ◌<◌, ◌==◌, min, nat_lt, zero, suc, not, Bool, true, Option, Some, None, List, [], ◌∷◌, ◌++◌, length, map, All, Any, if◌then◌else◌, ⊤}
+use Rattle.std.specs.Prelude.{◌≡◌, ℕ, ◌+◌, ◌<◌, ◌==◌, nat_lt, zero, suc, not, Bool, true, Option, Some, None, List, [], ◌∷◌, ◌++◌, length, map, All, Any, if◌then◌else◌, ⊤}
 use Rattle.strm_msg.specs.Message.{Msg}
 use Rattle.strm_module.specs.declared.shape.Shape.{Shape}
 use Rattle.strm_call.specs.declared.request.Request.{Request}
@@ -42,10 +42,6 @@ fresh_seats number (suc callers) = fresh_seats number callers ++ record { number
 -- the feeder of a line, that has offered nothing; the other drivers have none
 abbrev pub fresh_feed : ℕ → Setup → Option FeedValue
 fresh_feed number setup = if is_line setup.driver then Some (record { number = number; offers = 0; accepted = [] }) else None
-
--- one offer more; a count that can go no further stays
-abbrev pub one_more : ℕ → ℕ
-one_more offers = min (offers + 1) (2 ^ 64 - 1)
 
 -- as many seats as callers, all of one stream, and one for each caller
 pub record AreSeats (number callers : ℕ) (seats : List SeatValue) : Type 0 where

@@ -1,7 +1,7 @@
 //! Who feeds a line.
 ghost use Rattle.std.specs.Prelude.{◌≡◌, ◌∷◌, [], ◌++◌, true, IfErr, OnOk, OnErr};
 ghost use Rattle.strm_msg.specs.Kind.{is_from_line};
-ghost use Rattle.strm_shared.specs.Ending.{one_more};
+ghost use Rattle.strm_queue.specs.Run.{one_more};
 ghost use Rattle.strm_shared.specs.Turns.{IsNextOf};
 
 use crate::runs::Runs;

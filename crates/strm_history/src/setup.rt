@@ -17,8 +17,8 @@ pub struct Setup {
     pub head: (u32, u32),
     /// The marks of the driver's lists, in bytes: the high one, and a lower low one.
     pub drv: (u32, u32),
-    /// How many messages the ring holds through which the line of a shared stream is fed: 1 to 4096. The
-    /// other drivers have none, and then any number will do.
+    /// How many messages the ring holds through which the line of a shared stream is fed: 1 to `MOST_RING`.
+    /// The other drivers have none, and then any number will do.
     pub ring: u16,
 }
 
@@ -37,7 +37,7 @@ impl Setup {
         self.head.1 < self.head.0 && self.drv.1 < self.drv.0
     }
 
-    /// Whether the ring can be made: the stream is no line, or the ring holds 1 to 4096 messages.
+    /// Whether the ring can be made: the stream is no line, or the ring holds 1 to `MOST_RING` messages.
     pub fn is_ring(&self) -> bool
         ensures { result ≡ is_ring self.now }
     {

@@ -1,10 +1,11 @@
 //! A script is loaded.
 use std::alloc::Global;
 use std::io::{self, ErrorKind, Read};
+use strm_plan::LONGEST_SCRIPT;
 
 /// The most bytes that are read: one more than a script may have, so that one that is too long is
 /// seen to be.
-const MOST_BYTES: u64 = 1_048_577;
+const MOST_BYTES: u64 = LONGEST_SCRIPT as u64 + 1;
 
 /// Why a script was not loaded.
 #[derive(Clone, Copy, Debug, PartialEq, Eq)]
@@ -25,7 +26,7 @@ impl From<io::Error> for LoadFault {
     }
 }
 
-/// Reads a script to its end, or its first 1,048,577 bytes if it is longer.
+/// Reads a script to its end, or its first `MOST_BYTES` bytes if it is longer.
 ///
 /// Refused with `NoMem` for want of memory, and with `Read` where the reader fails.
 pub fn load<R: Read + Drop>(alloc: Global, reader: R) -> Result<Vec<u8>, LoadFault> {

@@ -1,6 +1,13 @@
 //! The command line.
+ghost use Rattle.std.specs.Prelude.{◌≡◌, ◌≤◌, map, string_bytes, IfOk, IfErr};
+ghost use Rattle.clap.specs.Words.{FailsBy, app_of, fault_of, kind_of};
+ghost use Rattle.clap.specs.declared.error.kind.ErrorKind.TheVariants.{OutOfMemory};
+ghost use Rattle.strm_run.specs.declared.judge.TheConstants.{MOST_WORKERS};
+ghost use Rattle.strsh.specs.CommandLine.{AsksFor, HasBoth, command_line, file_text, workers_text};
+
 use clap::{Arg, Command, Error, value_parser};
 use std::alloc::Global;
+use strm_run::MOST_WORKERS;
 
 /// How many worker threads there are where nothing else is asked for.
 const DEFAULT_WORKERS: u32 = 4;
@@ -21,18 +28,22 @@ down an echo stream and takes it at the head:
 /// What the command line asks for.
 #[derive(Debug, Drop)]
 pub struct Options<'a> {
-    /// How many worker threads make the calls, 1 to 64.
+    /// How many worker threads make the calls, 1 to `MOST_WORKERS`.
     pub workers: u32,
     /// The path of the script.
     pub path: &'a str,
 }
 
-/// The command line that is understood: `strsh [--workers N] FILE`.
-fn command<'a>(alloc: Global) -> Result<Command<'a>, Error> {
+/// The command line that is understood: `strsh [--workers N] FILE`. Refused for want of memory alone.
+fn command<'a>(alloc: Global) -> Result<Command<'a>, Error>
+    ensures line { IfOk result (λ command. app_of command ≡ command_line) }
+    ensures both { IfOk result HasBoth }
+    ensures memory { IfErr result (λ error. kind_of error ≡ OutOfMemory) }
+{
     let workers = Arg::new(alloc, "workers")
         .long("workers")
         .value_name("N")
-        .value_parser(value_parser!(u32).range(1..=64))
+        .value_parser(value_parser!(u32).range(1..=i64::from(MOST_WORKERS)))
         .default_value("4")
         .help("How many worker threads make the calls, 1 to 64");
     let file = Arg::new(alloc, "FILE").required(true).help("The script");
@@ -49,8 +60,13 @@ fn command<'a>(alloc: Global) -> Result<Command<'a>, Error> {
 impl<'a> Options<'a> {
     /// Reads the words of a command line, of which the first is the program's name.
     ///
-    /// Refused with the text to print, where they are no such command line or ask for help.
-    pub fn read(alloc: Global, words: &'a [String]) -> Result<Options<'a>, Error> {
+    /// Refused with the text to print, where they are no such command line or ask for help, or for want of memory.
+    pub fn read(alloc: Global, words: &'a [String]) -> Result<Options<'a>, Error>
+        ensures path { IfOk result (λ options. options.path.now ≡ file_text (map (λ word. string_bytes word) words.entry.now)) }
+        ensures workers { IfOk result (λ options. AsksFor (workers_text (map (λ word. string_bytes word) words.entry.now)) options.workers) }
+        ensures range { IfOk result (λ options. (1 ≤ options.workers) × (options.workers ≤ MOST_WORKERS)) }
+        ensures kinds { FailsBy (fault_of command_line (map (λ word. string_bytes word) words.entry.now)) result }
+    {
         let matches = command(alloc)?.try_get_matches_from(words)?;
         let workers = matches.get_one::<u32>("workers");
         Ok(Options {

@@ -1,0 +1,2 @@
+pub mod ReadLemmas
+pub mod CrewLemmas

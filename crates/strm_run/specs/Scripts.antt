@@ -13,6 +13,7 @@ use Rattle.strm_history.specs.Setup.{is_fit, is_ring}
 use Rattle.strm_run.specs.declared.script.ScriptCall.{ScriptCall}
 use Rattle.strm_run.specs.declared.script.Script.{Script}
 use Rattle.strm_run.specs.declared.script.Feed.{Feed}
+use Rattle.strm_run.specs.declared.judge.TheConstants.{MOST_WORKERS}
 
 -- the calls that a script has for a stream, in order: the end, and what is asked
 abbrev pub calls_on : {K : Type 0} → ℕ → List (ScriptCall (Shape K)) → List (End × Event (Shape K))
@@ -63,6 +64,6 @@ IsFromLine feed = All (λ m. is_from_line m.kind ≡ true) feed.messages.items
 abbrev pub AreFromLine : List Feed → Type 0
 AreFromLine feeds = All (λ feed. IsFromLine feed) feeds
 
--- a run has 1 to 64 workers
+-- a run has 1 to `MOST_WORKERS` workers
 abbrev pub is_crew : ℕ → Bool
-is_crew workers = nat_le 1 workers && nat_le workers 64
+is_crew workers = nat_le 1 workers && nat_le workers MOST_WORKERS

@@ -18,14 +18,15 @@ use Rattle.strm_call.specs.declared.request.Request.{Request}
 use Rattle.strm_call.specs.declared.request.Request.TheVariants as Requests
 use Rattle.strm_call.specs.declared.refusal.Refusal.{Refusal}
 use Rattle.strm_call.specs.declared.refusal.Refusal.TheVariants.{Invalid, HungUp}
-use Rattle.strm_call.specs.Refusal.{refused_if}
+use Rattle.strm_call.specs.Refusal.{first_that_holds}
 use Rattle.strm_call.specs.Begun.{reply_after}
 use Rattle.strm_ioctl.specs.Ask.{is_empty}
-use Rattle.strm_ioctl.specs.Modules.{pop_refusal, first_name}
+use Rattle.strm_ioctl.specs.Modules.{pop_refusals, first_name}
 use Rattle.strm_head.specs.declared.event.Event.{Event}
 use Rattle.strm_head.specs.declared.event.Event.TheVariants.{Asked}
-use Rattle.strm_head.specs.Begin.{back_of, begun_of, common_refusal, handed_out, refusal_of}
+use Rattle.strm_head.specs.Begin.{back_of, begun_of, common_refusals, handed_out, refusal_of}
 use Rattle.strm_head.specs.Step.{Step}
+use Rattle.strm_head.proofs.RefusalLemmas.{first_of_all}
 use Rattle.strm_history.specs.declared.entry.Entry.{Entry}
 use Rattle.strm_history.specs.declared.call.Call.{Call}
 use Rattle.strm_history.specs.declared.call.Called.{Called}
@@ -43,7 +44,7 @@ second_none None second is = is
 second_none (Some refusal) second is = absurd cc
 
 -- a pop that is not refused has a module to take out, the topmost
-pop_out : {K : Type 0} (modules : List (QueuePair K)) (hung : Bool) (answer : Answer) (back : List (Option (Shape K))) → option_or (refused_if (is_empty modules) Invalid) (refused_if hung HungUp) ≡ None → Replies answer (ReplyOf.Pop (first_name modules)) → back ≡ handed_out (take 1 (map (λ s. s.shape) modules)) → HandsOut Requests.Pop answer back
+pop_out : {K : Type 0} (modules : List (QueuePair K)) (hung : Bool) (answer : Answer) (back : List (Option (Shape K))) → first_that_holds ((is_empty modules, Invalid) ∷ (hung, HungUp) ∷ []) ≡ None → Replies answer (ReplyOf.Pop (first_name modules)) → back ≡ handed_out (take 1 (map (λ s. s.shape) modules)) → HandsOut Requests.Pop answer back
 pop_out [] hung answer back none replies comes = absurd cc
 pop_out (topmost ∷ others) hung answer back none replies comes = (topmost.shape, replies, comes)
 
@@ -59,7 +60,9 @@ close_out modules answer back replies comes = (
 module _ {K : Type 0} (means : Meaning K) where
   -- what a call that is not refused takes out, by the call
   hands_out : (image : Image K) (e : End) (request : Request (Shape K)) (answer : Answer) (back : List (Option (Shape K))) (kept : Option Msg) → refusal_of image e request ≡ None → Replies answer (reply_after (begun_of means image e request) kept) → back ≡ handed_out (begun_of means image e request).out → HandsOut request answer back
-  hands_out image e Requests.Pop answer back kept none replies comes = pop_out (end_of image e).modules (end_of image e).state.hung answer back (second_none (common_refusal image e) (pop_refusal image e) none) replies comes
+  hands_out image e Requests.Pop answer back kept none replies comes = pop_out (end_of image e).modules (end_of image e).state.hung answer back
+      (second_none (first_that_holds (common_refusals image e)) (first_that_holds (pop_refusals image e)) (sym (first_of_all image e Requests.Pop (λ same. cc)) ∙ none))
+      replies comes
   hands_out image e Requests.Close answer back kept none replies comes = close_out (end_of image e).modules answer back replies comes
   hands_out image e (Requests.Putmsg ctl dat flag) answer back kept none replies comes = comes
   hands_out image e (Requests.Putpmsg ctl dat band flag) answer back kept none replies comes = comes

@@ -1,5 +1,5 @@
 -- What may refuse a call is looked for in the order of the refusals' numbers.
-use Rattle.std.proofs.Common.{◌≡◌, ℕ, zero, suc, not, Bool, true, Option, Some, None, List, [], ◌∷◌, ◌++◌, refl}
+use Rattle.std.proofs.Common.{◌≡◌, zero, suc, not, Bool, true, Option, Some, None, List, [], ◌∷◌, ◌++◌, refl}
 use Rattle.strm_msg.specs.declared.errno.Errno.{Errno}
 use Rattle.strm_msg.specs.declared.words.End.{End}
 use Rattle.strm_module.specs.declared.shape.Shape.{Shape}

@@ -17,10 +17,13 @@ answers_of (answers ∷ rest) (suc caller) = answers_of rest caller
 abbrev pub answers_in : {K : Type 0} → ℕ → List (Entry K) → List Answer
 answers_in caller history = map (λ entry. entry.answer) (own caller history)
 
+-- each caller was told the answers to its calls, in order, and then others
+abbrev pub AreTold : {K : Type 0} → List (VecDeque Answer Global) → List (Entry K) → (ℕ → List Answer) → Type 0
+AreTold told history others = (caller : ℕ) → answers_of told caller ≡ answers_in caller history ++ others caller
+
 -- each caller was told the answers to its calls, in order, and then those that are left
 abbrev pub LeavesTold : {K : Type 0} → List (VecDeque Answer Global) → List (Entry K) → List (VecDeque Answer Global) → Type 0
-LeavesTold told history left =
-    (caller : ℕ) → answers_of told caller ≡ answers_in caller history ++ answers_of left caller
+LeavesTold told history left = AreTold told history (λ caller. answers_of left caller)
 
 -- on each stream each caller was told the answers that the history has, in order, and no others
 pub record AreAllTold {K : Type 0} (logs : List (StreamLog K)) (told : List (Vec (VecDeque Answer Global) Global)) : Type 0 where

@@ -1,6 +1,7 @@
 //! Whether what callers were told is what the histories have.
-ghost use Rattle.std.specs.Prelude.{◌≡◌, true, [], ◌∷◌, All};
-ghost use Rattle.strm_run.specs.Told.{AreAllTold, LeavesTold};
+ghost use Rattle.std.specs.Prelude.{◌≡◌, ◌↔◌, ℕ, true, false, List, [], ◌∷◌, All};
+ghost use Rattle.strm_call.specs.declared.answer.Answer.{Answer};
+ghost use Rattle.strm_run.specs.Told.{AreAllTold, AreTold, LeavesTold};
 
 use crate::transcript::StreamLog;
 use std::collections::VecDeque;
@@ -9,7 +10,8 @@ use strm_history::{Entry, Who};
 
 /// Whether a step is of a line, or its answer is the next one that its caller was told, which is taken out.
 fn is_told<K>(entry: &Entry<K>, told: &mut Vec<VecDeque<Answer>>) -> bool
-    ensures { result ≡ true → LeavesTold told.old.items (entry.now ∷ []) told.new.items }
+    ensures told { result ≡ true → LeavesTold told.old.items (entry.now ∷ []) told.new.items }
+    ensures other { result ≡ false → (left : ℕ → List Answer) → AreTold told.old.items (entry.now ∷ []) left → ⊥ }
 {
     let Who::Caller(caller) = entry.who else {
         return true;
@@ -26,7 +28,7 @@ fn is_told<K>(entry: &Entry<K>, told: &mut Vec<VecDeque<Answer>>) -> bool
 
 /// Whether no answer is left that a caller was told.
 fn is_nothing_left(told: &[VecDeque<Answer>]) -> bool
-    ensures { result ≡ true → All (λ answers. answers.items ≡ []) told.now }
+    ensures { result ≡ true ↔ All (λ answers. answers.items ≡ []) told.now }
 {
     told.iter().all(|answers| answers.is_empty())
 }
@@ -34,7 +36,7 @@ fn is_nothing_left(told: &[VecDeque<Answer>]) -> bool
 /// Whether the answers in a history are those that each caller was told, in order, and no others; by the
 /// callers' numbers.
 fn are_told<K>(history: &[Entry<K>], mut told: Vec<VecDeque<Answer>>) -> bool
-    ensures { result ≡ true → LeavesTold told.items history.now [] }
+    ensures { result ≡ true ↔ LeavesTold told.items history.now [] }
 {
     for entry in history {
         if !is_told(entry, &mut told) {
@@ -47,7 +49,7 @@ fn are_told<K>(history: &[Entry<K>], mut told: Vec<VecDeque<Answer>>) -> bool
 /// Whether the answers in the history of each stream are those that each caller was told there, in order, and no
 /// others; by the streams' numbers, and then by the callers'.
 pub fn are_all_told<K>(logs: &[StreamLog<K>], told: Vec<Vec<VecDeque<Answer>>>) -> bool
-    ensures { result ≡ true → AreAllTold logs.now told.items }
+    ensures { result ≡ true ↔ AreAllTold logs.now told.items }
 {
     let mut at: usize = 0;
     for answers in told {

@@ -1,5 +1,5 @@
 -- What callers and the line of a shared stream find of its history.
-use Rattle.std.proofs.Common.{◌≡◌, ℕ, zero, suc, ◌+◌, ◌<◌, ◌++◌, Bool, List, [], ◌∷◌, Option, Some, None, length, map, take, drop, get_or, sym, ◌∙◌, ap, subst}
+use Rattle.std.proofs.Common.{◌≡◌, ◌↔◌, ℕ, zero, suc, ◌+◌, ◌<◌, ◌++◌, Bool, List, [], ◌∷◌, Option, Some, None, length, map, take, drop, get_or, sym, ◌∙◌, ap, subst}
 use Rattle.std.specs.Option.{option_or}
 use Rattle.std.proofs.lemmas.List.{drop_more}
 use Rattle.std.proofs.lemmas.Simd.{map-map}
@@ -23,7 +23,7 @@ use Rattle.strm_call.specs.Begun.{reply_after}
 use Rattle.strm_ioctl.specs.Ask.{is_empty}
 use Rattle.strm_ioctl.specs.Modules.{pop_refusals, first_name}
 use Rattle.strm_head.specs.declared.event.Event.{Event}
-use Rattle.strm_head.specs.declared.event.Event.TheVariants.{Asked}
+use Rattle.strm_head.specs.declared.event.Event.TheVariants.{Asked, Arrived}
 use Rattle.strm_head.specs.Begin.{back_of, begun_of, common_refusals, handed_out, refusal_of}
 use Rattle.strm_head.specs.Step.{Step}
 use Rattle.strm_head.proofs.RefusalLemmas.{first_of_all}
@@ -110,8 +110,19 @@ module _ {K : Type 0} (means : Meaning K) where
   comes_back old m (Full same) new is = is.1
   comes_back old m (NoMem same) new is = is.0
 
--- what is left of the arrivals
-pub arrivals_left : {K : Type 0} (history : List (Entry K)) (i : ℕ) (entry : Entry K) (messages rest : List Msg) → i < length history → entry ≡ get_or history i entry → messages ≡ came_in entry.event ++ rest → arrivals (drop (i + 1) history) ≡ rest → arrivals (drop i history) ≡ messages
-arrivals_left history i entry messages rest within is next same =
-    let more : arrivals (drop i history) ≡ arrivals (get_or history i entry ∷ drop (i + 1) history) = ap (λ h. arrivals h) (drop_more history i entry within) in
-    more ∙ ap (λ (e : Entry _). came_in e.event ++ arrivals (drop (i + 1) history)) (sym is) ∙ ap (λ l. came_in entry.event ++ l) same ∙ sym next
+-- the first is left out of both
+rest_of : {P : Type 0} (event : Event P) (one other : List Msg) → came_in event ++ one ≡ came_in event ++ other → one ≡ other
+rest_of (Asked request) one other same = same
+rest_of (Arrived m) one other same = ap (λ l. drop 1 l) same
+
+-- what is left of the arrivals, from a step on
+module _ {K : Type 0} (history : List (Entry K)) (i : ℕ) (entry : Entry K) (within : i < length history) (is : entry ≡ get_or history i entry) where
+  arrivals_from : arrivals (drop i history) ≡ came_in entry.event ++ arrivals (drop (i + 1) history)
+  arrivals_from = ap (λ h. arrivals h) (drop_more history i entry within) ∙ ap (λ (e : Entry K). came_in e.event ++ arrivals (drop (i + 1) history)) (sym is)
+
+  -- where it was the next message, the rest is that of the messages
+  pub arrivals_left : (messages rest : List Msg) → messages ≡ came_in entry.event ++ rest → (arrivals (drop (i + 1) history) ≡ rest) ↔ (arrivals (drop i history) ≡ messages)
+  arrivals_left messages rest next = (
+    λ same. arrivals_from ∙ ap (λ l. came_in entry.event ++ l) same ∙ sym next,
+    λ same. rest_of entry.event (arrivals (drop (i + 1) history)) rest (sym arrivals_from ∙ same ∙ next),
+  )

@@ -1,10 +1,11 @@
 //! What must agree before a shared stream has ended.
-ghost use Rattle.std.specs.Prelude.{◌≡◌, ◌↔◌, ◌<◌, ◌++◌, ℕ, true, All, Any, IfSome};
+ghost use Rattle.std.specs.Prelude.{◌≡◌, ◌↔◌, ◌<◌, ◌++◌, ℕ, true, List, None, All, Any, IfSome};
+ghost use Rattle.strm_msg.specs.Message.{Msg};
 ghost use Rattle.strm_history.specs.Entry.{came_in};
 ghost use Rattle.strm_history.specs.History.{arrivals};
 ghost use Rattle.strm_shared.specs.Ending.{accepted_of, is_fed, AreSeats};
 
-use crate::equal::are_equal;
+use crate::equal::is_same_message;
 use crate::feeder::FeedEnd;
 use crate::seat::Seat;
 use strm_head::Event;
@@ -39,9 +40,10 @@ pub(crate) fn are_seats(number: u32, callers: u32, seats: &[Seat]) -> bool
         && are_seated(callers, seats)
 }
 
-/// What is left of messages after the one that came in, if one did; `None` where it is not the first.
+/// What is left of messages after the one that came in, if one did; `None` exactly where it is not the first.
 fn after_arrival<'a, P>(messages: &'a [Message], event: &Event<P>) -> Option<&'a [Message]>
-    ensures { IfSome result (λ rest. messages.now ≡ came_in event.now ++ rest.now) }
+    ensures rest { IfSome result (λ rest. messages.now ≡ came_in event.now ++ rest.now) }
+    ensures none { result ≡ None → (rest : List Msg) → messages.now ≡ came_in event.now ++ rest → ⊥ }
 {
     let Event::Arrived(m) = event else {
         return Some(messages);
@@ -49,7 +51,7 @@ fn after_arrival<'a, P>(messages: &'a [Message], event: &Event<P>) -> Option<&'a
     let Some((first, rest)) = messages.split_first() else {
         return None;
     };
-    if !are_equal(first, m) {
+    if !is_same_message(first, m) {
         return None;
     }
     Some(rest)
@@ -57,7 +59,7 @@ fn after_arrival<'a, P>(messages: &'a [Message], event: &Event<P>) -> Option<&'a
 
 /// Whether these are the messages that came in, in order.
 fn are_arrivals<K>(history: &[Entry<K>], accepted: &[Message]) -> bool
-    ensures { result ≡ true → arrivals history.now ≡ accepted.now }
+    ensures { result ≡ true ↔ arrivals history.now ≡ accepted.now }
 {
     let mut rest = accepted;
     for entry in history {
@@ -71,7 +73,7 @@ fn are_arrivals<K>(history: &[Entry<K>], accepted: &[Message]) -> bool
 
 /// Whether the messages that came in are those that the feeder had accepted.
 pub(crate) fn is_accepted<K>(history: &[Entry<K>], feed: &Option<FeedEnd>) -> bool
-    ensures { result ≡ true → arrivals history.now ≡ accepted_of feed.now }
+    ensures { result ≡ true ↔ arrivals history.now ≡ accepted_of feed.now }
 {
     match feed {
         Some(feed) => are_arrivals(history, feed.accepted()),

@@ -26,6 +26,13 @@ impl Model for Turns {
     ghost view = { λ t. record { counts = t.counts.items; in_turn = t.in_turn } };
 }
 
+/// Whether a seat's caller has made as many calls as the seat counts.
+fn has_count(seat: &Seat, counts: &[u64]) -> bool
+    ensures { result ≡ has_count seat.now counts.now }
+{
+    counts.get(seat.caller() as usize) == Some(&seat.calls())
+}
+
 impl Turns {
     /// No caller has made a call. Refused for want of memory alone.
     pub(crate) fn new(alloc: Global, callers: u32) -> Result<Turns, NoMem>
@@ -38,19 +45,11 @@ impl Turns {
         })
     }
 
-    /// Whether the seat's caller has made as many calls as the seat counts.
-    fn has_count(&self, seat: &Seat) -> bool
-        ensures { result ≡ has_count seat.now self.now.counts }
-    {
-        let caller = seat.caller() as usize;
-        caller < self.counts.len() && self.counts[caller] == seat.calls()
-    }
-
     /// Whether the next call of its caller on the stream of this number is one of this seat.
     pub(crate) fn is_next(&self, number: u32, seat: &Seat) -> bool
         ensures { result ≡ is_next number seat.now self.now.counts }
     {
-        seat.number() == number && self.has_count(seat)
+        seat.number() == number && has_count(seat, self.counts.as_slice())
     }
 
     /// A call was made, by a seat that was next or not, and that has counted it.
@@ -70,8 +69,9 @@ impl Turns {
     pub(crate) fn do_agree(&self, callers: u32, seats: &[Seat]) -> bool
         ensures { result ≡ true ↔ (self.now.in_turn ≡ true) × (length self.now.counts ≡ callers) × All (λ seat. has_count seat self.now.counts ≡ true) seats.now }
     {
+        let counts = self.counts.as_slice();
         self.in_turn
-            && self.counts.len() == callers as usize
-            && seats.iter().all(|s| self.has_count(s))
+            && counts.len() == callers as usize
+            && seats.iter().all(|seat| has_count(seat, counts))
     }
 }

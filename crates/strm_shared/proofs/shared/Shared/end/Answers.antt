@@ -68,7 +68,7 @@ returns-clause-first g c =
 
 pub returns-clause-arrived : goal.returns-clause-arrived
 returns-clause-arrived g c =
-    let arrived = (rw c.as_slice-3.ensures.value at c.is_accepted.ensures) c.if-not-is_accepted.false in
+    let arrived = (rw c.as_slice-3.ensures.value at c.is_accepted.ensures).0 c.if-not-is_accepted.false in
     ap (λ (l : List Msg). arrivals c.into_parts-history.result.0.items ++ l) c.new.ensures.items ∙ append-nil _ ∙ arrived
 
 pub returns-clause-fed : goal.returns-clause-fed

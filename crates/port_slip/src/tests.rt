@@ -3,7 +3,7 @@ use crate::{ByShape, SlipKind, first_datagram, frame, send};
 use std::alloc::Global;
 use std::process::Abort;
 use strm_chain::{Chain, Driver, Spot};
-use strm_module::{Kind, Kinds};
+use strm_module::{Boxed, Instance, Kind, Kinds};
 use strm_msg::{End, Message};
 use strm_queue::Marks;
 
@@ -30,19 +30,23 @@ fn data(rt: &impl Abort, alloc: Global, bytes: &[u8]) -> Message {
     Message::of_data(alloc, 0, bytes).expect(rt, "no memory for data")
 }
 
+fn boxed(rt: &impl Abort, alloc: Global, module: Instance<ByShape>) -> Boxed<ByShape> {
+    Boxed::new(alloc, module).expect(rt, "no memory for a box")
+}
+
 /// A loop with SLIP at end B. At end A stands SLIP with a write queue, or what only passes on.
 fn looped(rt: &impl Abort, alloc: Global, slip_at_a: bool) -> Chain<ByShape> {
     let marks = Marks::new(5000, 4000).expect(rt, "the low mark is below the high one");
     let mut chain = Chain::new(alloc, Driver::Loop, marks, marks).expect(rt, "no memory");
     let far = ByShape::slip(alloc, 1, b"slip", None, None).expect(rt, "a good name");
-    assert!(rt; chain.insert(End::B, far).is_ok());
+    assert!(rt; chain.insert(End::B, boxed(rt, alloc, far)).is_ok());
     let near = if slip_at_a {
         ByShape::slip(alloc, 2, b"slip", None, Some((50, 40)))
     } else {
         ByShape::eight(2, b"pass", None, None, Kind::Pass)
     };
     let near = near.expect(rt, "a good name and good marks");
-    assert!(rt; chain.insert(End::A, near).is_ok());
+    assert!(rt; chain.insert(End::A, boxed(rt, alloc, near)).is_ok());
     chain
 }
 

@@ -3,7 +3,7 @@
 use std::alloc::Global;
 use std::process::Abort;
 use strm_chain::{Chain, ChainFault, Driver, Place, Spot};
-use strm_module::{Instance, Kind, ModuleOf, Plain, Shape};
+use strm_module::{Boxed, Instance, Kind, ModuleOf, Plain, Shape};
 use strm_msg::{End, Errno, Message, Prot, ReadMode};
 use strm_queue::Marks;
 
@@ -199,7 +199,12 @@ fn shape_of(rt: &impl Abort, serial: u64, part: Part, (rd, wr): (bool, bool)) ->
 /// Pushes a module with a queue for each side that is named.
 fn push(rt: &impl Abort, chain: &mut Chain<Plain>, end: End, part: Part, queues: (bool, bool)) {
     let shape = shape_of(rt, 1, part, queues);
-    assert!(rt; chain.insert(end, Instance::new(shape, Plain)).is_ok());
+    let boxed = Boxed::new(chain.alloc(), Instance::new(shape, Plain));
+    assert!(rt;
+        chain
+            .insert(end, boxed.expect(rt, "no memory for a box"))
+            .is_ok()
+    );
 }
 
 /// Makes calls in turn, counted from 0.

@@ -8,7 +8,7 @@ ghost use Rattle.strm_ends.specs.Image.{end_of, with_end, count_of, room_of, Kee
 use arrayvec::ArrayVec;
 use std::alloc::Global;
 use std::marker::Model;
-use strm_module::{Instance, ModuleOf};
+use strm_module::{Boxed, ModuleOf};
 use strm_msg::{End, NoMem};
 use strm_qpair::{Driver, MOST_MODULES, StreamEnd};
 use strm_queue::Marks;
@@ -130,7 +130,7 @@ impl<M: ModuleOf> Ends<M> {
     /// loses room.
     ///
     /// Where the end has no room for it the instance comes back, and nothing is changed.
-    pub fn insert(&mut self, end: End, instance: Instance<M>) -> Result<(), Instance<M>>
+    pub fn insert(&mut self, end: End, instance: Boxed<M>) -> Result<(), Boxed<M>>
         ensures variant { is_ok result ≡ has_room (end_of self.old.image end) }
         ensures ok { OnOk result (self.new ≡ record self.old { image = with_end self.old.image end (inserted (end_of self.old.image end) instance) }) }
         ensures err { OnErr result (self.new ≡ self.old) }
@@ -148,7 +148,7 @@ impl<M: ModuleOf> Ends<M> {
 
     /// Takes the topmost module out, and drops what its queues hold (I_POP). Takes no memory, and no
     /// list loses room.
-    pub fn remove(&mut self, end: End) -> Option<Instance<M>>
+    pub fn remove(&mut self, end: End) -> Option<Boxed<M>>
         ensures some { IfSome result (λ it. shapes_of (end_of self.old.image end) ≡ it ∷ shapes_of (end_of self.new.image end)) }
         ensures none { IfNone result ((end_of self.old.image end).modules ≡ []) }
         ensures image { self.new ≡ record self.old { image = with_end self.old.image end (removed (end_of self.old.image end)) } }
@@ -162,7 +162,7 @@ impl<M: ModuleOf> Ends<M> {
     /// Takes all modules of an end out, topmost first, drops what their queues and the head's list
     /// hold, and closes the end (close(2)). The driver's list stays. Takes no memory, and no list
     /// loses room.
-    pub fn dismantle(&mut self, end: End) -> ArrayVec<Option<Instance<M>>, MOST_MODULES>
+    pub fn dismantle(&mut self, end: End) -> ArrayVec<Option<Boxed<M>>, MOST_MODULES>
         ensures instances { result.items ≡ map (λ s. Some s.shape) (end_of self.old.image end).modules }
         ensures image { self.new.image ≡ with_end self.old.image end (closed (end_of self.old.image end)) }
         ensures room { KeepsHeadRoom self.old.rooms self.new.rooms }

@@ -24,7 +24,7 @@ use strm_ioctl::{
     getband, getband_refusal, list, look, look_refusal, nread, pop, pop_refusal, push,
     push_refusal, send_ioctl, set_read, str_refusal,
 };
-use strm_module::{Instance, ModuleOf};
+use strm_module::{Boxed, ModuleOf};
 use strm_msg::{End, Message, NoMem};
 use strm_msgio::{
     getmsg, getmsg_refusal, getpmsg, getpmsg_refusal, peek, putmsg, putmsg_refusal, putpmsg,
@@ -37,7 +37,7 @@ pub fn refusals_are_in_order<M: ModuleOf>()
 {}
 
 /// The modules that come back of a call, each as `Some`, topmost first.
-pub(crate) type Back<M> = ArrayVec<Option<Instance<M>>, MOST_MODULES>;
+pub(crate) type Back<M> = ArrayVec<Option<Boxed<M>>, MOST_MODULES>;
 
 /// What refuses every call: a closed end.
 fn closed_refusal<M: ModuleOf>(chain: &Chain<M>, end: End) -> Option<Refusal>
@@ -69,7 +69,7 @@ fn common_refusal<M: ModuleOf>(chain: &Chain<M>, end: End) -> Option<Refusal>
 fn own_refusal<M: ModuleOf>(
     chain: &Chain<M>,
     end: End,
-    request: &Request<Instance<M>>,
+    request: &Request<Boxed<M>>,
 ) -> Option<Refusal>
     ensures { result ≡ first_that_holds (own_refusals chain.now.image end request.now) }
 {
@@ -102,7 +102,7 @@ fn own_refusal<M: ModuleOf>(
 pub(crate) fn first_refusal<M: ModuleOf>(
     chain: &Chain<M>,
     end: End,
-    request: &Request<Instance<M>>,
+    request: &Request<Boxed<M>>,
 ) -> Option<Refusal>
     ensures { result ≡ refusal_of chain.now.image end request.now }
 {
@@ -168,7 +168,7 @@ fn unanswered() -> Twins
 fn begin<M: ModuleOf>(
     chain: &mut Chain<M>,
     end: End,
-    request: Request<Instance<M>>,
+    request: Request<Boxed<M>>,
     back: &mut Back<M>,
 ) -> Result<Twins, ChainFault>
     requires unrefused { refusal_of chain.old.image end request ≡ None }
@@ -300,7 +300,7 @@ fn finish_ioctl<M: ModuleOf>(chain: &mut Chain<M>, end: End) -> Answered
 pub(crate) fn perform<M: ModuleOf>(
     chain: &mut Chain<M>,
     end: End,
-    request: Request<Instance<M>>,
+    request: Request<Boxed<M>>,
     back: &mut Back<M>,
 ) -> Answered
     requires kept { IsKept chain.old.image }
@@ -328,7 +328,7 @@ pub(crate) fn perform<M: ModuleOf>(
 pub(crate) fn answer<M: ModuleOf>(
     chain: &mut Chain<M>,
     end: End,
-    request: Request<Instance<M>>,
+    request: Request<Boxed<M>>,
     back: &mut Back<M>,
 ) -> Answered
     requires kept { IsKept chain.old.image }

@@ -7,7 +7,7 @@ use crate::call::Back;
 use arrayvec::ArrayVec;
 use strm_call::{Answer, Request};
 use strm_chain::{MOST_MODULES, Moves};
-use strm_module::{Instance, ModuleOf};
+use strm_module::{Boxed, ModuleOf};
 use strm_msg::Message;
 
 /// What became of a call.
@@ -20,7 +20,7 @@ pub struct Outcome<M: ModuleOf> {
     pub twin: Answer,
     /// The modules that come back, each as `Some`: that of a push that was refused, or those that a
     /// pop or a close has taken out, topmost first, also where the stream then broke.
-    pub back: ArrayVec<Option<Instance<M>>, MOST_MODULES>,
+    pub back: ArrayVec<Option<Boxed<M>>, MOST_MODULES>,
     /// The places that moved before the stream was quiet again. Only a call that is done has any.
     pub moves: Moves,
     /// How many places service looked at, each taken out of the run queue: u64::MAX if more, and 0
@@ -48,7 +48,7 @@ pub enum Arrived {
 }
 
 /// The module of a push, if this is one.
-pub(crate) fn pushed<M: ModuleOf>(request: Request<Instance<M>>) -> Back<M>
+pub(crate) fn pushed<M: ModuleOf>(request: Request<Boxed<M>>) -> Back<M>
     ensures { result.items ≡ pushed_of request }
 {
     let mut back = ArrayVec::new();

@@ -23,7 +23,7 @@ use std::marker::Model;
 use strm_call::{Name, Request};
 use strm_chain::{Chain, Driver, MOST_MODULES};
 use strm_ioctl::names_of;
-use strm_module::{Instance, ModuleOf, Shape};
+use strm_module::{Boxed, ModuleOf, Shape};
 use strm_msg::{End, Message};
 use strm_queue::Marks;
 
@@ -34,7 +34,7 @@ use strm_queue::Marks;
 /// lists. Between calls no queue must move, unless the stream is broken.
 #[derive(Drop)]
 pub struct Stream<M: ModuleOf> {
-    chain: Chain<M>,
+    chain: Box<Chain<M>>,
 }
 
 impl<M: ModuleOf> Model for Stream<M> {
@@ -43,9 +43,9 @@ impl<M: ModuleOf> Model for Stream<M> {
 
     ghost Value = { Image M.Kind };
 
-    ghost view = { λ s. s.chain.image };
+    ghost view = { λ s. s.chain.value.image };
 
-    ghost invariant = { λ s. IsKept s.chain.image };
+    ghost invariant = { λ s. IsKept s.chain.value.image };
 }
 
 /// The marks, from the high one and the low one.
@@ -77,7 +77,10 @@ impl<M: ModuleOf> Stream<M> {
     {
         let head = marks_of(head)?;
         let drv = marks_of(drv)?;
-        match Chain::new(alloc, driver, head, drv) {
+        let Ok(chain) = Chain::new(alloc, driver, head, drv) else {
+            return Err(NewFault::NoMem);
+        };
+        match Box::new(alloc, chain) {
             Ok(chain) => Ok(Stream { chain }),
             Err(_) => Err(NewFault::NoMem),
         }
@@ -113,7 +116,7 @@ impl<M: ModuleOf> Stream<M> {
     /// An end that the driver lacks is never open. Calls that change no queue make no move, and those
     /// of them that only tell or set something never want for memory. A push, a pop and a close have
     /// put in or taken out their modules before memory can be wanting.
-    pub fn apply(&mut self, end: End, request: Request<Instance<M>>) -> Outcome<M>
+    pub fn apply(&mut self, end: End, request: Request<Boxed<M>>) -> Outcome<M>
         ensures step { Step M.Kind.means self.old end (Events.Asked request) result.answer result.moves (out_of M.Kind.means self.old end request result.answer) self.new }
         ensures twin { result.twin ≡ result.answer }
         ensures back { result.back.items ≡ back_of M.Kind.means self.old end request result.answer }
@@ -131,8 +134,8 @@ impl<M: ModuleOf> Stream<M> {
     pub fn call(
         &mut self,
         end: End,
-        request: Request<Instance<M>>,
-        back: &mut ArrayVec<Option<Instance<M>>, MOST_MODULES>,
+        request: Request<Boxed<M>>,
+        back: &mut ArrayVec<Option<Boxed<M>>, MOST_MODULES>,
     ) -> Answered
         requires { back.old.items ≡ [] }
         ensures step { Step M.Kind.means self.old end (Events.Asked request) result.answer result.moves (out_of M.Kind.means self.old end request result.answer) self.new }

@@ -8,7 +8,7 @@ use strm_head::{
     Answer, Driver, GetFlag, MOST_MODULES, More, Name, Priority, Received, Refusal, Reply, Request,
     Stream, Wanted,
 };
-use strm_module::{Instance, Kind, Plain, Shape};
+use strm_module::{Boxed, Instance, Kind, Plain, Shape};
 use strm_msg::{Bytes, End, Errno, Message};
 
 mod calls;
@@ -117,13 +117,20 @@ fn kind_of(pushes: Pushes) -> Kind {
 }
 
 /// A module of this serial, kind and name, without queues of its own.
-fn module(rt: &impl Abort, serial: u64, pushes: Pushes, name: &[u8]) -> Instance<Plain> {
+fn module(
+    rt: &impl Abort,
+    alloc: Global,
+    serial: u64,
+    pushes: Pushes,
+    name: &[u8],
+) -> Boxed<Plain> {
     let shape = Shape::new(serial, name, None, None, kind_of(pushes));
-    Instance::new(shape.expect(rt, "a good name"), Plain)
+    let instance = Instance::new(shape.expect(rt, "a good name"), Plain);
+    Boxed::new(alloc, instance).expect(rt, "no memory")
 }
 
 /// The request of a call. A push carries a module of this serial.
-fn request_of(rt: &impl Abort, alloc: Global, serial: u64, call: Call) -> Request<Instance<Plain>> {
+fn request_of(rt: &impl Abort, alloc: Global, serial: u64, call: Call) -> Request<Boxed<Plain>> {
     match call {
         Call::Get => Request::Getmsg {
             maxctl: Some(64),
@@ -142,7 +149,7 @@ fn request_of(rt: &impl Abort, alloc: Global, serial: u64, call: Call) -> Reques
         },
         Call::Nread => Request::Nread,
         Call::Push(pushes, name) => Request::Push {
-            instance: module(rt, serial, pushes, name),
+            instance: module(rt, alloc, serial, pushes, name),
         },
         Call::Pop => Request::Pop,
         Call::Look => Request::Look,
@@ -204,7 +211,7 @@ fn made(rt: &impl Abort, alloc: Global, driver: Driver) -> Stream<Plain> {
 }
 
 /// The serial of a module that came back.
-fn serial_at(back: &[Option<Instance<Plain>>], i: usize) -> Option<u64> {
+fn serial_at(back: &[Option<Boxed<Plain>>], i: usize) -> Option<u64> {
     match back.get(i) {
         Some(Some(instance)) => Some(instance.shape().serial),
         _ => None,
@@ -212,7 +219,7 @@ fn serial_at(back: &[Option<Instance<Plain>>], i: usize) -> Option<u64> {
 }
 
 /// The serials of the modules that came back.
-fn came_back(back: &[Option<Instance<Plain>>]) -> Serials {
+fn came_back(back: &[Option<Boxed<Plain>>]) -> Serials {
     [0, 1, 2, 3, 4, 5, 6, 7].map(|i| serial_at(back, i))
 }
 

@@ -3,15 +3,15 @@ ghost use Rattle.std.specs.Prelude.{◌≡◌, IfOk};
 
 use std::alloc::Global;
 use strm_call::{Request, copy_part};
-use strm_module::{Instance, ModuleOf, Shape};
+use strm_module::{Boxed, BoxedShape, ModuleOf};
 use strm_msg::NoMem;
 
 /// A request as a history has it: a copy, with the module's shape in the module's place. Refused for
 /// want of memory alone.
 pub fn copy_request<M: ModuleOf>(
     alloc: Global,
-    request: &Request<Instance<M>>,
-) -> Result<Request<Shape<M::Kind>>, NoMem>
+    request: &Request<Boxed<M>>,
+) -> Result<Request<BoxedShape<M::Kind>>, NoMem>
     ensures { IfOk result (λ copy. copy ≡ request.now) }
 {
     match request {
@@ -56,7 +56,7 @@ pub fn copy_request<M: ModuleOf>(
             dat: dat.copy(alloc)?,
         }),
         Request::Push { instance } => Ok(Request::Push {
-            instance: instance.shape().copy(alloc)?,
+            instance: BoxedShape::new(alloc, instance.shape().copy(alloc)?)?,
         }),
         Request::Nread => Ok(Request::Nread),
         Request::Peek {

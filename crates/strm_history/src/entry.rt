@@ -4,7 +4,7 @@ ghost use Rattle.strm_history.specs.Entry.{is_caller, out_in};
 
 use arrayvec::ArrayVec;
 use strm_head::{Answer, Event, MOST_MODULES, Moves};
-use strm_module::{Instance, ModuleOf, Shape};
+use strm_module::{Boxed, BoxedShape, ModuleOf};
 use strm_msg::End;
 
 /// Who made a step.
@@ -25,7 +25,7 @@ pub struct Entry<K> {
     pub end: End,
     /// What happened: the call, or the message that came in. A module that was pushed is its shape as it
     /// was handed in.
-    pub event: Event<Shape<K>>,
+    pub event: Event<BoxedShape<K>>,
     /// The answer. Of a message that came in, `Done` with the reply of a line, or `Broke`.
     pub answer: Answer,
     /// The places that moved.
@@ -49,7 +49,7 @@ impl Who {
 /// The serials of the modules that a call has taken out, topmost first; a refused one takes none.
 pub(crate) fn taken_out<M: ModuleOf>(
     answer: &Answer,
-    back: &ArrayVec<Option<Instance<M>>, MOST_MODULES>,
+    back: &ArrayVec<Option<Boxed<M>>, MOST_MODULES>,
 ) -> ArrayVec<u64, MOST_MODULES>
     ensures { result.items ≡ out_in answer.now back.now.items }
 {

@@ -14,7 +14,7 @@ use arrayvec::ArrayVec;
 use std::alloc::Global;
 use std::marker::Model;
 use strm_head::{Answer, Arrived, Event, Moves, NewFault, Reply, Request, Stream};
-use strm_module::{Instance, ModuleOf, Shape};
+use strm_module::{Boxed, BoxedShape, ModuleOf};
 use strm_msg::{End, Message};
 
 /// A stream that keeps its history.
@@ -79,7 +79,7 @@ impl<M: ModuleOf> Log<M> {
     ///
     /// Room for the entry is found first, and the request is copied for it: where memory is wanting for
     /// that, the call comes back and nothing is changed.
-    pub fn call(&mut self, caller: u32, call: Call<Instance<M>>) -> Called<Instance<M>>
+    pub fn call(&mut self, caller: u32, call: Call<Boxed<M>>) -> Called<Boxed<M>>
         ensures { CallsBy M.Kind.means self.old caller call result self.new }
     {
         match copy_request(self.alloc, &call.request) {
@@ -93,9 +93,9 @@ impl<M: ModuleOf> Log<M> {
     pub fn enter(
         &mut self,
         caller: u32,
-        call: Call<Instance<M>>,
-        copy: Request<Shape<M::Kind>>,
-    ) -> Called<Instance<M>>
+        call: Call<Boxed<M>>,
+        copy: Request<BoxedShape<M::Kind>>,
+    ) -> Called<Boxed<M>>
         requires { copy ≡ call.request }
         ensures { CallsBy M.Kind.means self.old caller call result self.new }
     {

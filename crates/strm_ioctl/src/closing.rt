@@ -11,7 +11,7 @@ use crate::names::names_of;
 use arrayvec::ArrayVec;
 use strm_call::{Reply, deliver};
 use strm_chain::{Chain, ChainFault, Driver, MOST_MODULES, Spot};
-use strm_module::{Instance, ModuleOf};
+use strm_module::{Boxed, ModuleOf};
 use strm_msg::{End, Message};
 
 /// The end to which the hangup goes when an end is closed.
@@ -68,7 +68,7 @@ fn after_close<M: ModuleOf>(chain: &mut Chain<M>, end: End) -> Result<(), ChainF
 pub fn close<M: ModuleOf>(
     chain: &mut Chain<M>,
     end: End,
-    back: &mut ArrayVec<Option<Instance<M>>, MOST_MODULES>,
+    back: &mut ArrayVec<Option<Boxed<M>>, MOST_MODULES>,
 ) -> Result<Reply, ChainFault>
     requires ends { (e : End) → (end_of chain.old.image e).is_open ≡ true → has_end chain.old.image.driver e ≡ true }
     ensures back { back.new.items ≡ map (λ s. Some s) (close_begun M.Kind.means chain.old.image end).out }

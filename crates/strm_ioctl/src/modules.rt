@@ -8,7 +8,7 @@ ghost use Rattle.strm_ioctl.specs.Modules.{push_refusals, pop_refusals, push_beg
 
 use strm_call::{Refusal, Reply, copy_name};
 use strm_chain::Chain;
-use strm_module::{Instance, ModuleOf};
+use strm_module::{Boxed, ModuleOf};
 use strm_msg::End;
 
 /// The first of a push's own refusals that holds: EINVAL where as many modules stand there as may, or
@@ -28,7 +28,7 @@ pub fn push_refusal<M: ModuleOf>(chain: &Chain<M>, end: End) -> Option<Refusal>
 
 /// Puts a module in just below the head, with empty queues (streamio(7), I_PUSH). To be called where
 /// the end has room for one. Takes no memory.
-pub fn push<M: ModuleOf>(chain: &mut Chain<M>, end: End, instance: Instance<M>) -> Reply
+pub fn push<M: ModuleOf>(chain: &mut Chain<M>, end: End, instance: Boxed<M>) -> Reply
     requires { has_room (end_of chain.old.image end) ≡ true }
     ensures reply { result ≡ (push_begun chain.old.image end instance).reply }
     ensures image { chain.new.image ≡ (push_begun chain.old.image end instance).image }
@@ -53,7 +53,7 @@ pub fn pop_refusal<M: ModuleOf>(chain: &Chain<M>, end: End) -> Option<Refusal>
 
 /// Takes the topmost module out, and drops what its queues hold (streamio(7), I_POP). To be called
 /// where a module stands there. The module comes beside the reply. Takes no memory.
-pub fn pop<M: ModuleOf>(chain: &mut Chain<M>, end: End) -> (Reply, Instance<M>)
+pub fn pop<M: ModuleOf>(chain: &mut Chain<M>, end: End) -> (Reply, Boxed<M>)
     requires { is_empty (end_of chain.old.image end).modules ≡ false }
     ensures reply { result.0 ≡ (pop_begun chain.old.image end).reply }
     ensures image { chain.new.image ≡ (pop_begun chain.old.image end).image }

@@ -3,7 +3,7 @@ use std::alloc::Global;
 use std::rt::Clock;
 use std::time::Instant;
 use strm_head::{Driver, Outcome, Priority, Request, Stream, Wanted};
-use strm_module::{Instance, Kind, Plain, Shape};
+use strm_module::{Boxed, Instance, Kind, Plain, Shape};
 use strm_msg::{Bytes, End, NoMem};
 
 /// How often the calls are made.
@@ -129,10 +129,14 @@ fn write(alloc: Global, stream: &mut Stream<Plain>) -> Result<Outcome<Plain>, No
 }
 
 /// Puts eight modules in, whose queues have these marks, if they have any.
-fn push_eight(stream: &mut Stream<Plain>, queues: Option<(u32, u32)>) -> anyhow::Result<()> {
+fn push_eight(
+    alloc: Global,
+    stream: &mut Stream<Plain>,
+    queues: Option<(u32, u32)>,
+) -> anyhow::Result<()> {
     for (serial, name) in NAMES.iter().enumerate() {
         let shape = Shape::new(serial as u64, name, queues, queues, Kind::Pass)?;
-        let instance = Instance::new(shape, Plain);
+        let instance = Boxed::new(alloc, Instance::new(shape, Plain))?;
         stream.apply(End::A, Request::Push { instance });
     }
     Ok(())
@@ -143,8 +147,8 @@ fn made(alloc: Global, trial: &Trial) -> anyhow::Result<Stream<Plain>> {
     let mut stream = Stream::new(alloc, Driver::Echo, trial.marks, trial.marks)?;
     match trial.modules {
         Modules::None => {}
-        Modules::Bare => push_eight(&mut stream, None)?,
-        Modules::Queued(marks) => push_eight(&mut stream, Some(marks))?,
+        Modules::Bare => push_eight(alloc, &mut stream, None)?,
+        Modules::Queued(marks) => push_eight(alloc, &mut stream, Some(marks))?,
     }
     for _ in 0..trial.written {
         write(alloc, &mut stream)?;

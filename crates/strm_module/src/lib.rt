@@ -12,6 +12,7 @@
 #![tactic(auto)]
 
 mod acts;
+mod boxed;
 mod bytes;
 mod eight;
 mod instance;
@@ -23,6 +24,7 @@ mod procedures;
 mod shape;
 mod vocabulary;
 
+pub use boxed::{Boxed, BoxedShape};
 pub use eight::{Band, Count, CrNl, Line, Mute, Pass, Plain, Table, Tee};
 pub use instance::Instance;
 pub use kind::{Kind, MOST_KEPT};

@@ -5,13 +5,13 @@ ghost use Rattle.strm_play.specs.Playing.{setups_of, played_call, played_line, c
 use indexmap::IndexMap;
 use std::alloc::Global;
 use strm_history::{Call, Setup};
-use strm_module::{Instance, Plain};
+use strm_module::{Boxed, Instance, Plain};
 use strm_msg::NoMem;
 use strm_plan::{CallDecl, CallLine, FeedDecl, Name, Plan, ProcessDecl};
 use strm_run::{Feed, Script, ScriptCall};
 
 /// The modules of scripts: each acts by its shape alone.
-pub type Module = Instance<Plain>;
+pub type Module = Boxed<Plain>;
 
 /// What a run is given, and the plan without it.
 #[derive(Drop)]
@@ -38,11 +38,11 @@ fn setups(alloc: Global, streams: &IndexMap<Name, Setup>) -> Result<Vec<Setup>, 
 fn call(alloc: Global, call: CallDecl) -> Result<Call<Module>, NoMem>
     ensures { IfOk result (λ made. made ≡ played_call call) }
 {
-    let Some(shape) = call.push() else {
+    let Some(declared) = call.push() else {
         return Ok(call.plain());
     };
-    let module = Instance::new(shape.copy(alloc)?, Plain);
-    Ok(call.with_module(module))
+    let module = Instance::new(declared.shape().copy(alloc)?, Plain);
+    Ok(call.with_module(Boxed::new(alloc, module)?))
 }
 
 /// The calls of a process, in order. Refused for want of memory alone.

@@ -12,7 +12,7 @@ use crate::record::Record;
 use arrayvec::ArrayVec;
 use std::alloc::Global;
 use std::marker::Model;
-use strm_module::{Instance, ModuleOf, Outs, Shape};
+use strm_module::{Boxed, ModuleOf, Outs, Shape};
 use strm_msg::{Message, NoMem, Prot, ReadMode, Side};
 use strm_queue::{BandQueue, Marks};
 
@@ -105,7 +105,7 @@ impl<M: ModuleOf> StreamEnd<M> {
 
     /// Puts a module just below the head, with empty queues. To be called where `has_room`. Takes no
     /// memory.
-    pub fn insert(&mut self, alloc: Global, instance: Instance<M>)
+    pub fn insert(&mut self, alloc: Global, instance: Boxed<M>)
         requires { has_room self.old.state ≡ true }
         ensures { self.new ≡ record self.old { state = inserted self.old.state instance } }
     {
@@ -116,7 +116,7 @@ impl<M: ModuleOf> StreamEnd<M> {
     }
 
     /// Takes the topmost module out, and drops what its queues hold. Takes no memory.
-    pub fn remove(&mut self) -> Option<Instance<M>>
+    pub fn remove(&mut self) -> Option<Boxed<M>>
         ensures some { IfSome result (λ it. shapes_of self.old.state ≡ it ∷ shapes_of self.new.state) }
         ensures none { IfNone result (self.old.state.modules ≡ []) }
         ensures end { self.new ≡ record self.old { state = removed self.old.state } }
@@ -129,7 +129,7 @@ impl<M: ModuleOf> StreamEnd<M> {
 
     /// Takes all modules out, topmost first, drops what their queues and the head's list hold, and
     /// closes the end (close(2)). The driver's list stays. Takes no memory, and no list loses room.
-    pub fn close(&mut self) -> ArrayVec<Option<Instance<M>>, MOST_MODULES>
+    pub fn close(&mut self) -> ArrayVec<Option<Boxed<M>>, MOST_MODULES>
         ensures instances { result.items ≡ map (λ s. Some s.shape) self.old.state.modules }
         ensures state { self.new.state ≡ closed self.old.state }
         ensures head_room { KeepsRoom self.old.head_room self.new.head_room }
@@ -192,9 +192,7 @@ impl<M: ModuleOf> StreamEnd<M> {
 }
 
 /// Takes all modules out, topmost first, and drops what their queues hold.
-fn take_modules<M: ModuleOf>(
-    pairs: &mut Vec<Pair<M>>,
-) -> ArrayVec<Option<Instance<M>>, MOST_MODULES>
+fn take_modules<M: ModuleOf>(pairs: &mut Vec<Pair<M>>) -> ArrayVec<Option<Boxed<M>>, MOST_MODULES>
     requires { length pairs.old.items ≤ MOST_MODULES }
     ensures instances { result.items ≡ map (λ s. Some s.shape) pairs.old.items }
     ensures none { pairs.new.items ≡ [] }

@@ -8,14 +8,14 @@ ghost use Rattle.strm_qpair.specs.Canput.{fill_of, fill_on};
 
 use std::alloc::Global;
 use std::marker::Model;
-use strm_module::{Instance, ModuleOf, Outs, Put, Shape};
+use strm_module::{Boxed, ModuleOf, Outs, Put, Shape};
 use strm_msg::{Message, MsgKind, NoMem, Side};
 use strm_queue::{BandQueue, Marks};
 
 /// A module with its two queues: one on each side for which its shape has marks.
 #[derive(Drop)]
 pub(crate) struct Pair<M: ModuleOf> {
-    instance: Instance<M>,
+    instance: Boxed<M>,
     rd: Option<BandQueue>,
     wr: Option<BandQueue>,
 }
@@ -90,7 +90,7 @@ fn take_front(queue: &mut Option<BandQueue>) -> Option<Message>
 
 impl<M: ModuleOf> Pair<M> {
     /// A module with empty queues. Takes no memory.
-    pub(crate) fn new(alloc: Global, instance: Instance<M>) -> Pair<M>
+    pub(crate) fn new(alloc: Global, instance: Boxed<M>) -> Pair<M>
         ensures value { result ≡ fresh_pair instance }
         ensures fit { is_fit_module (identity_of instance) ≡ true }
         ensures waits { waits_well result ≡ true }
@@ -108,7 +108,7 @@ impl<M: ModuleOf> Pair<M> {
     }
 
     /// The module, without its queues.
-    pub(crate) fn into_instance(self) -> Instance<M>
+    pub(crate) fn into_instance(self) -> Boxed<M>
         ensures { result ≡ self.shape }
     {
         let Pair {

@@ -4,7 +4,7 @@ use Rattle.std.specs.Mem.{FitsInMemory}
 use denote.RattleType.{RattleType}
 use Rattle.strm_module.specs.declared.shape.Shape.{Shape}
 use Rattle.strm_module.specs.declared.vocabulary.Kinds.{Ghosts}
-use Rattle.strm_module.specs.contracts.instance.Instance as instance
+use Rattle.strm_module.specs.contracts.boxed.Boxed as boxed
 use Rattle.strm_history.specs.contracts.call.Called as called
 use Rattle.strm_history.specs.declared.setup.Setup.{Setup}
 use Rattle.strm_run.specs.declared.script.Script.{Script}
@@ -12,7 +12,7 @@ use Rattle.strm_run.specs.declared.script.Feed.{Feed}
 
 -- what becomes of a call fits into memory, as each type does that a compiler takes: for modules and kinds of these types
 abbrev pub CallsFit : (M K : RattleType) → Ghosts K.Denot → Type 0
-CallsFit M K kinds = FitsInMemory (called.the_row (instance.the_row M K kinds))
+CallsFit M K kinds = FitsInMemory (called.the_row (boxed.the_row M K kinds))
 
 -- what a run is about: how its streams are made, the scripts of its callers, and what its lines are fed
 pub record RunValue (K : Type 0) : Type 0 where

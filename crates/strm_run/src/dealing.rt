@@ -9,7 +9,7 @@ use std::alloc::Global;
 use std::collections::VecDeque;
 use std::mem;
 use strm_head::Answer;
-use strm_module::{Instance, ModuleOf};
+use strm_module::{Boxed, ModuleOf};
 use strm_msg::NoMem;
 use strm_shared::Seat;
 
@@ -28,7 +28,7 @@ fn no_answers(alloc: Global, streams: usize) -> Result<Vec<VecDeque<Answer>>, No
 /// The callers of a run, in order, each with its script and its seats. Refused for want of memory alone.
 pub(crate) fn seated<M: ModuleOf, N: Plays<M::Kind>>(
     alloc: Global,
-    scripts: Vec<Script<Instance<M>>>,
+    scripts: Vec<Script<Boxed<M>>>,
     mut seats: Vec<Vec<Seat>>,
     streams: usize,
 ) -> Result<Vec<Player<M, N>>, NoMem>

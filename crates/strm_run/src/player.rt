@@ -13,7 +13,7 @@ use std::marker::{Model, PhantomData};
 use std::sync::Wait;
 use strm_head::Answer;
 use strm_history::{Call, Called};
-use strm_module::{Instance, ModuleOf};
+use strm_module::{Boxed, ModuleOf};
 use strm_msg::NoMem;
 use strm_shared::{Seat, Shared};
 
@@ -21,7 +21,7 @@ use strm_shared::{Seat, Shared};
 #[derive(Drop)]
 pub(crate) struct Player<M: ModuleOf, N: Plays<M::Kind>> {
     caller: u32,
-    calls: Vec<ScriptCall<Instance<M>>>,
+    calls: Vec<ScriptCall<Boxed<M>>>,
     seats: Vec<Seat>,
     answers: Vec<VecDeque<Answer>>,
     of: PhantomData<N>,
@@ -60,10 +60,7 @@ impl<K, N: Plays<K>> Model for Played<K, N> {
 
 /// Keeps the answer of a call that was made. The modules that came back are dropped, and so is a call
 /// that was not made.
-fn keep<M: ModuleOf>(
-    answers: &mut VecDeque<Answer>,
-    called: Called<Instance<M>>,
-) -> Result<(), NoMem>
+fn keep<M: ModuleOf>(answers: &mut VecDeque<Answer>, called: Called<Boxed<M>>) -> Result<(), NoMem>
     ensures done { OnOk result (is_done called ≡ true) }
     ensures told { OnOk result (answers.new.items ≡ answers.old.items ++ told_of called) }
 {
@@ -84,7 +81,7 @@ fn call_on<M: ModuleOf, N: Plays<M::Kind>, R: Wait>(
     shared: &Shared<M, Of<N>>,
     seat: &mut Seat,
     answers: &mut VecDeque<Answer>,
-    call: Call<Instance<M>>,
+    call: Call<Boxed<M>>,
 ) -> Result<(), NoMem>
     requires fits { CallsDoFit M.row M.Kind.row M.Kind.Kinds }
     requires number { seat.old.number ≡ shared.now.number }
@@ -98,7 +95,7 @@ impl<M: ModuleOf, N: Plays<M::Kind>> Player<M, N> {
     /// A caller that has its whole script left.
     pub(crate) fn new(
         caller: u32,
-        calls: Vec<ScriptCall<Instance<M>>>,
+        calls: Vec<ScriptCall<Boxed<M>>>,
         seats: Vec<Seat>,
         answers: Vec<VecDeque<Answer>>,
     ) -> Player<M, N>

@@ -25,14 +25,14 @@ use std::marker::Brand;
 use std::sync::Wait;
 use std::thread::Threads;
 use strm_history::Setup;
-use strm_module::{Instance, ModuleOf};
+use strm_module::{Boxed, ModuleOf};
 
 /// A run of which all is there, under its name.
 fn run_named<M: ModuleOf, N: Plays<M::Kind> + Send + Sync, R: Threads + Wait + Sync, G: Gate>(
     rt: &R,
     alloc: Global,
     setups: Vec<Setup>,
-    scripts: Vec<Script<Instance<M>>>,
+    scripts: Vec<Script<Boxed<M>>>,
     feeds: Vec<Feed>,
     workers: u32,
     gate: &G,
@@ -84,7 +84,7 @@ pub fn run<M: ModuleOf, R: Threads + Wait + Sync, G: Gate>(
     rt: &R,
     alloc: Global,
     setups: Vec<Setup>,
-    scripts: Vec<Script<Instance<M>>>,
+    scripts: Vec<Script<Boxed<M>>>,
     feeds: Vec<Feed>,
     workers: u32,
     gate: &G,

@@ -9,7 +9,7 @@ use std::thread;
 use std::thread::Threads;
 use strm_head::{Answer, Driver, Event, Reply, Request};
 use strm_history::{Call, Entry, Setup, Who};
-use strm_module::{Instance, Kind, ModuleOf, Plain};
+use strm_module::{Boxed, Kind, ModuleOf, Plain};
 use strm_msg::{Bytes, End, Message};
 use strm_run::{
     Feed, Gate, RunFault, Script, ScriptCall, StreamLog, Transcript, are_from_line, are_setups, run,
@@ -69,7 +69,7 @@ fn write<M: ModuleOf>(
     stream: u32,
     end: End,
     dat: &[u8],
-) -> ScriptCall<Instance<M>> {
+) -> ScriptCall<Boxed<M>> {
     let request = Request::Write {
         dat: bytes(rt, alloc, dat),
     };
@@ -80,7 +80,7 @@ fn write<M: ModuleOf>(
 }
 
 /// A call by which a caller asks this at end A.
-fn ask<M: ModuleOf>(stream: u32, request: Request<Instance<M>>) -> ScriptCall<Instance<M>> {
+fn ask<M: ModuleOf>(stream: u32, request: Request<Boxed<M>>) -> ScriptCall<Boxed<M>> {
     let end = End::A;
     ScriptCall {
         stream,
@@ -93,7 +93,7 @@ fn run_of<G: Gate, R: Abort + Threads + Wait + Sync>(
     rt: &R,
     alloc: Global,
     setups: Vec<Setup>,
-    scripts: Vec<Script<Instance<Plain>>>,
+    scripts: Vec<Script<Boxed<Plain>>>,
     feeds: Vec<Feed>,
     workers: u32,
     gate: &G,

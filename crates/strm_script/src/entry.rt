@@ -14,9 +14,10 @@ use std::io::{self, Write};
 use strm_call::Request;
 use strm_head::Event;
 use strm_history::{Entry, Who};
-use strm_module::{Kind, Shape};
+use strm_module::Kind;
 use strm_msg::End;
 use strm_plan::ProcessDecl;
+use strm_verb::PushDecl;
 
 /// The word of an end.
 pub(crate) fn end_word(end: End) -> &'static [u8]
@@ -65,7 +66,7 @@ fn put_call<W: Write>(
     w: &mut W,
     stream: &[u8],
     end: End,
-    request: &Request<Shape>,
+    request: &Request<PushDecl>,
 ) -> io::Result<()>
     ensures { OnOk result (Appends (W.contents w.old) (W.contents w.new) (text.call_text stream.now end request.now)) }
 {
@@ -75,7 +76,12 @@ fn put_call<W: Write>(
 }
 
 /// Writes what happened: a call, or the message that came in.
-fn put_event<W: Write>(w: &mut W, stream: &[u8], end: End, event: &Event<Shape>) -> io::Result<()>
+fn put_event<W: Write>(
+    w: &mut W,
+    stream: &[u8],
+    end: End,
+    event: &Event<PushDecl>,
+) -> io::Result<()>
     ensures { OnOk result (Appends (W.contents w.old) (W.contents w.new) (text.event_text stream.now end event.now)) }
 {
     match event {

@@ -91,7 +91,7 @@ pub(crate) fn put_fields<W: Write>(w: &mut W, request: &Request<PushDecl>) -> io
         }
         Request::Read { max } => put_number(w, u64::from(*max)),
         Request::Write { dat } => put_part(w, dat.as_slice()),
-        Request::Push { instance } => put_module(w, instance),
+        Request::Push { instance } => put_module(w, instance.shape()),
         Request::Find { name } => put_part(w, name.as_slice()),
         Request::Str { cmd, dat } => {
             put_number(w, u64::from(*cmd))?;

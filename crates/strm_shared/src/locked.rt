@@ -14,7 +14,7 @@ use std::alloc::Global;
 use std::marker::{Model, PhantomData};
 use strm_head::Request;
 use strm_history::{Call, Called, Landed, Log, Setup};
-use strm_module::{Instance, ModuleOf, Shape};
+use strm_module::{Boxed, BoxedShape, ModuleOf};
 use strm_msg::{Message, NoMem};
 
 /// What stands under the lock of a shared stream: the number of the stream, the stream with its history, and
@@ -80,9 +80,9 @@ impl<M: ModuleOf, N: Runs<M::Kind>> Locked<M, N> {
     pub(crate) fn call(
         &mut self,
         seat: &mut Seat,
-        call: Call<Instance<M>>,
-        copy: Request<Shape<M::Kind>>,
-    ) -> Called<Instance<M>>
+        call: Call<Boxed<M>>,
+        copy: Request<BoxedShape<M::Kind>>,
+    ) -> Called<Boxed<M>>
         requires same { copy ≡ call.request }
         requires next { IsNextOf (N.calls seat.old.number seat.old.caller) seat.old.calls (call.end, Asked call.request) }
         ensures number { self.new.number ≡ self.old.number }

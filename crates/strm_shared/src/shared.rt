@@ -19,7 +19,7 @@ use std::marker::Model;
 use std::sync::{Mutex, Wait};
 use strm_head::Stream;
 use strm_history::{Call, Called, Entry, Landed, Setup, copy_request};
-use strm_module::{Instance, ModuleOf};
+use strm_module::{Boxed, ModuleOf};
 use strm_msg::{Message, NoMem};
 
 /// A stream that several callers share.
@@ -133,12 +133,7 @@ impl<M: ModuleOf, N: Runs<M::Kind>> Shared<M, N> {
     /// To be called with a seat of this number, and with the call that the run has next for it; in a run of
     /// `AnyCalls` any is. Modules that come back are the caller's, and are not
     /// dropped under the lock.
-    pub fn call<R: Wait>(
-        &self,
-        rt: &R,
-        seat: &mut Seat,
-        call: Call<Instance<M>>,
-    ) -> Called<Instance<M>>
+    pub fn call<R: Wait>(&self, rt: &R, seat: &mut Seat, call: Call<Boxed<M>>) -> Called<Boxed<M>>
         requires number { seat.old.number ≡ self.now.number }
         requires next { IsNextOf (N.calls seat.old.number seat.old.caller) seat.old.calls (call.end, Asked call.request) }
         ensures counts { Counted call seat.old result seat.new }

@@ -9,7 +9,7 @@ use std::process::Abort;
 use std::sync::Wait;
 use strm_head::{Answer, Driver, Event, Refusal, Reply, Request};
 use strm_history::{Call, Called, Entry, Setup, Who};
-use strm_module::{Instance, Kind, Plain, Shape};
+use strm_module::{Boxed, Instance, Kind, Plain, Shape};
 use strm_msg::{Bytes, End, Errno, Message};
 use strm_shared::{EndFault, Ended, FeedEnd, Feeder, Seat, Shared, SharedFault};
 
@@ -48,18 +48,17 @@ fn bytes(rt: &impl Abort, alloc: Global, bytes: &[u8]) -> Bytes {
     Bytes::from_slice(alloc, bytes).expect(rt, "no memory")
 }
 
-fn write(rt: &impl Abort, alloc: Global, dat: &[u8]) -> Request<Instance<Plain>> {
+fn write(rt: &impl Abort, alloc: Global, dat: &[u8]) -> Request<Boxed<Plain>> {
     Request::Write {
         dat: bytes(rt, alloc, dat),
     }
 }
 
 /// A push of a module that passes everything on, of this serial.
-fn push(rt: &impl Abort, serial: u64) -> Request<Instance<Plain>> {
+fn push(rt: &impl Abort, alloc: Global, serial: u64) -> Request<Boxed<Plain>> {
     let shape = Shape::new(serial, b"pass", None, None, Kind::Pass).expect(rt, "a good name");
-    Request::Push {
-        instance: Instance::new(shape, Plain),
-    }
+    let instance = Boxed::new(alloc, Instance::new(shape, Plain)).expect(rt, "no memory");
+    Request::Push { instance }
 }
 
 /// What a call on an end answers, and the serials of the modules that come back.
@@ -68,7 +67,7 @@ fn called<R: Abort + Wait>(
     shared: &Shared<Plain>,
     seat: &mut Seat,
     end: End,
-    request: Request<Instance<Plain>>,
+    request: Request<Boxed<Plain>>,
 ) -> (Answer, [Option<u64>; 2]) {
     assert!(rt; seat.number() == shared.number());
     match shared.call(rt, seat, Call { end, request }) {
@@ -78,7 +77,7 @@ fn called<R: Abort + Wait>(
 }
 
 /// The serials of the first two modules.
-fn serials_of(back: &[Option<Instance<Plain>>]) -> [Option<u64>; 2] {
+fn serials_of(back: &[Option<Boxed<Plain>>]) -> [Option<u64>; 2] {
     [0, 1].map(|i| match back.get(i) {
         Some(Some(module)) => Some(module.shape().serial),
         _ => None,
@@ -90,7 +89,7 @@ fn answer<R: Abort + Wait>(
     rt: &R,
     shared: &Shared<Plain>,
     seat: &mut Seat,
-    request: Request<Instance<Plain>>,
+    request: Request<Boxed<Plain>>,
 ) -> Answer {
     let (answer, _) = called(rt, shared, seat, End::A, request);
     answer

@@ -9,13 +9,13 @@ use crate::fault::{Cause, ReadError};
 use crate::field::{byte_at, part_at, side_at};
 use arrayvec::ArrayVec;
 use std::alloc::Global;
-use strm_module::{Kind, LONGEST_NAME, Shape};
+use strm_module::{BoxedShape, Kind, LONGEST_NAME, Shape};
 use strm_msg::Bytes;
 use strm_text::name;
 
 /// The module that a push line declares: its serial, its name, its marks, and the kind with which
 /// it begins.
-pub type PushDecl = Shape;
+pub type PushDecl = BoxedShape;
 
 /// The kind of a module, by its word alone.
 #[derive(Clone, Copy, Debug, PartialEq, Eq)]
@@ -240,7 +240,7 @@ fn name_at(text: &[u8]) -> Result<ArrayVec<u8, LONGEST_NAME>, ReadError>
 
 /// The module of KIND NAME RD WR and the fields of its kind. Refused, from left to right, for the
 /// first field that does not say what it should.
-pub(crate) fn shape_at(alloc: Global, serial: u64, texts: &[&[u8]]) -> Result<PushDecl, ReadError>
+pub(crate) fn shape_at(alloc: Global, serial: u64, texts: &[&[u8]]) -> Result<Shape, ReadError>
     ensures { Gives (λ shape. shape) result (pushes.shape_at serial (map (λ text. text.now) texts.now)) }
 {
     let [kind, chosen, rd, wr, own @ ..] = texts else {

@@ -202,7 +202,7 @@ fn ckband(texts: &[&[u8]]) -> Result<Request<PushDecl>, ReadError>
 fn push(alloc: Global, serial: u64, texts: &[&[u8]]) -> Result<Request<PushDecl>, ReadError>
     ensures { Gives table.asked_of result (table.request_at serial Verb.Push (map (λ text. text.now) texts.now)) }
 {
-    let instance = shape_at(alloc, serial, texts)?;
+    let instance = PushDecl::new(alloc, shape_at(alloc, serial, texts)?)?;
     Ok(Request::Push { instance })
 }
 

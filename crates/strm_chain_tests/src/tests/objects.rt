@@ -10,7 +10,7 @@ use std::process::Abort;
 use std::sync::Arc;
 use std::sync::atomic::{AtomicU64, Ordering};
 use strm_chain::{Chain, Driver, Spot};
-use strm_module::{Instance, Kind, Module, Outs, Pass, Put, Shape};
+use strm_module::{Boxed, Instance, Kind, Module, Outs, Pass, Put, Shape};
 use strm_msg::{End, Message, NoMem, Side};
 
 /// What was asked of the objects 1 to 3, in order, a digit for each call: the object's number where
@@ -150,7 +150,7 @@ fn with_object(
     log: &Log,
     (serial, number): (u64, u64),
     object: Object,
-) -> Instance<Box<dyn Module>> {
+) -> Boxed<Box<dyn Module>> {
     let (refused_put, refused_serve) = object.refuses;
     let told = Told {
         number,
@@ -159,18 +159,19 @@ fn with_object(
         refused_serve,
     };
     let boxed: Box<dyn Module> = Box::new(alloc, told).expect(rt, "no memory for a box");
-    Instance::new(shape_of(rt, serial, object.part, object.queues), boxed)
+    let instance = Instance::new(shape_of(rt, serial, object.part, object.queues), boxed);
+    Boxed::new(alloc, instance).expect(rt, "no memory for a box")
 }
 
 /// A module that passes everything on, with a queue on its way down.
-fn passing(rt: &impl Abort, alloc: Global, serial: u64) -> Instance<Box<dyn Module>> {
+fn passing(rt: &impl Abort, alloc: Global, serial: u64) -> Boxed<Box<dyn Module>> {
     let pass = Pass::new(serial, b"pass", None, Some(FIVE)).expect(rt, "a good name");
     let shape = pass.shape().copy(alloc).expect(rt, "no memory for a shape");
     let boxed: Box<dyn Module> = Box::new(alloc, pass.into_object()).expect(
         rt,
         "no memory for a box",
     );
-    Instance::new(shape, boxed)
+    Boxed::new(alloc, Instance::new(shape, boxed)).expect(rt, "no memory for a box")
 }
 
 /// Hands a module in that comes back, with nothing closed.
@@ -179,7 +180,7 @@ fn comes_back(
     log: &Log,
     end: End,
     serial: u64,
-    instance: Instance<Box<dyn Module>>,
+    instance: Boxed<Box<dyn Module>>,
 ) -> bool {
     let before = logged(log);
     match chain.insert(end, instance) {
@@ -197,7 +198,7 @@ fn has_counted(chain: &Boxes, n: u64) -> bool {
 }
 
 /// Whether this is the module of a serial, with nothing closed since.
-fn is_whole(log: &Log, before: u64, instance: &Instance<Box<dyn Module>>, serial: u64) -> bool {
+fn is_whole(log: &Log, before: u64, instance: &Boxed<Box<dyn Module>>, serial: u64) -> bool {
     instance.shape().serial == serial && logged(log) == before
 }
 
@@ -207,7 +208,7 @@ fn removes(chain: &mut Boxes, log: &Log, serial: u64) -> bool {
     match chain.remove(End::A) {
         Some(instance) => {
             let is_so = is_whole(log, before, &instance, serial);
-            drop(instance.into_object());
+            drop(instance.into_instance().into_object());
             is_so
         }
         None => false,
@@ -233,15 +234,11 @@ fn clears(chain: &mut Boxes, log: &Log, end: End, want: usize) -> bool {
 }
 
 /// A module that came out is the one of this serial, and its object is dropped.
-fn closes(
-    log: &Log,
-    instance: Option<Instance<Box<dyn Module>>>,
-    (serial, want): (u64, u64),
-) -> bool {
+fn closes(log: &Log, instance: Option<Boxed<Box<dyn Module>>>, (serial, want): (u64, u64)) -> bool {
     match instance {
         Some(instance) => {
             let is_so = instance.shape().serial == serial;
-            drop(instance.into_object());
+            drop(instance.into_instance().into_object());
             is_so && logged(log) == want
         }
         None => false,

@@ -5,7 +5,7 @@ use std::alloc::Global;
 use std::process::Abort;
 use strm_head::{Answer, Driver, Event, NewFault, Reply, Request, Stream};
 use strm_history::{Called, Entry, Landed, Log, Setup, Who};
-use strm_module::{Instance, Kind, Plain, Shape};
+use strm_module::{Boxed, BoxedShape, Kind, Plain};
 use strm_msg::End;
 
 /// The number of the caller of a row: there are five callers.
@@ -23,10 +23,10 @@ fn low_marks_are_below_high_ones(rt: HostRuntime) {
 }
 
 /// Looks at the event of a call: a push has a module of this serial.
-fn is_asked(rt: &impl Abort, event: &Event<Shape<Kind>>, call: Call, at: usize) {
+fn is_asked(rt: &impl Abort, event: &Event<BoxedShape<Kind>>, call: Call, at: usize) {
     match (event, call) {
         (Event::Asked(Request::Push { instance }), Call::Push(_, _)) => {
-            assert_eq!(rt; instance.serial, at as u64, "row {at}");
+            assert_eq!(rt; instance.shape().serial, at as u64, "row {at}");
         }
         (_, Call::Push(_, _)) => assert!(rt; false, "row {at} is no push"),
         (Event::Asked(_), _) => {}
@@ -102,7 +102,7 @@ fn entered(
 fn answered(
     rt: &impl Abort,
     alloc: Global,
-    called: Called<Instance<Plain>>,
+    called: Called<Boxed<Plain>>,
     want: Want,
     back: &[u64],
     at: usize,

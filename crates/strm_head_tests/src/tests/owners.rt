@@ -4,7 +4,7 @@ use std::process::Abort;
 use std::sync::Arc;
 use std::sync::atomic::{AtomicU64, Ordering};
 use strm_head::{Answer, Driver, Outcome, Refusal, Request, Stream};
-use strm_module::{Instance, Kind, Module, Shape};
+use strm_module::{Boxed, Instance, Kind, Module, Shape};
 use strm_msg::End;
 
 type Boxes = Stream<Box<dyn Module>>;
@@ -56,12 +56,11 @@ fn push(
     };
     let object: Box<dyn Module> = Box::new(alloc, told).expect(rt, "no memory for a box");
     let shape = Shape::new(number, b"m", None, None, Kind::Pass).expect(rt, "a good name");
-    stream.apply(
-        End::A,
-        Request::Push {
-            instance: Instance::new(shape, object),
-        },
-    )
+    let instance = Boxed::new(alloc, Instance::new(shape, object)).expect(
+        rt,
+        "no memory for a box",
+    );
+    stream.apply(End::A, Request::Push { instance })
 }
 
 /// The serials of the first three modules that came back, topmost first.

@@ -7,7 +7,7 @@ use denote.Param.{layout}
 use Rattle.strm_msg.specs.Message.{Msg}
 use Rattle.strm_module.specs.declared.shape.Shape.{Shape}
 use Rattle.strm_module.specs.declared.vocabulary.Kinds.{Ghosts}
-use Rattle.strm_module.specs.contracts.instance.Instance as instance
+use Rattle.strm_module.specs.contracts.boxed.Boxed as boxed
 use Rattle.strm_history.specs.contracts.call.Called as called
 use Rattle.strm_history.specs.declared.call.Called.{Called}
 use Rattle.strm_history.specs.declared.call.Called.TheVariants.{Done, NoRoom}
@@ -26,7 +26,7 @@ Fits of = size of < 2 ^ 63
 
 -- what becomes of a call does (`CallsFit`), passed on
 abbrev pub CallsDoFit : (M K : RattleType) → Ghosts K.Denot → Type 0
-CallsDoFit M K kinds = Fits (layout (called.the_row (instance.the_row M K kinds)))
+CallsDoFit M K kinds = Fits (layout (called.the_row (boxed.the_row M K kinds)))
 
 -- what a call that was made tells: its answer
 abbrev pub told_of : {P : Type 0} → Called P → List Answer

@@ -4,7 +4,7 @@ use super::{
     Gate, Global, Message, OnceLock, Request, Script, are_from_line, are_setups, ask, log, run,
     wait_for,
 };
-use strm_module::{Instance, Kind, Module, Put, Shape};
+use strm_module::{Boxed, Instance, Kind, Module, Put, Shape};
 use strm_msg::{NoMem, Side};
 
 /// A message came to the module, or a caller waited for it in vain.
@@ -54,7 +54,10 @@ fn a_caller_can_wait_for_what_comes_in(rt: HostRuntime) {
         late: OnceLock::new(),
     };
     let shape = Shape::new(1, b"see", None, None, Kind::Pass).expect(&rt, "a good name");
-    let instance = Instance::new(shape, Seeing { seen: &seen });
+    let instance = Boxed::new(alloc, Instance::new(shape, Seeing { seen: &seen })).expect(
+        &rt,
+        "no memory",
+    );
     let calls = vec![in alloc;
         ask(0, Request::Push { instance }),
         ask(0, Request::Read { max: 8 }),

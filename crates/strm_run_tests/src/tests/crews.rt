@@ -1,13 +1,13 @@
 //! Many callers, played by one worker and by many.
 use super::{
-    Abort, ECHO, End, Entry, Global, Instance, Kind, Open, Plain, Script, Threads, Wait, log,
-    run_of, write, wrote,
+    Abort, Boxed, ECHO, End, Entry, Global, Kind, Open, Plain, Script, Threads, Wait, log, run_of,
+    write, wrote,
 };
 
 /// The calls that each caller makes: the stream, and what it writes there.
 const CALLS: [(u32, &[u8]); 5] = [(0, b"a"), (1, b"bb"), (1, b"c"), (0, b"dd"), (1, b"e")];
 
-fn calls_of(rt: &impl Abort, alloc: Global) -> Script<Instance<Plain>> {
+fn calls_of(rt: &impl Abort, alloc: Global) -> Script<Boxed<Plain>> {
     let mut calls = vec![in alloc].expect(rt, "no memory");
     for (stream, dat) in CALLS {
         calls

@@ -1,6 +1,6 @@
 //! Runs that are refused before a thread starts.
 use super::{
-    Abort, Driver, ECHO, End, Feed, Global, Instance, Open, Plain, RunFault, Script, ScriptCall,
+    Abort, Boxed, Driver, ECHO, End, Feed, Global, Open, Plain, RunFault, Script, ScriptCall,
     Setup, Threads, Wait, run_of, write,
 };
 
@@ -17,7 +17,7 @@ fn fault<R: Abort + Threads + Wait + Sync>(
     rt: &R,
     alloc: Global,
     workers: u32,
-    call: ScriptCall<Instance<Plain>>,
+    call: ScriptCall<Boxed<Plain>>,
     fed: &[u32],
 ) -> Option<RunFault> {
     let setups = vec![in alloc; ECHO, LINE].expect(rt, "no memory");

@@ -1,7 +1,7 @@
 //! When a gate is called.
 use super::{ECHO, End, Gate, Global, Request, Script, are_setups, ask, log, run, write};
 use std::sync::atomic::{AtomicU64, Ordering};
-use strm_module::{Instance, Kind, Module, Shape};
+use strm_module::{Boxed, Instance, Kind, Module, Shape};
 
 /// Writes digits behind those that stand there, where `shift` is the power of ten that makes room for them.
 fn note(done: &AtomicU64, shift: u64, digits: u64) {
@@ -53,7 +53,10 @@ fn a_gate_is_called_round_each_call_and_what_comes_back_is_dropped_within(rt: Ho
     let alloc: Global = rt.alloc();
     let done = AtomicU64::new(0);
     let shape = Shape::new(1, b"note", None, None, Kind::Pass).expect(&rt, "a good name");
-    let instance = Instance::new(shape, Watched { done: &done });
+    let instance = Boxed::new(alloc, Instance::new(shape, Watched { done: &done })).expect(
+        &rt,
+        "no memory",
+    );
     let push = ask(0, Request::Push { instance });
     let p = vec![in alloc; push].expect(&rt, "no memory");
     let q = vec![in alloc; write(&rt, alloc, 1, End::A, b"q"), ask(0, Request::Pop)].expect(

@@ -1,13 +1,13 @@
 //! A long script.
 use super::{
-    Abort, Answer, Call, ECHO, End, Global, Instance, Open, Plain, Reply, Request, Script,
-    ScriptCall, log, run_of, write,
+    Abort, Answer, Boxed, Call, ECHO, End, Global, Open, Plain, Reply, Request, Script, ScriptCall,
+    log, run_of, write,
 };
 
 /// How many calls the script has.
 const CALLS: usize = 65_536;
 
-fn read(end: End) -> ScriptCall<Instance<Plain>> {
+fn read(end: End) -> ScriptCall<Boxed<Plain>> {
     ScriptCall {
         stream: 0,
         call: Call {
@@ -18,7 +18,7 @@ fn read(end: End) -> ScriptCall<Instance<Plain>> {
 }
 
 /// Writes and reads in turn.
-fn long_script(rt: &impl Abort, alloc: Global) -> Script<Instance<Plain>> {
+fn long_script(rt: &impl Abort, alloc: Global) -> Script<Boxed<Plain>> {
     let mut calls = Vec::with_capacity(alloc, CALLS).expect(rt, "no memory");
     for _ in 0..CALLS / 2 {
         let written = write(rt, alloc, 0, End::A, b"abc");

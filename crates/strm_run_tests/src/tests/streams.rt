@@ -3,7 +3,7 @@ use super::{
     Abort, Call, ECHO, End, Gate, Global, Message, OnceLock, Request, Script, ScriptCall, Threads,
     Wait, are_setups, log, run, wait_for, write,
 };
-use strm_module::{Instance, Kind, Module, Put, Shape};
+use strm_module::{Boxed, Instance, Kind, Module, Put, Shape};
 use strm_msg::{NoMem, Side};
 
 /// What was done in a run of two callers: the first stands in its module, the second has its answer, and
@@ -58,13 +58,15 @@ fn is_apart<R: Abort + Threads + Wait + Sync>(rt: &R, alloc: Global, one: u32, o
         late: OnceLock::new(),
     };
     let shape = Shape::new(1, b"wait", None, None, Kind::Pass).expect(rt, "a good name");
+    let instance = Boxed::new(alloc, Instance::new(shape, Waiting { done: &done })).expect(
+        rt,
+        "no memory",
+    );
     let push = ScriptCall {
         stream: one,
         call: Call {
             end: End::A,
-            request: Request::Push {
-                instance: Instance::new(shape, Waiting { done: &done }),
-            },
+            request: Request::Push { instance },
         },
     };
     let first = vec![in alloc; push, write(rt, alloc, one, End::A, b"x")].expect(rt, "no memory");

@@ -1,6 +1,6 @@
 //! A run for which no thread can be had.
 use super::{
-    Abort, ECHO, End, Global, Instance, Open, Plain, RunFault, Script, Setup, log, run_of, write,
+    Abort, Boxed, ECHO, End, Global, Open, Plain, RunFault, Script, Setup, log, run_of, write,
 };
 
 /// The most pieces, and the sizes of the greatest and of the smallest, in bytes, in which the address
@@ -28,7 +28,7 @@ fn fill(rt: &impl Abort, alloc: Global) -> Vec<Vec<u8>> {
     taken
 }
 
-fn one_script(rt: &impl Abort, alloc: Global) -> (Vec<Setup>, Vec<Script<Instance<Plain>>>) {
+fn one_script(rt: &impl Abort, alloc: Global) -> (Vec<Setup>, Vec<Script<Boxed<Plain>>>) {
     let calls = vec![in alloc; write(rt, alloc, 0, End::A, b"x")].expect(rt, "no memory");
     let scripts = vec![in alloc; Script { calls }].expect(rt, "no memory");
     (vec![in alloc; ECHO].expect(rt, "no memory"), scripts)

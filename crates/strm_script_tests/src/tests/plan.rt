@@ -5,7 +5,7 @@ use arrayvec::ArrayVec;
 use strm_call::Request;
 use strm_head::Driver;
 use strm_history::Setup;
-use strm_module::Kind;
+use strm_module::{Kind, Shape};
 use strm_msg::{End, MsgKind};
 use strm_plan::{CallDecl, CallLine, FeedDecl, Plan, ProcessDecl, PushDecl};
 
@@ -62,7 +62,7 @@ fn is_call(line: Option<&CallLine>, stream: u32, end: End, serial: Option<u64>) 
     let Some(line) = line else {
         return false;
     };
-    let found = line.call.push().map(|shape| shape.serial);
+    let found = line.call.push().map(|declared| declared.shape().serial);
     line.stream == stream && line.call.end == end && found == serial
 }
 
@@ -130,16 +130,17 @@ fn a_flush_is_a_call_in_a_process_and_a_message_in_a_feed(rt: HostRuntime) {
 
 #[test]
 fn a_call_is_made_with_a_module_in_place_of_its_shape(rt: HostRuntime) {
+    let shape = Shape {
+        serial: 3,
+        name: ArrayVec::new(),
+        rd: None,
+        wr: None,
+        kind: Kind::Pass,
+    };
     let push = CallDecl {
         end: End::B,
         request: Request::Push {
-            instance: PushDecl {
-                serial: 3,
-                name: ArrayVec::new(),
-                rd: None,
-                wr: None,
-                kind: Kind::Pass,
-            },
+            instance: PushDecl::new(rt.alloc(), shape).expect(&rt, "no memory"),
         },
     };
     assert!(rt; push.push().is_some());

@@ -9,10 +9,10 @@ use std::process::Abort;
 use strm_call::{Acknowledged, Answer, Name, Refusal, Reply, Request};
 use strm_head::{Event, MOST_MODULES, Moves};
 use strm_history::{Entry, Who};
-use strm_module::{Kind, Shape};
+use strm_module::Kind;
 use strm_msg::End::{A, B};
 use strm_msg::{Bytes, End, Errno, Message};
-use strm_plan::Plan;
+use strm_plan::{Plan, PushDecl};
 use strm_run::{StreamLog, Transcript};
 use strm_script::print;
 
@@ -148,7 +148,7 @@ fn part(rt: &impl Abort, alloc: Global, part: Part) -> Option<Bytes> {
     }
 }
 
-fn request(rt: &impl Abort, alloc: Global, ask: Ask) -> Request<Shape> {
+fn request(rt: &impl Abort, alloc: Global, ask: Ask) -> Request<PushDecl> {
     match ask {
         Nread => Request::Nread,
         Str(cmd, dat) => Request::Str {
@@ -177,7 +177,7 @@ fn answer(rt: &impl Abort, alloc: Global, say: Say) -> Answer {
 }
 
 /// A step that somebody made, of which the places that moved are not told.
-fn step(alloc: Global, who: Who, end: End, event: Event<Shape>, answer: Answer) -> Entry<Kind> {
+fn step(alloc: Global, who: Who, end: End, event: Event<PushDecl>, answer: Answer) -> Entry<Kind> {
     Entry {
         who,
         end,

@@ -43,10 +43,10 @@ fn modules_come_back_to_their_caller(rt: HostRuntime) {
     let (shared, mut seats, _) = made(&rt, alloc, 0, ECHO, 1);
     let mut seat = seats.pop().expect(&rt, "a seat");
     for serial in [5, 6] {
-        let pushed = called(&rt, &shared, &mut seat, End::A, push(&rt, serial));
+        let pushed = called(&rt, &shared, &mut seat, End::A, push(&rt, alloc, serial));
         assert!(rt; pushed.0 == Answer::Done(Reply::Push) && pushed.1 == [None, None]);
     }
-    let refused = called(&rt, &shared, &mut seat, End::B, push(&rt, 7));
+    let refused = called(&rt, &shared, &mut seat, End::B, push(&rt, alloc, 7));
     assert!(rt; refused.0 == Answer::Refused(Refusal::Closed) && refused.1 == [Some(7), None]);
     let closed = called(&rt, &shared, &mut seat, End::A, Request::Close);
     assert!(rt; closed.1 == [Some(6), Some(5)]);

@@ -1,0 +1,109 @@
+//! A module in a box of its own, and what a module is and keeps in one.
+ghost use Rattle.std.specs.Prelude.{◌≡◌, IfOk, OnOk, OnErr};
+ghost use Rattle.strm_module.specs.Shape.{IsSameModule};
+ghost use Rattle.strm_module.specs.Module.{put_of, serve_of, IsQueued};
+
+use crate::instance::Instance;
+use crate::kind::Kind;
+use crate::module::ModuleOf;
+use crate::outs::{Outs, Put};
+use crate::shape::Shape;
+use std::alloc::Global;
+use std::marker::Model;
+use strm_msg::{Message, NoMem, Side};
+
+/// A module in a box, so that whoever hands it on moves a pointer. A contract sees the shape.
+#[derive(Drop)]
+pub struct Boxed<M: ModuleOf> {
+    instance: Box<Instance<M>>,
+}
+
+impl<M: ModuleOf> Model for Boxed<M> {
+    ghost use Rattle.strm_module.specs.declared.shape.Shape.{Shape};
+
+    ghost Value = { Shape M.Kind };
+
+    ghost view = { λ b. b.instance.value };
+}
+
+impl<M: ModuleOf> Boxed<M> {
+    /// A module in a box. Refused for want of memory alone.
+    pub fn new(alloc: Global, instance: Instance<M>) -> Result<Self, NoMem>
+        ensures { IfOk result (λ boxed. boxed ≡ instance) }
+    {
+        match Box::new(alloc, instance) {
+            Ok(instance) => Ok(Boxed { instance }),
+            Err(_) => Err(NoMem),
+        }
+    }
+
+    /// What the module is and keeps.
+    pub fn shape(&self) -> &Shape<M::Kind>
+        ensures { result.now ≡ self.now }
+    {
+        self.instance.shape()
+    }
+
+    /// The module itself.
+    pub fn into_instance(self) -> Instance<M>
+        ensures { result ≡ self }
+    {
+        Box::into_inner(self.instance)
+    }
+
+    /// A message comes to the module on a side.
+    pub fn put(&mut self, alloc: Global, side: Side, m: Message) -> Result<Put, NoMem>
+        ensures answer { IfOk result (λ put. put ≡ (put_of M.Kind.means self.old side m).answer) }
+        ensures after { OnOk result (self.new ≡ (put_of M.Kind.means self.old side m).shape) }
+        ensures err { OnErr result (self.new ≡ self.old) }
+        ensures same { IsSameModule self.old self.new }
+        ensures queued { IfOk result (λ put. IsQueued put side m self.old self.new) }
+    {
+        let put = self.instance.put(alloc, side, m)?;
+        Ok(put)
+    }
+
+    /// A message that was queued on a side has its turn.
+    pub fn serve(&mut self, alloc: Global, side: Side, m: Message) -> Result<Outs, NoMem>
+        ensures outs { IfOk result (λ outs. outs.items ≡ (serve_of M.Kind.means self.old side m).outs) }
+        ensures after { OnOk result (self.new ≡ (serve_of M.Kind.means self.old side m).shape) }
+        ensures err { OnErr result (self.new ≡ self.old) }
+        ensures same { IsSameModule self.old self.new }
+    {
+        let outs = self.instance.serve(alloc, side, m)?;
+        Ok(outs)
+    }
+}
+
+/// What a module is and keeps, in a box: what a history keeps of a module, and what a text declares. A contract sees the shape.
+#[derive(Debug, Drop)]
+pub struct BoxedShape<K = Kind> {
+    shape: Box<Shape<K>>,
+}
+
+impl<K> Model for BoxedShape<K> {
+    ghost use Rattle.strm_module.specs.declared.shape.Shape.{Shape};
+
+    ghost Value = { Shape K };
+
+    ghost view = { λ b. b.shape.value };
+}
+
+impl<K: Drop> BoxedShape<K> {
+    /// A shape in a box. Refused for want of memory alone.
+    pub fn new(alloc: Global, shape: Shape<K>) -> Result<Self, NoMem>
+        ensures { IfOk result (λ boxed. boxed ≡ shape) }
+    {
+        match Box::new(alloc, shape) {
+            Ok(shape) => Ok(BoxedShape { shape }),
+            Err(_) => Err(NoMem),
+        }
+    }
+
+    /// What the module is and keeps.
+    pub fn shape(&self) -> &Shape<K>
+        ensures { result.now ≡ self.now }
+    {
+        &self.shape
+    }
+}

@@ -126,11 +126,6 @@ told_none history i told left past so_far all k d below =
     let left_of : answers_in k history ++ answers_of left k ≡ answers_in k history ++ [] = ap (λ h. answers_in k h ++ answers_of left k) (sym (take_all i history past)) ∙ sym (so_far k) ∙ all k in
     sym (list_of left k d below) ∙ append_cancel_left (answers_in k history) _ _ left_of
 
--- no value is both
-pub not_both : (b : Bool) → b ≡ true → b ≡ false → ⊥
-not_both true is other = absurd cc
-not_both false is other = absurd cc
-
 -- the next of them is there
 below_all : {A : Type 0} (so_far rest all : List A) (next : A) → so_far ++ next ∷ rest ≡ all → length so_far < length all
 below_all so_far rest all next is = subst (λ (l : List _). length so_far < length l) is (omega (arith, length-append so_far (next ∷ rest)))
@@ -146,8 +141,17 @@ pub log_here : {K : Type 0} (logs : List (StreamLog K)) (told so_far rest : List
 log_here logs told so_far rest at answers all is place =
     let below = below_all so_far rest told answers is in let many = all.many in omega arith
 
+-- on the first streams each caller was told the answers that the history has, in order, and no others
+pub record AreFirstTold {K : Type 0} (logs : List (StreamLog K)) (told : List (Vec (VecDeque Answer Global) Global)) : Type 0 where
+  pub many : length told ≤ length logs
+  pub each : (k : ℕ) (d : Vec (VecDeque Answer Global) Global) (e : StreamLog K) → k < length told → LeavesTold (get_or told k d).items (get_or logs k e).history.items []
+
+-- which are all, where there are so many
+pub all_told : {K : Type 0} (logs : List (StreamLog K)) (told : List (Vec (VecDeque Answer Global) Global)) → AreFirstTold logs told → length told ≡ length logs → AreAllTold logs told
+all_told logs told first many = record { many = many; each = first.each }
+
 -- one stream more
-pub all_told_more : {K : Type 0} (logs : List (StreamLog K)) (so_far : List (Vec (VecDeque Answer Global) Global)) (at : ℕ) (answers : Vec (VecDeque Answer Global) Global) (log : StreamLog K) → AreAllTold logs so_far → at ≡ length so_far → at < length logs → ((e : StreamLog K) → log ≡ get_or logs at e) → LeavesTold answers.items log.history.items [] → AreAllTold logs (so_far ++ answers ∷ [])
+pub all_told_more : {K : Type 0} (logs : List (StreamLog K)) (so_far : List (Vec (VecDeque Answer Global) Global)) (at : ℕ) (answers : Vec (VecDeque Answer Global) Global) (log : StreamLog K) → AreFirstTold logs so_far → at ≡ length so_far → at < length logs → ((e : StreamLog K) → log ≡ get_or logs at e) → LeavesTold answers.items log.history.items [] → AreFirstTold logs (so_far ++ answers ∷ [])
 all_told_more logs so_far at answers log before place there found here =
     record {
       many = omega (arith, length_push so_far answers);

@@ -1,5 +1,5 @@
 -- What callers were told, against the histories.
-use Rattle.std.specs.Prelude.{◌≡◌, ℕ, zero, suc, ◌<◌, ◌≤◌, List, [], ◌∷◌, ◌++◌, get_or, length, map, Vec}
+use Rattle.std.specs.Prelude.{◌≡◌, ℕ, zero, suc, ◌<◌, List, [], ◌∷◌, ◌++◌, get_or, length, map, Vec}
 use Rattle.std.specs.Global.{Global}
 use Rattle.std.specs.declared.collections.VecDeque.{VecDeque}
 use Rattle.strm_call.specs.declared.answer.Answer.{Answer}
@@ -27,5 +27,5 @@ LeavesTold told history left = AreTold told history (λ caller. answers_of left 
 
 -- on each stream each caller was told the answers that the history has, in order, and no others
 pub record AreAllTold {K : Type 0} (logs : List (StreamLog K)) (told : List (Vec (VecDeque Answer Global) Global)) : Type 0 where
-  pub many : length told ≤ length logs
+  pub many : length told ≡ length logs
   pub each : (k : ℕ) (d : Vec (VecDeque Answer Global) Global) (e : StreamLog K) → k < length told → LeavesTold (get_or told k d).items (get_or logs k e).history.items []

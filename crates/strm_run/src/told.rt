@@ -61,5 +61,5 @@ pub fn are_all_told<K>(logs: &[StreamLog<K>], told: Vec<Vec<VecDeque<Answer>>>) 
         }
         at += 1;
     }
-    true
+    at == logs.len()
 }

@@ -7,6 +7,7 @@ use Told::{Closed, Wrote};
 use arrayvec::ArrayVec;
 use std::collections::VecDeque;
 use strm_head::{Moves, Refusal};
+use strm_module::BoxedShape;
 use strm_run::are_all_told;
 
 /// An answer, written out.
@@ -26,7 +27,7 @@ fn answer(told: Told) -> Answer {
 }
 
 /// A step that was answered so.
-fn step(alloc: Global, who: Who, event: Event<strm_module::Shape>, answer: Answer) -> Entry<Kind> {
+fn step(alloc: Global, who: Who, event: Event<BoxedShape>, answer: Answer) -> Entry<Kind> {
     Entry {
         who,
         end: End::A,
@@ -71,17 +72,35 @@ fn answers(rt: &impl Abort, alloc: Global, told: &[Told]) -> VecDeque<Answer> {
     answers
 }
 
+/// What callers 0 and 1 were told on a stream.
+fn callers(
+    rt: &impl Abort,
+    alloc: Global,
+    first: &[Told],
+    second: &[Told],
+) -> Vec<VecDeque<Answer>> {
+    vec![in alloc; answers(rt, alloc, first), answers(rt, alloc, second)].expect(rt, "no memory")
+}
+
 /// Whether callers 0 and 1, who were told so on the stream, were told what its history has.
 fn agree(rt: &impl Abort, alloc: Global, first: &[Told], second: &[Told]) -> bool {
-    let callers = vec![in alloc; answers(rt, alloc, first), answers(rt, alloc, second)].expect(
-        rt,
-        "no memory",
-    );
     let logs = vec![in alloc; log(rt, alloc)].expect(rt, "no memory");
-    are_all_told(
-        logs.as_slice(),
-        vec![in alloc; callers].expect(rt, "no memory"),
-    )
+    let told = vec![in alloc; callers(rt, alloc, first, second)].expect(rt, "no memory");
+    are_all_told(logs.as_slice(), told)
+}
+
+/// Whether of so many streams with that history each caller was told what it has, by lists for so many streams.
+fn of_each_stream(rt: &impl Abort, alloc: Global, logs: usize, lists: usize) -> bool {
+    let mut histories = Vec::new(alloc);
+    for _ in 0..logs {
+        histories.push(log(rt, alloc)).expect(rt, "no memory");
+    }
+    let mut told = Vec::new(alloc);
+    for _ in 0..lists {
+        told.push(callers(rt, alloc, &[Wrote(5)], &[Wrote(5), Wrote(7)]))
+            .expect(rt, "no memory");
+    }
+    are_all_told(histories.as_slice(), told)
 }
 
 /// What callers 0 and 1 were told, and whether the history has that.
@@ -100,5 +119,12 @@ const ROWS: [(&[Told], &[Told], bool); 8] = [
 fn callers_are_told_what_the_history_has(rt: HostRuntime) {
     for (first, second, wanted) in ROWS {
         assert!(rt; agree(&rt, rt.alloc(), first, second) == wanted);
+    }
+}
+
+#[test]
+fn of_each_stream_callers_are_told(rt: HostRuntime) {
+    for (logs, lists, wanted) in [(0, 0, true), (2, 2, true), (2, 1, false), (1, 2, false)] {
+        assert!(rt; of_each_stream(&rt, rt.alloc(), logs, lists) == wanted);
     }
 }

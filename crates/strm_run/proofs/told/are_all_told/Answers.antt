@@ -1,8 +1,9 @@
-use Rattle.std.proofs.Common.{false, refl, ◌+◌, ◌++◌, append-nil, append_assoc, sym, ◌∙◌, ap, subst}
+use Rattle.std.proofs.Common.{false, refl, ◌+◌, ◌++◌, length, append-nil, append_assoc, sym, ◌∙◌, ap, subst}
+use Rattle.std.proofs.lemmas.Bool.{both_ways, eqb-true, eq-eqb}
 use Rattle.std.proofs.lemmas.List.{length_push, nil_from_length}
 use Rattle.strm_run.specs.Told.{AreAllTold}
 use Rattle.strm_run.proofs.PlayLemmas.{iterated_len}
-use Rattle.strm_run.proofs.ToldLemmas.{all_told_more, log_here, not_both, told_here}
+use Rattle.strm_run.proofs.ToldLemmas.{all_told, all_told_more, log_here, told_here}
 use Rattle.strm_run.proofs.told.are_all_told.Goals as goal
 
 pub loop-answers-preserved : goal.loop-answers-preserved
@@ -23,7 +24,7 @@ returns-in_default g c =
       (λ is. absurd cc),
       (λ all.
           let there = log_here c.args.logs.now c.args.told.items c.loop-answers.yielded _ c.loop-answers.at c.in-Some.answers all (ap (λ l. c.loop-answers.yielded ++ l) (sym c.in-Some.ensures.steps.0) ∙ was.rest) was.place in
-          absurd (not_both false (c.in_default.ensures.lookup.2 there) refl)),
+          absurd (both_ways false refl (c.in_default.ensures.lookup.2 there))),
     )
 
 pub returns-then-not-are_told : goal.returns-then-not-are_told
@@ -33,13 +34,14 @@ returns-then-not-are_told g c =
       (λ is. absurd cc),
       (λ all.
           let here = told_here c.args.logs.now c.args.told.items c.loop-answers.yielded _ c.loop-answers.at c.in-Some.answers c.in-Some-get.log.now all (ap (λ l. c.loop-answers.yielded ++ l) (sym c.in-Some.ensures.steps.0) ∙ was.rest) was.place c.in-Some-get.ensures.lookup.3.1 in
-          absurd (not_both c.are_told.result (other here) c.if-not-are_told.true)),
+          absurd (both_ways c.are_told.result c.if-not-are_told.true (other here))),
     )
 
 pub returns : goal.returns
 returns g c =
     let was = c.loop-answers.invariant in
-    let none = nil_from_length _ (sym was.left ∙ c.in-None.ensures.steps.0) in (
-      (λ is. subst (λ l. AreAllTold c.args.logs.now l) (sym (append-nil _) ∙ ap (λ l. c.loop-answers.yielded ++ l) (sym none) ∙ was.rest) was.told),
-      (λ all. refl),
+    let none = nil_from_length _ (sym was.left ∙ c.in-None.ensures.steps.0) in
+    let whole = sym (append-nil _) ∙ ap (λ l. c.loop-answers.yielded ++ l) (sym none) ∙ was.rest in (
+      (λ is. subst (λ l. AreAllTold c.args.logs.now l) whole (all_told c.args.logs.now c.loop-answers.yielded was.told (sym was.place ∙ eqb-true c.loop-answers.at (length c.args.logs.now) is))),
+      (λ all. eq-eqb c.loop-answers.at (length c.args.logs.now) (was.place ∙ ap (λ l. length l) whole ∙ all.many)),
     )

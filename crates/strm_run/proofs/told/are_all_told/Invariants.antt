@@ -1,6 +1,6 @@
 use Rattle.std.proofs.Common.{◌≡◌, ◌++◌, length}
 use Rattle.std.specs.Vec.Iter.{into_iter_items, into_iter_len}
-use Rattle.strm_run.specs.Told.{AreAllTold}
+use Rattle.strm_run.proofs.ToldLemmas.{AreFirstTold}
 use Rattle.strm_run.proofs.told.are_all_told.Given as goal
 
 -- on the streams so far callers were told what the histories have
@@ -9,5 +9,5 @@ invariant-loop-answers g l = record {
   left : into_iter_len l.answers-iterator ≡ length (into_iter_items l.answers-iterator);
   rest : l.yielded ++ into_iter_items l.answers-iterator ≡ l.fn.told.items;
   place : l.at ≡ length l.yielded;
-  told : AreAllTold l.logs l.yielded;
+  told : AreFirstTold l.logs l.yielded;
 }

@@ -1,17 +1,15 @@
 //! Worked examples of what no script can say, by the public calls alone: messages that come in at a known
-//! point between the calls, the histories that they leave, the serials of modules that come back, the twin of
-//! each answer. What is expected is worked out by hand from the rules.
+//! point between the calls, the histories that they leave, and the serials of modules that come back. What is
+//! expected is worked out by hand from the rules.
 use arrayvec::ArrayVec;
 use std::alloc::Global;
 use std::process::Abort;
 use strm_head::{
-    Answer, Driver, GetFlag, MOST_MODULES, More, Name, Priority, Received, Refusal, Reply, Request,
-    Stream, Wanted,
+    Answer, GetFlag, MOST_MODULES, More, Name, Priority, Received, Refusal, Reply, Request, Wanted,
 };
 use strm_module::{Boxed, Instance, Kind, Plain, Shape};
 use strm_msg::{Bytes, End, Errno, Message};
 
-mod calls;
 mod histories;
 mod owners;
 mod tables;
@@ -203,11 +201,6 @@ fn answer_of(rt: &impl Abort, alloc: Global, want: Want) -> Answer {
             names: names_of(rt, names),
         },
     })
-}
-
-/// A stream whose heads and driver are full at 16 bytes and slack at 4.
-fn made(rt: &impl Abort, alloc: Global, driver: Driver) -> Stream<Plain> {
-    Stream::new(alloc, driver, (16, 4), (16, 4)).expect(rt, "no memory for a stream")
 }
 
 /// The serial of a module that came back.

@@ -44,6 +44,20 @@ fn made(rt: &impl Abort, alloc: Global, number: u32, setup: Setup, seats: u32) -
         .expect(rt, "a stream")
 }
 
+/// The end of a shared stream.
+fn ended(
+    shared: Shared<Plain>,
+    seats: Vec<Seat>,
+    feed: Option<FeedEnd>,
+) -> Result<Ended<Plain>, EndFault> {
+    shared.end(seats, feed)
+}
+
+/// Why a shared stream does not end, if it does not.
+fn fault_of(shared: Shared<Plain>, seats: Vec<Seat>, feed: Option<FeedEnd>) -> Option<EndFault> {
+    ended(shared, seats, feed).err()
+}
+
 fn bytes(rt: &impl Abort, alloc: Global, bytes: &[u8]) -> Bytes {
     Bytes::from_slice(alloc, bytes).expect(rt, "no memory")
 }

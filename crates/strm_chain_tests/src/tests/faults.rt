@@ -170,12 +170,3 @@ pub(super) const ROWS: &[Row] = &[
         calls: &[BROKEN_OFF],
     },
 ];
-
-#[test]
-fn faults_have_names_and_numbers(rt: HostRuntime) {
-    for (fault, number, text) in [(NoMem, 1, "no memory"), (Broken, 2, "the chain is broken")] {
-        assert_eq!(rt; fault.number(), number);
-        let printed = format!(in rt.alloc(); "{fault}").expect(&rt, "no memory");
-        assert_eq!(rt; printed.as_str(), text);
-    }
-}

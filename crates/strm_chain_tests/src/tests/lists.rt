@@ -1,7 +1,7 @@
-//! What a chain shows of itself: its spots, its modes and its moves.
+//! What a chain shows of itself: its spots and its modes.
 use super::Call::{Count, Errs, HasSpot, Hung, Mode, SetMode};
-use super::{Call, DRV_A, FIVE, Part, Row};
-use strm_chain::{Driver, Moves, Spot};
+use super::{Call, FIVE, Part, Row};
+use strm_chain::{Driver, Spot};
 use strm_msg::{End, Prot, ReadMode};
 
 const READS_AS_IT_WAS_SET: &[Call] = &[
@@ -41,13 +41,3 @@ pub(super) const ROWS: &[Row] = &[
         calls: &[END_HAS_ITS_SPOTS],
     },
 ];
-
-#[test]
-fn moves_are_a_list(rt: HostRuntime) {
-    let alloc = rt.alloc();
-    assert!(rt; Moves::new(alloc).is_empty());
-    let two = Vec::from_slice(alloc, &[DRV_A, DRV_A]).expect(&rt, "no memory");
-    let moves = Moves::from(two);
-    assert_eq!(rt; (moves.len(), moves.is_empty()), (2, false));
-    assert_eq!(rt; moves.into_vec().as_slice(), [DRV_A, DRV_A].as_slice());
-}

@@ -10,7 +10,7 @@ use std::process::Abort;
 use std::sync::Arc;
 use std::sync::atomic::{AtomicU64, Ordering};
 use strm_chain::{Chain, Driver, Spot};
-use strm_module::{Boxed, Instance, Kind, Module, Outs, Pass, Put, Shape};
+use strm_module::{Boxed, Instance, Kind, Module, Outs, Put, Shape};
 use strm_msg::{End, Message, NoMem, Side};
 
 /// What was asked of the objects 1 to 3, in order, a digit for each call: the object's number where
@@ -109,14 +109,10 @@ pub(super) enum Ask {
     Push(End, u64, u64, Object),
     /// An object is handed back by an end, still open, and is dropped.
     Refused(End, u64, u64, Object),
-    /// An object of another type, which passes everything on, is put in at end A in a module of this serial.
-    PushPass(u64),
     /// The topmost module of end A has counted this.
     Counted(u64),
     /// The topmost module of end A comes out, of this serial; its object is taken out of it and dropped.
     Remove(u64),
-    /// The topmost module of end A comes out, of this serial and of the kind `Pass`, and is dropped.
-    RemovePass(u64),
     /// So many modules of an end come out, with nothing closed, and are dropped.
     Clear(End, usize),
     /// The modules of end A come out, with nothing closed: the serial of each, and what stands on the log
@@ -163,17 +159,6 @@ fn with_object(
     Boxed::new(alloc, instance).expect(rt, "no memory for a box")
 }
 
-/// A module that passes everything on, with a queue on its way down.
-fn passing(rt: &impl Abort, alloc: Global, serial: u64) -> Boxed<Box<dyn Module>> {
-    let pass = Pass::new(serial, b"pass", None, Some(FIVE)).expect(rt, "a good name");
-    let shape = pass.shape().copy(alloc).expect(rt, "no memory for a shape");
-    let boxed: Box<dyn Module> = Box::new(alloc, pass.into_object()).expect(
-        rt,
-        "no memory for a box",
-    );
-    Boxed::new(alloc, Instance::new(shape, boxed)).expect(rt, "no memory for a box")
-}
-
 /// Hands a module in that comes back, with nothing closed.
 fn comes_back(
     chain: &mut Boxes,
@@ -210,17 +195,6 @@ fn removes(chain: &mut Boxes, log: &Log, serial: u64) -> bool {
             let is_so = is_whole(log, before, &instance, serial);
             drop(instance.into_instance().into_object());
             is_so
-        }
-        None => false,
-    }
-}
-
-/// The topmost comes out, and is dropped.
-fn removes_pass(chain: &mut Boxes, log: &Log, serial: u64) -> bool {
-    let before = logged(log);
-    match chain.remove(End::A) {
-        Some(instance) => {
-            is_whole(log, before, &instance, serial) && instance.shape().kind == Kind::Pass
         }
         None => false,
     }
@@ -269,10 +243,8 @@ fn asks(rt: &impl Abort, chain: &mut Boxes, log: &Log, ask: Ask) -> bool {
             let instance = with_object(rt, alloc, log, (serial, number), object);
             comes_back(chain, log, end, serial, instance)
         }
-        Ask::PushPass(serial) => chain.insert(End::A, passing(rt, alloc, serial)).is_ok(),
         Ask::Counted(n) => has_counted(chain, n),
         Ask::Remove(serial) => removes(chain, log, serial),
-        Ask::RemovePass(serial) => removes_pass(chain, log, serial),
         Ask::Clear(end, want) => clears(chain, log, end, want),
         Ask::Dismantle(wants) => dismantles(rt, chain, log, wants),
     }

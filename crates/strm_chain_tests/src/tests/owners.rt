@@ -3,7 +3,7 @@ use super::Call::{
     Deliver, Enabled, FullAhead, HasRoom, HeadHeld, HeadLen, Hung, IsOpen, May, Read, Serial,
     Serve, Settle, Write,
 };
-use super::objects::Ask::{Clear, Do, Push, PushPass, Refused, RemovePass};
+use super::objects::Ask::{Clear, Do, Push, Refused, Remove};
 use super::objects::{Ask, Object, Story};
 use super::{Call, DRV_A, HEAD_A, Part, Text, WR_1};
 use strm_chain::Driver;
@@ -24,7 +24,7 @@ const TAKEN_OUT: &[(Ask, u64)] = &[
     (Do(Serial(1, Some(2))), 0),
     (Do(Serial(2, Some(1))), 0),
     (Do(Serial(3, None)), 0),
-    (RemovePass(2), 8),
+    (Remove(2), 8),
     (Clear(End::A, 1), 87),
 ];
 
@@ -78,7 +78,7 @@ const NINTH_COMES_BACK: &[(Ask, u64)] = &[
 // before its move, and once more when it is empty.
 //
 // The module's place stays enabled when it was served, and is found empty; then the driver's is looked
-// at twice.
+// at twice. On its way up the message is put to the object once more.
 const ECHO_WAITS_FOR_ITS_HEAD: &[(Ask, u64)] = &[
     (Do(Write(b"aaaaa")), 0),
     (Do(May(DRV_A, true)), 0),
@@ -89,15 +89,15 @@ const ECHO_WAITS_FOR_ITS_HEAD: &[(Ask, u64)] = &[
     (Do(Settle(&[], 1)), 0),
     (Do(Read(b"aaaaa")), 0),
     (Do(Settle(&[DRV_A], 2)), 0),
-    (PushPass(7), 0),
-    (Do(Write(b"c")), 0),
-    (Do(May(DRV_A, false)), 0),
-    (Do(Serve(WR_1)), 0),
-    (Do(Settle(&[DRV_A], 3)), 0),
-    (Do(Read(b"b")), 0),
-    (Do(Read(b"c")), 0),
-    (RemovePass(7), 0),
-    (Do(Call::Remove(None)), 0),
+    (Push(End::A, 7, 1, PASS), 0),
+    (Do(Write(b"c")), 1),
+    (Do(May(DRV_A, false)), 1),
+    (Do(Serve(WR_1)), 14),
+    (Do(Settle(&[DRV_A], 3)), 141),
+    (Do(Read(b"b")), 141),
+    (Do(Read(b"c")), 141),
+    (Remove(7), 1417),
+    (Do(Call::Remove(None)), 1417),
 ];
 
 // What waits for the far end's head moves on once that end is closed, and is dropped there.
@@ -144,7 +144,7 @@ pub(super) const STORIES: &[Story<'static>] = &[
         name: "an echo waits for its head",
         driver: Driver::Echo,
         asks: ECHO_WAITS_FOR_ITS_HEAD,
-        end: Some(0),
+        end: Some(1417),
     },
     Story {
         name: "the far end of a loop is closed",

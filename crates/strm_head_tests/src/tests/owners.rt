@@ -42,6 +42,11 @@ fn boxes(rt: &impl Abort, alloc: Global) -> Boxes {
     Stream::new(alloc, Driver::Loop, (16, 4), (16, 4)).expect(rt, "no memory for a stream")
 }
 
+/// A call on end A.
+fn ask(stream: &mut Boxes, request: Request<Boxed<Box<dyn Module>>>) -> Outcome<Box<dyn Module>> {
+    stream.apply(End::A, request)
+}
+
 /// Pushes the object of this number in a box at end A, with its number as the module's serial.
 fn push(
     rt: &impl Abort,
@@ -60,7 +65,7 @@ fn push(
         rt,
         "no memory for a box",
     );
-    stream.apply(End::A, Request::Push { instance })
+    ask(stream, Request::Push { instance })
 }
 
 /// The serials of the first three modules that came back, topmost first.
@@ -85,14 +90,14 @@ fn boxes_of_a_close_are_closed_once_each(rt: HostRuntime) {
     for number in 1..=3 {
         assert!(rt; push(&rt, alloc, &mut stream, &log, number).back.is_empty());
     }
-    let popped = stream.apply(End::A, Request::Pop);
+    let popped = ask(&mut stream, Request::Pop);
     assert_eq!(rt;
         (serials(&popped), logged(&log)),
         ([Some(3), None, None], 0)
     );
     drop(popped);
     assert_eq!(rt; logged(&log), 3);
-    let closed = stream.apply(End::A, Request::Close);
+    let closed = ask(&mut stream, Request::Close);
     assert_eq!(rt;
         (serials(&closed), logged(&log)),
         ([Some(2), Some(1), None], 3)
@@ -109,7 +114,7 @@ fn box_of_a_refused_push_comes_back(rt: HostRuntime) {
     let alloc = rt.alloc();
     let log = new_log(&rt, alloc);
     let mut stream = boxes(&rt, alloc);
-    assert!(rt; stream.apply(End::A, Request::Close).back.is_empty());
+    assert!(rt; ask(&mut stream, Request::Close).back.is_empty());
     let refused = push(&rt, alloc, &mut stream, &log, 4);
     assert!(rt; refused.answer == Answer::Refused(Refusal::Closed));
     assert_eq!(rt;

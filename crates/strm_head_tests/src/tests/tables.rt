@@ -186,28 +186,3 @@ pub(super) const MIXED: Table = (
         (A, Happens::Asked(Call::Pop, CLOSED, 0, &[])),
     ],
 );
-
-/// What happens at end B of a loop, and the serials of its modules afterwards, from the place 0, where
-/// none is; or nothing, if the end is closed then.
-pub(super) const STANDS: [(Happens, Option<[Option<u64>; 4]>); 5] = [
-    (
-        Happens::Asked(Call::Push(Pushes::Pass, b"m1"), Want::Pushed, 0, &[]),
-        Some([None, Some(0), None, None]),
-    ),
-    (
-        Happens::Asked(Call::Push(Pushes::Pass, b"m2"), Want::Pushed, 0, &[]),
-        Some([None, Some(1), Some(0), None]),
-    ),
-    (
-        Happens::Asked(Call::Pop, Want::Popped(b"m2"), 0, &[1]),
-        Some([None, Some(0), None, None]),
-    ),
-    (
-        Happens::Asked(Call::Push(Pushes::Tee, b"m3"), Want::Pushed, 0, &[]),
-        Some([None, Some(3), Some(0), None]),
-    ),
-    (
-        Happens::Asked(Call::Close, Want::Closed(&[b"m3", b"m1"]), 0, &[3, 0]),
-        None,
-    ),
-];

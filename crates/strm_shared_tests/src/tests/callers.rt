@@ -1,7 +1,7 @@
 //! Several callers of one stream.
 use super::{
-    Answer, ECHO, End, Entry, Event, Refusal, Reply, Request, Who, answer, called, made, push,
-    write,
+    Answer, ECHO, End, Entry, Event, Refusal, Reply, Request, Who, answer, called, ended, made,
+    push, write,
 };
 use std::alloc::Global;
 use strm_module::Kind;
@@ -29,8 +29,8 @@ fn the_history_has_each_call_in_order_with_its_caller(rt: HostRuntime) {
     answer(&rt, &shared, &mut second, write(&rt, alloc, b"x"));
     assert!(rt; first.calls() == 1 && second.calls() == 2);
     assert!(rt; seats.push(second).is_ok() && seats.push(first).is_ok());
-    let ended = shared.end(seats, None).ok().expect(&rt, "an end");
-    let history = ended.history.as_slice();
+    let end = ended(shared, seats, None).ok().expect(&rt, "an end");
+    let history = end.history.as_slice();
     assert_eq!(rt; history.len(), 3);
     assert!(rt; history.get(0).and_then(wrote) == Some((1, 3)));
     assert!(rt; history.get(1).and_then(wrote) == Some((0, 4)));
@@ -51,8 +51,8 @@ fn modules_come_back_to_their_caller(rt: HostRuntime) {
     let closed = called(&rt, &shared, &mut seat, End::A, Request::Close);
     assert!(rt; closed.1 == [Some(6), Some(5)]);
     assert!(rt; seats.push(seat).is_ok());
-    let ended = shared.end(seats, None).ok().expect(&rt, "an end");
-    let entry = ended.history.last().expect(&rt, "an entry");
+    let end = ended(shared, seats, None).ok().expect(&rt, "an end");
+    let entry = end.history.last().expect(&rt, "an entry");
     assert_eq!(rt; entry.out.as_slice(), [6, 5].as_slice());
-    assert!(rt; !ended.stream.is_open(End::A));
+    assert!(rt; !end.stream.is_open(End::A));
 }

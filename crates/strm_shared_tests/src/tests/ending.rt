@@ -1,7 +1,7 @@
 //! Shared streams are made, and end when all seats and the feeder are back.
 use super::{
     ECHO, EndFault, FeedEnd, Feeder, LINE, Reply, Request, Seat, Setup, Shared, SharedFault,
-    accepted, answer, data, made, write,
+    accepted, answer, data, ended, fault_of, made, write,
 };
 use std::alloc::Global;
 use strm_head::Answer;
@@ -38,8 +38,7 @@ fn a_seat_for_each_caller_is_wanted(rt: HostRuntime) {
     let alloc: Global = rt.alloc();
     let (shared, seats, _) = made(&rt, alloc, 0, ECHO, 1);
     drop(seats);
-    let ended = shared.end(Vec::new(alloc), None);
-    assert!(rt; ended.err() == Some(EndFault::Seats));
+    assert!(rt; fault_of(shared, Vec::new(alloc), None) == Some(EndFault::Seats));
 }
 
 #[test]
@@ -47,8 +46,8 @@ fn seats_come_back_in_any_order(rt: HostRuntime) {
     let alloc: Global = rt.alloc();
     let (shared, mut seats, _) = made(&rt, alloc, 0, ECHO, 3);
     seats.as_mut_slice().reverse();
-    let ended = shared.end(seats, None).ok().expect(&rt, "an end");
-    assert!(rt; ended.history.is_empty() && ended.left.is_empty());
+    let end = ended(shared, seats, None).ok().expect(&rt, "an end");
+    assert!(rt; end.history.is_empty() && end.left.is_empty());
 }
 
 #[test]
@@ -56,19 +55,17 @@ fn a_seat_of_another_stream_is_none_of_this(rt: HostRuntime) {
     let alloc: Global = rt.alloc();
     let (shared, _, _) = made(&rt, alloc, 0, ECHO, 1);
     let (_, others, _) = made(&rt, alloc, 1, ECHO, 1);
-    let ended = shared.end(others, None);
-    assert!(rt; ended.err() == Some(EndFault::Seats));
+    assert!(rt; fault_of(shared, others, None) == Some(EndFault::Seats));
 }
 
 #[test]
 fn a_line_ends_after_its_feeder(rt: HostRuntime) {
     let alloc: Global = rt.alloc();
     let (shared, seats, _) = made(&rt, alloc, 0, LINE, 2);
-    let ended = shared.end(seats, None);
-    assert!(rt; ended.err() == Some(EndFault::Unfinished));
+    assert!(rt; fault_of(shared, seats, None) == Some(EndFault::Unfinished));
     let (shared, seats, feeder) = made(&rt, alloc, 0, LINE, 2);
     let feed = feeder.expect(&rt, "a feeder").finish();
-    assert!(rt; shared.end(seats, Some(feed)).is_ok());
+    assert!(rt; fault_of(shared, seats, Some(feed)).is_none());
 }
 
 #[test]
@@ -76,8 +73,10 @@ fn another_feeder_does_not_end_a_line(rt: HostRuntime) {
     let alloc: Global = rt.alloc();
     let (shared, seats, _) = made(&rt, alloc, 0, LINE, 0);
     let (_, _, other) = made(&rt, alloc, 1, LINE, 0);
-    let ended = shared.end(seats, Some(other.expect(&rt, "a feeder").finish()));
-    assert!(rt; ended.err() == Some(EndFault::Unfinished));
+    assert!(rt;
+        fault_of(shared, seats, Some(other.expect(&rt, "a feeder").finish()))
+            == Some(EndFault::Unfinished)
+    );
 }
 
 #[test]
@@ -87,8 +86,10 @@ fn what_another_feeder_has_brought_in_is_found(rt: HostRuntime) {
     let (_, _, other) = made(&rt, alloc, 0, LINE, 0);
     let mut other = other.expect(&rt, "a feeder");
     assert!(rt; accepted(&rt, alloc, &shared, &mut other, data(&rt, alloc, b"x")));
-    let ended = shared.end(seats, Some(own.expect(&rt, "a feeder").finish()));
-    assert!(rt; ended.err() == Some(EndFault::Unfinished));
+    assert!(rt;
+        fault_of(shared, seats, Some(own.expect(&rt, "a feeder").finish()))
+            == Some(EndFault::Unfinished)
+    );
 }
 
 #[test]
@@ -99,8 +100,7 @@ fn a_call_by_a_twin_of_the_seat_is_found(rt: HostRuntime) {
     let mut twin = twins.pop().expect(&rt, "a seat");
     let wrote = answer(&rt, &shared, &mut twin, write(&rt, alloc, b"x"));
     assert!(rt; wrote == Answer::Done(Reply::Write { len: 1 }));
-    let ended = shared.end(seats, None);
-    assert!(rt; ended.err() == Some(EndFault::Unfinished));
+    assert!(rt; fault_of(shared, seats, None) == Some(EndFault::Unfinished));
 }
 
 #[test]
@@ -117,6 +117,5 @@ fn a_call_by_a_caller_without_a_seat_is_found(rt: HostRuntime) {
             bytes: 0
         })
     );
-    let ended = shared.end(seats, None);
-    assert!(rt; ended.err() == Some(EndFault::Unfinished));
+    assert!(rt; fault_of(shared, seats, None) == Some(EndFault::Unfinished));
 }

@@ -1,10 +1,10 @@
 //! Messages come in from a line.
 use super::{
-    Answer, Ended, Entry, Errno, Event, LINE, Message, Refusal, Reply, Request, Who, accepted,
-    answer, data, made,
+    Answer, Entry, Errno, Event, LINE, Message, Refusal, Reply, Request, Who, accepted, answer,
+    data, ended, made,
 };
 use std::alloc::Global;
-use strm_module::{Kind, Plain};
+use strm_module::{Boxed, Kind, Plain};
 
 /// The first bytes of data that came in with an entry, if a message came in with it.
 fn came(entry: &Entry<Kind>) -> Option<&[u8]> {
@@ -17,14 +17,18 @@ fn came(entry: &Entry<Kind>) -> Option<&[u8]> {
     }
 }
 
+/// Data that are offered to a line of five bytes, and whether they are accepted.
+const OFFERED: [(&[u8], bool); 3] = [(b"aaaaa", true), (b"bbbbb", true), (b"c", false)];
+
 #[test]
 fn what_is_accepted_came_in_and_what_is_too_much_comes_back(rt: HostRuntime) {
     let alloc: Global = rt.alloc();
     let (shared, mut seats, feeder) = made(&rt, alloc, 0, LINE, 1);
     let mut feeder = feeder.expect(&rt, "a feeder");
-    assert!(rt; accepted(&rt, alloc, &shared, &mut feeder, data(&rt, alloc, b"aaaaa")));
-    assert!(rt; accepted(&rt, alloc, &shared, &mut feeder, data(&rt, alloc, b"bbbbb")));
-    assert!(rt; !accepted(&rt, alloc, &shared, &mut feeder, data(&rt, alloc, b"c")));
+    for (dat, is_accepted) in OFFERED {
+        let m = data(&rt, alloc, dat);
+        assert!(rt; accepted(&rt, alloc, &shared, &mut feeder, m) == is_accepted);
+    }
     let mut seat = seats.pop().expect(&rt, "a seat");
     let told = answer(&rt, &shared, &mut seat, Request::Nread);
     assert!(rt;
@@ -36,12 +40,45 @@ fn what_is_accepted_came_in_and_what_is_too_much_comes_back(rt: HostRuntime) {
     assert!(rt; seats.push(seat).is_ok());
     let feed = feeder.finish();
     assert_eq!(rt; feed.accepted().len(), 2);
-    let ended: Ended<Plain> = shared.end(seats, Some(feed)).ok().expect(&rt, "an end");
-    let history = ended.history.as_slice();
+    let end = ended(shared, seats, Some(feed)).ok().expect(&rt, "an end");
+    let history = end.history.as_slice();
     assert_eq!(rt; history.len(), 3);
     assert!(rt; history.get(0).and_then(came) == Some(b"aaaaa"));
     assert!(rt; history.get(1).and_then(came) == Some(b"bbbbb"));
-    assert!(rt; ended.left.is_empty());
+    assert!(rt; end.left.is_empty());
+}
+
+/// Calls after an error came in.
+#[derive(Clone, Copy, Drop)]
+enum Ask {
+    Read,
+    Look,
+    Close,
+}
+
+const EIO: Refusal = Refusal::Error { errno: Errno::EIO };
+
+/// Each call, and what refuses it.
+const CALLS: [(Ask, Option<Refusal>); 4] = [
+    (Ask::Read, Some(EIO)),
+    (Ask::Look, Some(EIO)),
+    (Ask::Close, None),
+    (Ask::Look, Some(Refusal::Closed)),
+];
+
+fn request_of(ask: Ask) -> Request<Boxed<Plain>> {
+    match ask {
+        Ask::Read => Request::Read { max: 8 },
+        Ask::Look => Request::Look,
+        Ask::Close => Request::Close,
+    }
+}
+
+fn refusal_of(answer: &Answer) -> Option<Refusal> {
+    match answer {
+        Answer::Refused(refusal) => Some(*refusal),
+        _ => None,
+    }
 }
 
 #[test]
@@ -50,23 +87,13 @@ fn an_error_from_the_line_refuses_all_but_a_close(rt: HostRuntime) {
     let (shared, mut seats, feeder) = made(&rt, alloc, 0, LINE, 1);
     let mut feeder = feeder.expect(&rt, "a feeder");
     let mut seat = seats.pop().expect(&rt, "a seat");
-    assert!(rt; accepted(&rt, alloc, &shared, &mut feeder, data(&rt, alloc, b"x")));
-    assert!(rt;
-        accepted(
-            &rt,
-            alloc,
-            &shared,
-            &mut feeder,
-            Message::of_error(Errno::EIO)
-        )
-    );
-    let refused = Answer::Refused(Refusal::Error { errno: Errno::EIO });
-    assert!(rt; answer(&rt, &shared, &mut seat, Request::Read { max: 8 }) == refused);
-    assert!(rt; answer(&rt, &shared, &mut seat, Request::Look) == refused);
-    let closed = answer(&rt, &shared, &mut seat, Request::Close);
-    assert!(rt; matches!(closed, Answer::Done(Reply::Close { .. })));
-    let after = answer(&rt, &shared, &mut seat, Request::Look);
-    assert!(rt; after == Answer::Refused(Refusal::Closed));
-    assert_eq!(rt; seat.calls(), 4);
+    for m in [data(&rt, alloc, b"x"), Message::of_error(Errno::EIO)] {
+        assert!(rt; accepted(&rt, alloc, &shared, &mut feeder, m));
+    }
+    for (ask, refusal) in CALLS {
+        let told = answer(&rt, &shared, &mut seat, request_of(ask));
+        assert!(rt; refusal_of(&told) == refusal);
+    }
+    assert!(rt; seat.calls() == 4);
     assert!(rt; !accepted(&rt, alloc, &shared, &mut feeder, Message::of_hangup()));
 }

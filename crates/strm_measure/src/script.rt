@@ -1,20 +1,17 @@
 //! What a script costs to read, to play and to print, and what its transcript does not tell.
 use std::alloc::Global;
 use std::fs;
-use std::io::Read;
 use std::rt::{Clock, Files};
 use std::sync::Wait;
 use std::thread::Threads;
 use std::time::Instant;
-use strm_plan::parse;
+use strm_plan::{LoadFault, load, parse};
 use strm_play::play;
 use strm_script::print;
 
-/// The bytes of a file.
-fn load<R: Files>(alloc: Global, rt: &R, path: &str) -> anyhow::Result<Vec<u8>> {
-    let mut bytes = Vec::new(alloc);
-    fs::open(rt, path)?.read_to_end(&mut bytes)?;
-    Ok(bytes)
+/// The bytes of the script at a path.
+fn script<R: Files>(rt: &R, alloc: Global, path: &str) -> Result<Vec<u8>, LoadFault> {
+    load(alloc, fs::open(rt, path)?)
 }
 
 /// Reads, plays and prints a script, and prints how long each took, in milliseconds.
@@ -24,7 +21,7 @@ pub fn measure<R: Files + Print + Clock + Threads + Wait + AllocGlobal + Sync>(
     workers: u32,
 ) -> anyhow::Result<()> {
     let alloc: Global = rt.alloc();
-    let bytes = load(alloc, rt, path)?;
+    let bytes = script(rt, alloc, path)?;
     let start = Instant::now(rt)?;
     let plan = parse(alloc, bytes.as_slice())?;
     let read = start.elapsed(rt)?.as_millis();
@@ -48,7 +45,7 @@ pub fn moves<R: Files + Print + Threads + Wait + AllocGlobal + Sync>(
     path: &str,
 ) -> anyhow::Result<()> {
     let alloc: Global = rt.alloc();
-    let bytes = load(alloc, rt, path)?;
+    let bytes = script(rt, alloc, path)?;
     let outcome = play(rt, alloc, bytes.as_slice(), 1)?;
     for log in &outcome.transcript.streams {
         for entry in &log.history {

@@ -122,10 +122,15 @@ impl Service {
     }
 }
 
+/// A call on the stream's end.
+fn ask(stream: &mut Stream<Plain>, request: Request<Boxed<Plain>>) -> Outcome<Plain> {
+    stream.apply(End::A, request)
+}
+
 /// Writes a message.
 fn write(alloc: Global, stream: &mut Stream<Plain>) -> Result<Outcome<Plain>, NoMem> {
     let dat = Bytes::from_slice(alloc, TEXT)?;
-    Ok(stream.apply(End::A, Request::Write { dat }))
+    Ok(ask(stream, Request::Write { dat }))
 }
 
 /// Puts eight modules in, whose queues have these marks, if they have any.
@@ -137,7 +142,7 @@ fn push_eight(
     for (serial, name) in NAMES.iter().enumerate() {
         let shape = Shape::new(serial as u64, name, queues, queues, Kind::Pass)?;
         let instance = Boxed::new(alloc, Instance::new(shape, Plain))?;
-        stream.apply(End::A, Request::Push { instance });
+        ask(stream, Request::Push { instance });
     }
     Ok(())
 }
@@ -166,7 +171,7 @@ fn turn(
     match calls {
         Calls::WriteRead => {
             let wrote = write(alloc, stream)?;
-            let read = stream.apply(End::A, Request::Read { max: 5 });
+            let read = ask(stream, Request::Read { max: 5 });
             Ok(service.with(&wrote).with(&read))
         }
         Calls::GetmsgWrite => {
@@ -175,12 +180,12 @@ fn turn(
                 maxdat: Some(5),
                 flag: Wanted::Any,
             };
-            let got = stream.apply(End::A, getmsg);
+            let got = ask(stream, getmsg);
             let wrote = write(alloc, stream)?;
             Ok(service.with(&got).with(&wrote))
         }
         Calls::GetRead => {
-            let got = stream.apply(End::A, Request::GetRead);
+            let got = ask(stream, Request::GetRead);
             Ok(service.with(&got))
         }
     }

@@ -6,6 +6,7 @@ mod call;
 mod call_line;
 mod draft;
 mod fault;
+mod loading;
 mod names;
 mod parsing;
 mod plan;
@@ -14,6 +15,7 @@ mod target;
 
 pub use call::CallDecl;
 pub use fault::ScriptFault;
+pub use loading::{LoadFault, MOST_READ, load};
 pub use parsing::{LONGEST_SCRIPT, parse};
 pub use plan::{CallLine, FeedDecl, Name, Plan, ProcessDecl};
 pub use strm_verb::{Cause, PushDecl};

@@ -4,9 +4,8 @@ use std::alloc::Global;
 use std::process::Abort;
 use strm_plan::{Plan, parse};
 
-mod plan;
+mod loading;
 mod printing;
-mod text;
 
 /// The plan of a script.
 fn plan_of(rt: &impl Abort, alloc: Global, script: &[u8]) -> Plan {

@@ -1,8 +1,8 @@
 //! Why the program did not print a transcript.
-use crate::load::LoadFault;
+use clap::error::ErrorKind;
 use std::alloc::AllocError;
 use std::{fmt, io};
-use strm_plan::{Cause, ScriptFault};
+use strm_plan::{Cause, LoadFault, ScriptFault};
 use strm_play::PlayFault;
 use strm_run::RunFault;
 
@@ -22,12 +22,9 @@ pub enum Fault {
 }
 
 impl Fault {
-    /// Want of memory before a script is there.
-    fn no_memory() -> Self {
-        Fault::Script(ScriptFault {
-            line: 0,
-            cause: Cause::NoMemory,
-        })
+    /// Want of memory for what is the program's own: the words of the command line, and the buffer of what is printed.
+    pub fn no_memory() -> Self {
+        Fault::Run(RunFault::NoMem)
     }
 
     /// The status with which the program ends: 0 where help was asked for, 2 for the command line
@@ -57,7 +54,10 @@ impl fmt::Display for Fault {
 
 impl From<clap::Error> for Fault {
     fn from(error: clap::Error) -> Self {
-        Fault::Words(error)
+        match error.kind() {
+            ErrorKind::OutOfMemory => Fault::no_memory(),
+            _ => Fault::Words(error),
+        }
     }
 }
 
@@ -65,7 +65,10 @@ impl From<LoadFault> for Fault {
     fn from(fault: LoadFault) -> Self {
         match fault {
             LoadFault::Read => Fault::Read,
-            LoadFault::NoMem => Fault::no_memory(),
+            LoadFault::NoMem => Fault::Script(ScriptFault {
+                line: 0,
+                cause: Cause::NoMemory,
+            }),
         }
     }
 }
@@ -89,6 +92,9 @@ impl From<AllocError> for Fault {
 /// Words of the command line that cannot be read.
 impl From<io::Error> for Fault {
     fn from(error: io::Error) -> Self {
-        Fault::from(LoadFault::from(error))
+        match LoadFault::from(error) {
+            LoadFault::Read => Fault::Read,
+            LoadFault::NoMem => Fault::no_memory(),
+        }
     }
 }

@@ -6,11 +6,8 @@
 #![tactic(auto)]
 
 mod fault;
-mod load;
 mod options;
 mod playing;
-#[cfg(test)]
-mod tests;
 
 use fault::Fault;
 use playing::serve;

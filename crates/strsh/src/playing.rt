@@ -5,7 +5,6 @@ ghost use Rattle.strm_plan.specs.Plan.{plan_view};
 ghost use Rattle.strm_script.specs.Lines.{transcript_text};
 
 use crate::fault::Fault;
-use crate::load::{LoadFault, load};
 use crate::options::Options;
 use std::alloc::Global;
 use std::fs;
@@ -13,6 +12,7 @@ use std::io::{self, BufWriter, Write};
 use std::rt::Files;
 use std::sync::Wait;
 use std::thread::Threads;
+use strm_plan::{LoadFault, load};
 use strm_play::{Outcome, play};
 use strm_script::print;
 
@@ -33,8 +33,11 @@ pub fn put<W: Write>(outcome: &Outcome, w: &mut W) -> io::Result<()>
 }
 
 /// Prints what is left of a script that was played.
-fn put_out<R: Print>(rt: &R, alloc: Global, outcome: &Outcome) -> io::Result<()> {
-    put(outcome, &mut BufWriter::new(alloc, io::writer(rt))?)
+fn put_out<R: Print>(rt: &R, alloc: Global, outcome: &Outcome) -> Result<(), Fault> {
+    let Ok(mut out) = BufWriter::new(alloc, io::writer(rt)) else {
+        return Err(Fault::no_memory());
+    };
+    put(outcome, &mut out).map_err(|_| Fault::Write)
 }
 
 /// Plays the script that a command line names, and prints its transcript.
@@ -49,5 +52,5 @@ pub fn serve<R: Files + Print + Threads + Wait + AllocGlobal + Sync>(
     let options = Options::read(alloc, words)?;
     let bytes = script(rt, alloc, options.path)?;
     let outcome = play(rt, alloc, bytes.as_slice(), options.workers)?;
-    put_out(rt, alloc, &outcome).map_err(|_| Fault::Write)
+    put_out(rt, alloc, &outcome)
 }

@@ -1,10 +1,11 @@
 //! Transcripts of which no script can be the cause: answers that no stream gives to such a call, numbers that do not
-//! fit each other, and a writer that is full.
+//! fit each other, and writers that fail.
 use super::plan_of;
 use Ask::{Getband, Nread, Str};
 use Say::{Ack, Broke, Line, Nak, Refused};
 use arrayvec::ArrayVec;
 use std::alloc::Global;
+use std::io::{self, ErrorKind, Write};
 use std::process::Abort;
 use strm_call::{Acknowledged, Answer, Name, Refusal, Reply, Request};
 use strm_head::{Event, MOST_MODULES, Moves};
@@ -272,35 +273,6 @@ fn steps_are_spelt_with_their_answers(rt: HostRuntime) {
     assert!(rt; printed(&rt, alloc, &plan, log) == lines(&rt, alloc));
 }
 
-/// Each driver, the names on end A, and what is printed of the stream.
-const STREAMS: [(&[u8], &[&[u8]], &str); 3] = [
-    (
-        b"stream st echo 16/4 16/4",
-        &[b"top", b"low"],
-        "stream st\nopen a top low\n",
-    ),
-    (
-        b"stream st loop 16/4 16/4",
-        &[b"m"],
-        "stream st\nopen a m\nopen b\n",
-    ),
-    (
-        b"stream st line 16/4 16/4 1",
-        &[],
-        "stream st\nopen a\nfeed accepted 3 arrived 2 overrun 1\n",
-    ),
-];
-
-#[test]
-fn ends_and_feeds_follow_the_steps(rt: HostRuntime) {
-    let alloc: Global = rt.alloc();
-    for (stream, on_a, wanted) in STREAMS {
-        let plan = plan_of(&rt, alloc, stream);
-        let text = printed(&rt, alloc, &plan, log(&rt, alloc, on_a));
-        assert!(rt; text.as_slice() == wanted.as_bytes());
-    }
-}
-
 /// A plan with a loop `one` and an echo `two`, and one process, `p`.
 const PLAN: &[u8] = b"stream one loop 16/4 16/4\nstream two echo 16/4 16/4\nprocess p";
 
@@ -324,20 +296,62 @@ fn transcript(rt: &impl Abort, alloc: Global) -> Transcript<Kind> {
 /// What is printed of it. The third log is of no stream.
 const PRINTED: &str = "stream one\nopen a\nopen b\nstream two\np close two:a : closed\nclosed a\n";
 
-#[test]
-fn streams_are_printed_in_the_order_of_the_plan(rt: HostRuntime) {
-    let alloc: Global = rt.alloc();
-    let (transcript, plan) = (transcript(&rt, alloc), plan_of(&rt, alloc, PLAN));
-    let mut out: Vec<u8> = Vec::new(alloc);
-    assert!(rt; print(&transcript, &plan, &mut out).is_ok());
-    assert!(rt; out.as_slice() == PRINTED.as_bytes());
+/// A writer that takes at most so many bytes at a time, and fails at the write after so many others.
+#[derive(Drop)]
+struct Taker {
+    out: ArrayVec<u8, 80>,
+    most: usize,
+    before: usize,
 }
 
+impl Write for Taker {
+    fn write(&mut self, buf: &[u8]) -> io::Result<usize> {
+        if self.before == 0 {
+            return Err(io::Error::from(ErrorKind::BrokenPipe));
+        }
+        self.before -= 1;
+        self.out.write(&buf[..self.most.min(buf.len())])
+    }
+
+    fn flush(&mut self) -> io::Result<()> {
+        Ok(())
+    }
+}
+
+/// What is printed to such a writer, and whether all was.
+fn taken(transcript: &Transcript<Kind>, plan: &Plan, most: usize, before: usize) -> Taken {
+    let out = ArrayVec::new();
+    let mut taker = Taker { out, most, before };
+    let is_ok = print(transcript, plan, &mut taker).is_ok();
+    (taker.out, is_ok)
+}
+
+/// What a writer has, and whether all was printed.
+type Taken = (ArrayVec<u8, 80>, bool);
+
+/// Whether all was printed, or it was not and the writer has its beginning.
+fn is_beginning((out, is_ok): &Taken) -> bool {
+    if *is_ok {
+        out.as_slice() == PRINTED.as_bytes()
+    } else {
+        PRINTED.as_bytes().starts_with(out.as_slice())
+    }
+}
+
+/// How many bytes are printed, and so after how many writes all is, at the latest.
+const WRITES: usize = 68;
+
 #[test]
-fn a_writer_that_is_full_ends_the_printing(rt: HostRuntime) {
+fn each_write_may_fail_or_take_little(rt: HostRuntime) {
     let alloc: Global = rt.alloc();
     let (transcript, plan) = (transcript(&rt, alloc), plan_of(&rt, alloc, PLAN));
-    let mut out: ArrayVec<u8, 40> = ArrayVec::new();
-    assert!(rt; print(&transcript, &plan, &mut out).is_err());
-    assert!(rt; PRINTED.as_bytes().starts_with(out.as_slice()));
+    for most in [1, 5, 80] {
+        for before in 0..WRITES {
+            assert!(rt; is_beginning(&taken(&transcript, &plan, most, before)));
+        }
+        let all = taken(&transcript, &plan, most, WRITES);
+        assert!(rt; all.1 && is_beginning(&all));
+    }
+    let (none, is_ok) = taken(&transcript, &plan, 0, WRITES);
+    assert!(rt; !is_ok && none.is_empty());
 }

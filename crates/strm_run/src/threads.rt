@@ -32,7 +32,18 @@ fn work<M: ModuleOf, N: Plays<M::Kind>, R: Wait, G: Gate>(
     Ok(all)
 }
 
-/// Starts a thread for each worker, and waits for all of them.
+/// What two parts of a run leave, one behind the other; want of memory, where one of them met it.
+fn both<T: Drop>(
+    first: Result<Vec<T>, NoMem>,
+    second: Result<Vec<T>, NoMem>,
+) -> Result<Vec<T>, NoMem> {
+    let mut all = first?;
+    let mut more = second?;
+    all.append(&mut more)?;
+    Ok(all)
+}
+
+/// Starts a thread for each worker, and waits for all that were started, also where one could not be: then no more are.
 fn play_all<M: ModuleOf, N: Plays<M::Kind> + Send + Sync, R: Threads + Wait + Sync, G: Gate>(
     rt: &R,
     alloc: Global,
@@ -51,26 +62,26 @@ where
             requires { IsSync R.row × IsSync G.row × IsSend M.row × IsSend M.Kind.row × IsSend N.row × IsSync N.row × CallsDoFit M.row M.Kind.row M.Kind.Kinds }
         {
             let mut handles = Vec::new(alloc);
+            let mut played = Ok(Vec::new(alloc));
             for crew in crews {
+                let Ok(()) = handles.reserve(1) else {
+                    played = Err(NoMem);
+                    break;
+                };
                 let Ok(handle) = scope.spawn(
                     move || -> Result<Vec<Played<M::Kind, N>>, NoMem>
                         requires { IsSend M.row × CallsDoFit M.row M.Kind.row M.Kind.Kinds }
                     { work(rt, alloc, streams, crew, gate) },
                 ) else {
-                    return Err(NoMem);
+                    played = Err(NoMem);
+                    break;
                 };
-                let Ok(()) = handles.push(handle) else {
-                    return Err(NoMem);
-                };
+                handles.push_reserved(handle);
             }
-            let mut all = Vec::new(alloc);
             for handle in handles {
-                let mut some = handle.join(rt)?;
-                let Ok(()) = all.append(&mut some) else {
-                    return Err(NoMem);
-                };
+                played = both(played, handle.join(rt));
             }
-            Ok(all)
+            played
         },
     )
 }
@@ -87,7 +98,15 @@ fn feed<M: ModuleOf, N: Plays<M::Kind>, R: Wait>(
     feeding.offer(rt, streams.at(number))
 }
 
-/// Starts a thread for each feed that has messages, and the workers, and waits for all of them.
+/// What was left before, and one more; want of memory, where that was met.
+fn with_one<T: Drop>(before: Result<Vec<T>, NoMem>, one: T) -> Result<Vec<T>, NoMem> {
+    let mut all = before?;
+    all.push(one)?;
+    Ok(all)
+}
+
+/// Starts a thread for each feed that has messages, and then the workers, and waits for all that were started, also
+/// where one could not be: then no more are.
 pub(crate) fn play_out<
     M: ModuleOf,
     N: Plays<M::Kind> + Send + Sync,
@@ -111,29 +130,36 @@ where
         |scope| -> Result<(Vec<Played<M::Kind, N>>, Vec<Offered<M::Kind, N>>), NoMem>
             requires { IsSync R.row × IsSync G.row × IsSend M.row × IsSend M.Kind.row × IsSend N.row × IsSync N.row × CallsDoFit M.row M.Kind.row M.Kind.Kinds }
         {
-            let mut offered = Vec::new(alloc);
             let mut handles = Vec::new(alloc);
+            let mut offered = Ok(Vec::new(alloc));
             for feeding in feedings {
                 if feeding.is_empty() {
-                    offered.push(feed(rt, streams, feeding))?;
+                    offered = with_one(offered, feed(rt, streams, feeding));
                     continue;
                 }
+                let Ok(()) = handles.reserve(1) else {
+                    offered = Err(NoMem);
+                    break;
+                };
                 let Ok(handle) = scope.spawn(
                     move || -> Offered<M::Kind, N>
                         requires { IsSend M.row }
                     { feed(rt, streams, feeding) },
                 ) else {
-                    return Err(NoMem);
+                    offered = Err(NoMem);
+                    break;
                 };
-                let Ok(()) = handles.push(handle) else {
-                    return Err(NoMem);
-                };
+                handles.push_reserved(handle);
             }
-            let played = play_all(rt, alloc, streams, crews, gate)?;
+            let played = if offered.is_ok() {
+                play_all(rt, alloc, streams, crews, gate)
+            } else {
+                Err(NoMem)
+            };
             for handle in handles {
-                offered.push(handle.join(rt))?;
+                offered = with_one(offered, handle.join(rt));
             }
-            Ok((played, offered))
+            Ok((played?, offered?))
         },
     )
 }

@@ -2,7 +2,7 @@
 use std::alloc::Global;
 use std::rt::Clock;
 use std::time::Instant;
-use strm_head::{Driver, Outcome, Priority, Request, Stream, Wanted};
+use strm_head::{Driver, Priority, Request, Stream, Wanted};
 use strm_module::{Boxed, Instance, Kind, Plain, Shape};
 use strm_msg::{Bytes, End, NoMem};
 
@@ -113,22 +113,26 @@ struct Service {
 }
 
 impl Service {
-    /// With that of one more call.
-    fn with(self, outcome: &Outcome<Plain>) -> Service {
+    /// With that of another call.
+    fn with(self, other: Service) -> Service {
         Service {
-            moves: self.moves.saturating_add(outcome.moves.len() as u64),
-            looks: self.looks.saturating_add(outcome.looks),
+            moves: self.moves.saturating_add(other.moves),
+            looks: self.looks.saturating_add(other.looks),
         }
     }
 }
 
-/// A call on the stream's end.
-fn ask(stream: &mut Stream<Plain>, request: Request<Boxed<Plain>>) -> Outcome<Plain> {
-    stream.apply(End::A, request)
+/// Makes a call on the stream's end. Gives the service that it had.
+fn ask(stream: &mut Stream<Plain>, request: Request<Boxed<Plain>>) -> Service {
+    let outcome = stream.apply(End::A, request);
+    Service {
+        moves: outcome.moves.len() as u64,
+        looks: outcome.looks,
+    }
 }
 
 /// Writes a message.
-fn write(alloc: Global, stream: &mut Stream<Plain>) -> Result<Outcome<Plain>, NoMem> {
+fn write(alloc: Global, stream: &mut Stream<Plain>) -> Result<Service, NoMem> {
     let dat = Bytes::from_slice(alloc, TEXT)?;
     Ok(ask(stream, Request::Write { dat }))
 }
@@ -172,7 +176,7 @@ fn turn(
         Calls::WriteRead => {
             let wrote = write(alloc, stream)?;
             let read = ask(stream, Request::Read { max: 5 });
-            Ok(service.with(&wrote).with(&read))
+            Ok(service.with(wrote).with(read))
         }
         Calls::GetmsgWrite => {
             let getmsg = Request::Getmsg {
@@ -182,11 +186,11 @@ fn turn(
             };
             let got = ask(stream, getmsg);
             let wrote = write(alloc, stream)?;
-            Ok(service.with(&got).with(&wrote))
+            Ok(service.with(got).with(wrote))
         }
         Calls::GetRead => {
             let got = ask(stream, Request::GetRead);
-            Ok(service.with(&got))
+            Ok(service.with(got))
         }
     }
 }

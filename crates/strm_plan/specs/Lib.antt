@@ -5,3 +5,4 @@ pub mod Spelling
 pub mod Sound
 pub mod Calls
 pub mod Fault
+pub mod Load

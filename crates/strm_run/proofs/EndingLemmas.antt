@@ -3,7 +3,7 @@ use Rattle.std.proofs.Common.{◌≡◌, ℕ, zero, suc, ◌+◌, ◌<◌, ◌�
 use Rattle.std.specs.Prelude.{nat_lt, IsOkAnd, MatchResult}
 use Rattle.std.proofs.lemmas.Bool.{eqb-true, ltb-true, ltb-false}
 use Rattle.std.proofs.Math.Seq.{get_or-append_seam}
-use Rattle.std.proofs.lemmas.List.{take_all, length-set, length_push, get_or-set_other, get_or_append_left}
+use Rattle.std.proofs.lemmas.List.{take_all, length-append, length-set, length_push, get_or-set_other, get_or_append_left}
 use Rattle.strm_msg.specs.Message.{Msg}
 use Rattle.strm_module.specs.Kinds.{Meaning}
 use Rattle.strm_head.specs.Step.{is_line}
@@ -17,7 +17,8 @@ use Rattle.strm_history.specs.Serials.{AreAccounted}
 use Rattle.strm_shared.specs.Seat.{SeatValue}
 use Rattle.strm_history.specs.Entry.{asked_of}
 use Rattle.strm_shared.specs.Turns.{AreFirstOf}
-use Rattle.strm_shared.specs.Ending.{SharedValue, FeedValue, AreSeats, CountsAgree, accepted_of, is_fed}
+use Rattle.strm_ring.specs.Feed.{FeedValue, accepted_of}
+use Rattle.strm_shared.specs.Ending.{SharedValue, AreSeats, CountsAgree, is_fed}
 use Rattle.strm_run.specs.declared.fault.RunFault.{RunFault}
 use Rattle.strm_run.specs.declared.script.Script.{Script}
 use Rattle.strm_run.specs.declared.transcript.StreamLog.{StreamLog}
@@ -61,9 +62,13 @@ not_true : (b : Bool) → not b ≡ true → b ≡ false
 not_true true is = absurd cc
 not_true false is = refl
 
-fed_by : {K : Type 0} (run : RunValue K) (shared : SharedValue) (feed : Option FeedValue) (history : List (Entry K)) (left : List Msg) (accepted overrun : ℕ) (log : StreamLog K) → (is_line shared.setup.driver ≡ false → feed_of run.feeds shared.number ≡ []) → IsOffered run feed overrun → is_fed shared.number shared.setup feed ≡ true → arrivals history ++ left ≡ accepted_of feed → accepted ≡ length (accepted_of feed) → log.history.items ≡ history → log.accepted ≡ accepted → log.arrived ≡ length (arrivals history) → log.overrun ≡ overrun → IsFed (feed_of run.feeds shared.number) log
-fed_by run shared None history left accepted overrun log unfed offered fed came many same accepted_is arrived overrun_is =
+accepted_many : {K : Type 0} (history : List (Entry K)) (left : List Msg) (feed : Option FeedValue) → arrivals history ++ left ≡ accepted_of feed → length (arrivals history) + length left ≡ length (accepted_of feed)
+accepted_many history left feed came = sym (length-append (arrivals history) left) ∙ ap (λ l. length l) came
+
+fed_by : {K : Type 0} (run : RunValue K) (shared : SharedValue) (feed : Option FeedValue) (history : List (Entry K)) (left : List Msg) (overrun : ℕ) (log : StreamLog K) → (is_line shared.setup.driver ≡ false → feed_of run.feeds shared.number ≡ []) → IsOffered run feed overrun → is_fed shared.number shared.setup feed ≡ true → arrivals history ++ left ≡ accepted_of feed → log.history.items ≡ history → log.accepted ≡ length (arrivals history) + length left → log.arrived ≡ length (arrivals history) → log.overrun ≡ overrun → IsFed (feed_of run.feeds shared.number) log
+fed_by run shared None history left overrun log unfed offered fed came same accepted_is arrived overrun_is =
     let none = unfed (not_true _ fed) in
+    let many = accepted_many history left None came in
     record {
       accepted = [];
       left = left;
@@ -73,8 +78,9 @@ fed_by run shared None history left accepted overrun log unfed offered fed came 
       arrived = arrived ∙ ap (λ h. length (arrivals h)) (sym same);
       all = ap (λ n. n + log.overrun) (accepted_is ∙ many) ∙ ap (λ n. 0 + n) (overrun_is ∙ offered) ∙ ap (λ l. length l) (sym none);
     }
-fed_by run shared (Some feed) history left accepted overrun log unfed offered fed came many same accepted_is arrived overrun_is =
+fed_by run shared (Some feed) history left overrun log unfed offered fed came same accepted_is arrived overrun_is =
     let here : feed.number ≡ shared.number = eqb-true _ _ fed in
+    let many = accepted_many history left (Some feed) came in
     record {
       accepted = feed.accepted;
       left = left;
@@ -86,8 +92,8 @@ fed_by run shared (Some feed) history left accepted overrun log unfed offered fe
     }
 
 -- what a stream leaves that ended
-pub log_left : {M K : Type 0} (means : Meaning K) (run : RunValue K) (shared : SharedValue) (seats : List SeatValue) (feed : Option FeedValue) (accepted overrun : ℕ) (ended : Result (Ended M K) EndFault) (result : Result (StreamLog K) RunFault) → IsStream run shared → All (HasPlayed run shared.number) seats → (is_line shared.setup.driver ≡ false → feed_of run.feeds shared.number ≡ []) → IsOffered run feed overrun → accepted ≡ length (accepted_of feed) → MatchResult ended (λ done. IsOkAnd result (λ log. IsLogOf done.history.items done.stream accepted overrun log)) (λ fault. result ≡ Err (fault_of fault)) → IfOk ended (λ done. Legal means (opened shared.setup) done.history.items done.stream) → IfOk ended (λ done. AreAccounted (opened shared.setup) done.history.items done.stream) → IfOk ended (λ done. CountsAgree done.history.items seats) → IfOk ended (λ done. (caller : ℕ) → AreFirstOf (Some (calls_on shared.number (script_of run.scripts caller))) (own caller done.history.items)) → IfOk ended (λ done. arrivals done.history.items ++ done.left.items ≡ accepted_of feed) → IfOk ended (λ done. is_fed shared.number shared.setup feed ≡ true) → IfOk ended (λ done. AreSeats shared.number shared.seats seats) → IfOk result (λ log. IsLog means run shared.number shared.setup log)
-log_left means run shared seats feed accepted overrun (Ok done) (Ok log) stream played unfed offered many is legal accounts counts first came fed are = record {
+pub log_left : {M K : Type 0} (means : Meaning K) (run : RunValue K) (shared : SharedValue) (seats : List SeatValue) (feed : Option FeedValue) (overrun : ℕ) (ended : Result (Ended M K) EndFault) (result : Result (StreamLog K) RunFault) → IsStream run shared → All (HasPlayed run shared.number) seats → (is_line shared.setup.driver ≡ false → feed_of run.feeds shared.number ≡ []) → IsOffered run feed overrun → MatchResult ended (λ done. IsOkAnd result (λ log. IsLogOf done.history.items done.stream done.left.items overrun log)) (λ fault. result ≡ Err (fault_of fault)) → IfOk ended (λ done. Legal means (opened shared.setup) done.history.items done.stream) → IfOk ended (λ done. AreAccounted (opened shared.setup) done.history.items done.stream) → IfOk ended (λ done. CountsAgree done.history.items seats) → IfOk ended (λ done. (caller : ℕ) → AreFirstOf (Some (calls_on shared.number (script_of run.scripts caller))) (own caller done.history.items)) → IfOk ended (λ done. arrivals done.history.items ++ done.left.items ≡ accepted_of feed) → IfOk ended (λ done. is_fed shared.number shared.setup feed ≡ true) → IfOk ended (λ done. AreSeats shared.number shared.seats seats) → IfOk result (λ log. IsLog means run shared.number shared.setup log)
+log_left means run shared seats feed overrun (Ok done) (Ok log) stream played unfed offered is legal accounts counts first came fed are = record {
   legal = record {
     after = done.stream;
     legal = subst (λ h. Legal means (opened shared.setup) h done.stream) (sym is.same) legal;
@@ -96,11 +102,11 @@ log_left means run shared seats feed accepted overrun (Ok done) (Ok log) stream 
     b = is.b;
   };
   calls = λ caller. subst (λ h. map asked_of (own caller h) ≡ calls_on shared.number (script_of run.scripts caller)) (sym is.same) (calls_all run shared seats stream are played done.history.items caller counts (first caller));
-  fed = fed_by run shared feed done.history.items done.left.items accepted overrun log unfed offered fed came many is.same is.accepted_is is.arrived is.overrun_is;
+  fed = fed_by run shared feed done.history.items done.left.items overrun log unfed offered fed came is.same is.accepted_is is.arrived is.overrun_is;
 }
-log_left means run shared seats feed accepted overrun (Ok done) (Err fault) stream played unfed offered many is legal accounts counts first came fed are = tt
-log_left means run shared seats feed accepted overrun (Err fault) (Ok log) stream played unfed offered many is legal accounts counts first came fed are = absurd cc
-log_left means run shared seats feed accepted overrun (Err fault) (Err other) stream played unfed offered many is legal accounts counts first came fed are = tt
+log_left means run shared seats feed overrun (Ok done) (Err fault) stream played unfed offered is legal accounts counts first came fed are = tt
+log_left means run shared seats feed overrun (Err fault) (Ok log) stream played unfed offered is legal accounts counts first came fed are = absurd cc
+log_left means run shared seats feed overrun (Err fault) (Err other) stream played unfed offered is legal accounts counts first came fed are = tt
 
 -- the streams of a run that have ended, and the seats of the others
 pub record AreEnding {K : Type 0} (means : Meaning K) (run : RunValue K) (streams : List SharedValue) (at : ℕ) (seats : List (Vec SeatValue Global)) (logs : List (StreamLog K)) : Type 0 where

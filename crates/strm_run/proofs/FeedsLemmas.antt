@@ -7,7 +7,7 @@ use Rattle.std.proofs.lemmas.List.{length-append, length-set, get_or-set_same, g
 use Rattle.strm_msg.specs.Message.{Msg}
 use Rattle.strm_head.specs.Step.{is_line}
 use Rattle.strm_history.specs.declared.setup.Setup.{Setup}
-use Rattle.strm_shared.specs.Ending.{fresh_feed, FeedValue}
+use Rattle.strm_ring.specs.Feed.{fresh_feeder, FeederValue}
 use Rattle.strm_run.specs.declared.script.Feed.{Feed}
 use Rattle.strm_run.specs.Scripts.{feed_of, line_is_there}
 use Rattle.strm_run.specs.Run.{RunValue}
@@ -79,33 +79,36 @@ lines_same setups at is =
     ap (λ (m : ℕ). lines_below setups m) n ∙ fails_more (λ k. line_is_there (slice_get setups k)) (callers_of at) at is
 
 -- a feeder, or none, that a loop over them has reached
-module _ {K : Type 0} (run : RunValue K) (feeders before after : List (Option FeedValue)) (feeder : Option FeedValue) (at : ℕ) (are : AreFeeders run feeders) (is : before ++ feeder ∷ after ≡ feeders) (place : at ≡ length before) where
+module _ {K : Type 0} (run : RunValue K) (feeders before after : List (Option FeederValue)) (feeder : Option FeederValue) (at : ℕ) (are : AreFeeders run feeders) (is : before ++ feeder ∷ after ≡ feeders) (place : at ≡ length before) where
   setup_there : at < length run.setups
   setup_there = subst (λ n. at < n) are.many (reached_there feeders before after feeder at is place)
 
   setup : Setup
   setup = first run.setups at setup_there
 
-  fresh : fresh_feed at (get_or run.setups at setup) ≡ feeder
+  fresh : fresh_feeder at (get_or run.setups at setup) ≡ feeder
   fresh = sym (are.each at feeder setup setup_there) ∙ reached_is feeders before after feeder feeder at is place
 
-  -- one that is there is a line's
-  module _ (found : FeedValue) (there : feeder ≡ Some found) where
-    chosen : (is_line (get_or run.setups at setup).driver ≡ true) × (found ≡ record { number = at; offers = 0; accepted = [] })
-    chosen = some_if (is_line (get_or run.setups at setup).driver) (record { number = at; offers = 0; accepted = [] }) found (fresh ∙ there)
+  abbrev new : FeederValue
+  new = record { feed = record { number = at; offers = 0; accepted = [] }; room = (get_or run.setups at setup).ring }
 
-    pub lines_found : (lines : List ℕ) → lines ≡ lines_below run.setups at → lines ++ found.number ∷ [] ≡ lines_below run.setups (at + 1)
+  -- one that is there is a line's
+  module _ (found : FeederValue) (there : feeder ≡ Some found) where
+    chosen : (is_line (get_or run.setups at setup).driver ≡ true) × (found ≡ new)
+    chosen = some_if (is_line (get_or run.setups at setup).driver) new found (fresh ∙ there)
+
+    pub lines_found : (lines : List ℕ) → lines ≡ lines_below run.setups at → lines ++ found.feed.number ∷ [] ≡ lines_below run.setups (at + 1)
     lines_found lines was =
-        ap (λ (f : FeedValue). lines ++ f.number ∷ []) chosen.1 ∙ ap (λ (l : List ℕ). l ++ at ∷ []) was ∙ sym (lines_more run.setups at (line_at run.setups at setup setup_there ∙ chosen.0))
+        ap (λ (f : FeederValue). lines ++ f.feed.number ∷ []) chosen.1 ∙ ap (λ (l : List ℕ). l ++ at ∷ []) was ∙ sym (lines_more run.setups at (line_at run.setups at setup setup_there ∙ chosen.0))
 
     -- with what the line is fed
-    pub feeding_found : (feeds now : List (Vec Msg Global)) (messages : Vec Msg Global) → AreFeeds run.feeds (length run.setups) feeds → ((k : ℕ) (d : Vec Msg Global) → at ≤ k → get_or now k d ≡ get_or feeds k d) → messages ≡ get_or now at messages → IsFeeding run found messages.items
+    pub feeding_found : (feeds now : List (Vec Msg Global)) (messages : Vec Msg Global) → AreFeeds run.feeds (length run.setups) feeds → ((k : ℕ) (d : Vec Msg Global) → at ≤ k → get_or now k d ≡ get_or feeds k d) → messages ≡ get_or now at messages → IsFeeding run found.feed messages.items
     feeding_found feeds now messages fed behind stood =
         let mine : messages.items ≡ feed_of run.feeds at =
         ap (λ (v : Vec Msg Global). v.items) (stood ∙ behind at messages (omega arith)) ∙ fed.each at messages setup_there in
-        subst (λ (f : FeedValue). IsFeeding run f messages.items) (sym chosen.1) (record { there = setup_there; begins = refl; none = refl; feed = mine })
+        subst (λ (f : FeederValue). IsFeeding run f.feed messages.items) (sym chosen.1) (record { there = setup_there; begins = refl; none = refl; feed = mine })
 
   -- the other streams have none
-  pub lines_none : (lines : List ℕ) → ((found : FeedValue) → feeder ≡ Some found → ⊥) → lines ≡ lines_below run.setups at → lines ≡ lines_below run.setups (at + 1)
+  pub lines_none : (lines : List ℕ) → ((found : FeederValue) → feeder ≡ Some found → ⊥) → lines ≡ lines_below run.setups at → lines ≡ lines_below run.setups (at + 1)
   lines_none lines none was =
-      was ∙ sym (lines_same run.setups at (line_at run.setups at setup setup_there ∙ none_if (is_line (get_or run.setups at setup).driver) (record { number = at; offers = 0; accepted = [] }) feeder fresh none))
+      was ∙ sym (lines_same run.setups at (line_at run.setups at setup setup_there ∙ none_if (is_line (get_or run.setups at setup).driver) new feeder fresh none))

@@ -10,6 +10,8 @@ use Rattle.strm_head.specs.declared.event.Event.TheVariants.{Asked}
 use Rattle.strm_msg.specs.Kind.{is_from_line}
 use Rattle.strm_history.specs.declared.setup.Setup.{Setup}
 use Rattle.strm_history.specs.Setup.{is_fit, is_ring}
+use Rattle.strm_ring.specs.Name.{RingName}
+use Rattle.strm_ring.specs.Feed.{RingValue}
 use Rattle.strm_run.specs.declared.script.ScriptCall.{ScriptCall}
 use Rattle.strm_run.specs.declared.script.Script.{Script}
 use Rattle.strm_run.specs.declared.script.Feed.{Feed}
@@ -31,6 +33,12 @@ script_of (script ∷ rest) (suc caller) = script_of rest caller
 abbrev pub feed_of : List Feed → ℕ → List Msg
 feed_of [] number = []
 feed_of (feed ∷ rest) number = if feed.stream == number then feed.messages.items else feed_of rest number
+
+-- the ring of a stream, by its name; there are none past the last
+abbrev pub ring_of : List RingValue → ℕ → Option RingName
+ring_of [] number = None
+ring_of (ring ∷ rest) zero = ring.name
+ring_of (ring ∷ rest) (suc number) = ring_of rest number
 
 -- a stream of this number has this end
 abbrev pub end_is_there : Option Setup → End → Bool

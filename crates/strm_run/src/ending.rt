@@ -21,10 +21,11 @@ use std::mem;
 use strm_head::Answer;
 use strm_module::ModuleOf;
 use strm_msg::NoMem;
-use strm_shared::{EndFault, Ended, FeedEnd, Seat, Shared};
+use strm_ring::FeedEnd;
+use strm_shared::{EndFault, Ended, Seat, Shared};
 
 /// What the feeder of a stream leaves, and how many of its messages came back; nothing where it has none.
-fn fed<K, N: Plays<K>>(offered: Option<Offered<K, N>>) -> (Option<FeedEnd>, u64)
+fn fed<K, N: Plays<K>>(offered: Option<Offered<K, N>>) -> (Option<FeedEnd<K, Of<N>>>, u64)
     ensures feed { result.0 ≡ option_map (λ o. o.feed) offered }
     ensures overrun { result.1 ≡ overrun_of offered }
     ensures offered { IsOffered N.run result.0 result.1 }
@@ -41,14 +42,13 @@ fn fed<K, N: Plays<K>>(offered: Option<Offered<K, N>>) -> (Option<FeedEnd>, u64)
 /// What is left of a stream, where it ended.
 fn log_of_end<M: ModuleOf>(
     ended: Result<Ended<M>, EndFault>,
-    accepted: u64,
     overrun: u64,
 ) -> Result<StreamLog<M::Kind>, RunFault>
-    ensures ended { MatchResult ended (λ done. IsOkAnd result (λ log. IsLogOf done.history.items done.stream accepted overrun log)) (λ fault. result ≡ Err (fault_of fault)) }
+    ensures ended { MatchResult ended (λ done. IsOkAnd result (λ log. IsLogOf done.history.items done.stream done.left.items overrun log)) (λ fault. result ≡ Err (fault_of fault)) }
     ensures refusal { IfErr result (λ fault. is_end_refused fault ≡ true) }
 {
     match ended {
-        Ok(ended) => Ok(log_of(ended, accepted, overrun)),
+        Ok(ended) => Ok(log_of(ended, overrun)),
         Err(EndFault::NoMem) => Err(RunFault::NoMem),
         Err(_) => Err(RunFault::Unfinished),
     }
@@ -67,11 +67,7 @@ fn end_one<M: ModuleOf, N: Plays<M::Kind>>(
     ensures refusal { IfErr result (λ fault. is_end_refused fault ≡ true) }
 {
     let (feed, overrun) = fed(offered);
-    let accepted = match &feed {
-        Some(end) => end.accepted().len() as u64,
-        None => 0,
-    };
-    log_of_end(shared.end(seats, feed), accepted, overrun)
+    log_of_end(shared.end(seats, feed), overrun)
 }
 
 /// Ends the streams of a run, in order. The first that does not end gives the fault.

@@ -1,23 +1,20 @@
 //! A feeder that offers its feed.
-ghost use Rattle.std.specs.Prelude.{◌≡◌, ◌<◌, true, false, [], ◌∷◌, ◌++◌, length, slice_get, All, Some};
+ghost use Rattle.std.specs.Prelude.{◌≡◌, ◌<◌, true, false, [], ◌∷◌, ◌++◌, length, slice_get, All, Some, IfSome};
 ghost use Rattle.strm_msg.specs.Kind.{is_from_line};
 ghost use Rattle.strm_queue.specs.Run.{one_more};
 ghost use Rattle.strm_run.specs.Scripts.{feed_of};
 ghost use Rattle.strm_run.specs.Inside.Run.{HasOffered, IsFeeding};
 
 use crate::about::{Of, Plays};
-use std::marker::{Model, PhantomData};
-use std::sync::Wait;
-use strm_module::ModuleOf;
+use std::marker::Model;
 use strm_msg::Message;
-use strm_shared::{FeedEnd, Feeder, Shared};
+use strm_ring::{FeedEnd, Feeder};
 
 /// A feeder with the messages that it is to offer.
 #[derive(Drop)]
 pub(crate) struct Feeding<K, N: Plays<K>> {
-    feeder: Feeder,
+    feeder: Feeder<K, Of<N>>,
     messages: Vec<Message>,
-    of: PhantomData<(K, N)>,
 }
 
 impl<K, N: Plays<K>> Model for Feeding<K, N> {
@@ -27,17 +24,16 @@ impl<K, N: Plays<K>> Model for Feeding<K, N> {
 
     ghost Value = { ℕ };
 
-    ghost view = { λ f. f.feeder.number };
+    ghost view = { λ f. f.feeder.feed.number };
 
-    ghost invariant = { λ f. IsFeeding N.run f.feeder f.messages.items × All (λ m. is_from_line m.kind ≡ true) f.messages.items };
+    ghost invariant = { λ f. IsFeeding N.run f.feeder.feed f.messages.items × All (λ m. is_from_line m.kind ≡ true) f.messages.items };
 }
 
 /// A feeder that has offered each of its messages once.
 #[derive(Drop)]
 pub(crate) struct Offered<K, N: Plays<K>> {
-    end: FeedEnd,
+    end: FeedEnd<K, Of<N>>,
     overrun: u64,
-    of: PhantomData<(K, N)>,
 }
 
 impl<K, N: Plays<K>> Model for Offered<K, N> {
@@ -51,32 +47,23 @@ impl<K, N: Plays<K>> Model for Offered<K, N> {
 }
 
 /// Offers a message once, and says whether it was accepted. One that comes back is dropped.
-fn accepts<M: ModuleOf, N: Plays<M::Kind>, R: Wait>(
-    rt: &R,
-    feeder: &mut Feeder,
-    shared: &Shared<M, Of<N>>,
-    m: Message,
-) -> bool
+fn accepts<K, N: Plays<K>>(feeder: &mut Feeder<K, Of<N>>, m: Message) -> bool
     requires line { is_from_line m.kind ≡ true }
-    requires next { slice_get (feed_of N.run.feeds feeder.old.number) feeder.old.offers ≡ Some m }
-    ensures accepted { result ≡ true → feeder.new ≡ record feeder.old { offers = one_more feeder.old.offers; accepted = feeder.old.accepted ++ m ∷ [] } }
-    ensures none { result ≡ false → feeder.new ≡ record feeder.old { offers = one_more feeder.old.offers } }
+    requires next { slice_get (feed_of N.run.feeds feeder.old.feed.number) feeder.old.feed.offers ≡ Some m }
+    ensures accepted { result ≡ true → feeder.new.feed ≡ record feeder.old.feed { offers = one_more feeder.old.feed.offers; accepted = feeder.old.feed.accepted ++ m ∷ [] } }
+    ensures none { result ≡ false → feeder.new.feed ≡ record feeder.old.feed { offers = one_more feeder.old.feed.offers } }
 {
-    feeder.arrive(rt, shared, m).is_ok()
+    feeder.arrive(m).is_ok()
 }
 
 impl<K, N: Plays<K>> Feeding<K, N> {
     /// A feeder that has offered none of its messages.
-    pub(crate) fn new(feeder: Feeder, messages: Vec<Message>) -> Feeding<K, N>
-        requires feed { IsFeeding N.run feeder messages.items }
+    pub(crate) fn new(feeder: Feeder<K, Of<N>>, messages: Vec<Message>) -> Feeding<K, N>
+        requires feed { IsFeeding N.run feeder.feed messages.items }
         requires kinds { All (λ m. is_from_line m.kind ≡ true) messages.items }
-        ensures { result ≡ feeder.number }
+        ensures { result ≡ feeder.feed.number }
     {
-        Feeding {
-            feeder,
-            messages,
-            of: PhantomData,
-        }
+        Feeding { feeder, messages }
     }
 
     /// The number of the stream.
@@ -92,31 +79,23 @@ impl<K, N: Plays<K>> Feeding<K, N> {
         self.messages.is_empty()
     }
 
-    /// Offers each message once, in order. One that comes back is dropped, and counted.
-    pub(crate) fn offer<M: ModuleOf<Kind = K>, R: Wait>(
-        self,
-        rt: &R,
-        shared: &Shared<M, Of<N>>,
-    ) -> Offered<K, N>
-        requires { shared.now.number ≡ self }
-        ensures { result.feed.number ≡ self }
+    /// Offers each message once, in order. One that comes back is dropped, and counted. `None` if the stream was dropped
+    /// before.
+    pub(crate) fn offer(self) -> Option<Offered<K, N>>
+        ensures { IfSome result (λ offered. offered.feed.number ≡ self) }
     {
         let Feeding {
             mut feeder,
             messages,
-            of: _,
         } = self;
         let mut overrun: u64 = 0;
         for m in messages {
-            if !accepts(rt, &mut feeder, shared, m) {
+            if !accepts(&mut feeder, m) {
                 overrun += 1;
             }
         }
-        Offered {
-            end: feeder.finish(),
-            overrun,
-            of: PhantomData,
-        }
+        let end = feeder.finish()?;
+        Some(Offered { end, overrun })
     }
 }
 
@@ -130,16 +109,12 @@ impl<K, N: Plays<K>> Offered<K, N> {
     }
 
     /// What the feeder leaves, and how many messages came back.
-    pub(crate) fn into_parts(self) -> (FeedEnd, u64)
+    pub(crate) fn into_parts(self) -> (FeedEnd<K, Of<N>>, u64)
         ensures feed { result.0 ≡ self.feed }
         ensures overrun { result.1 ≡ self.overrun }
         ensures offered { HasOffered N.run self.feed self.overrun }
     {
-        let Offered {
-            end,
-            overrun,
-            of: _,
-        } = self;
+        let Offered { end, overrun } = self;
         (end, overrun)
     }
 }

@@ -3,14 +3,14 @@ ghost use Rattle.std.specs.Prelude.{◌≡◌, ◌<◌, true, [], length, All, A
 ghost use Rattle.strm_msg.specs.Kind.{is_from_line};
 ghost use Rattle.strm_run.specs.Inside.Opening.{lines_of, AreFeeders, AreFeeds};
 
-use crate::about::Plays;
+use crate::about::{Of, Plays};
 use crate::feeding::{Feeding, Offered};
 use crate::script::Feed;
 use crate::table::empty_rows;
 use std::alloc::Global;
 use std::mem;
 use strm_msg::{Message, NoMem};
-use strm_shared::Feeder;
+use strm_ring::Feeder;
 
 /// What each stream is fed, in order of the streams. Refused for want of memory alone.
 pub(crate) fn feeds_of(
@@ -34,7 +34,7 @@ pub(crate) fn feeds_of(
 /// alone.
 pub(crate) fn feedings<K, N: Plays<K>>(
     alloc: Global,
-    feeders: Vec<Option<Feeder>>,
+    feeders: Vec<Option<Feeder<K, Of<N>>>>,
     mut feeds: Vec<Vec<Message>>,
 ) -> Result<Vec<Feeding<K, N>>, NoMem>
     requires feeders { AreFeeders N.run feeders.items }

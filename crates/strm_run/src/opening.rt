@@ -1,5 +1,5 @@
 //! The streams of a run, as they are made.
-ghost use Rattle.std.specs.Prelude.{◌≡◌, ◌<◌, ◌^◌, ◌∷◌, ◌++◌, [], true, length, All, IfOk, IsErrOf, IsOk, OnOk};
+ghost use Rattle.std.specs.Prelude.{◌≡◌, ◌<◌, ◌^◌, ◌∷◌, ◌++◌, [], true, length, map, All, IfOk, IsErrOf, IsOk, OnOk};
 ghost use Rattle.strm_history.specs.Setup.{is_fit, is_ring};
 ghost use Rattle.strm_run.specs.Inside.Opening.{AreOpened};
 
@@ -8,17 +8,32 @@ use std::alloc::Global;
 use strm_history::Setup;
 use strm_module::ModuleOf;
 use strm_msg::NoMem;
-use strm_shared::{Feeder, Seat, Shared, SharedFault};
+use strm_ring::{Feeder, Ring, SharedFault};
+use strm_shared::{Seat, Shared};
+
+/// A ring for each stream, in order of the setups. Refused for want of memory alone.
+pub(crate) fn rings_of(alloc: Global, setups: &[Setup]) -> Result<Vec<Ring>, NoMem>
+    requires { All (λ setup. is_ring setup ≡ true) setups.now }
+    ensures { IfOk result (λ rings. map (λ ring. ring.setup) rings.items ≡ setups.now) }
+{
+    let mut rings = Vec::new(alloc);
+    for setup in setups {
+        let Ok(ring) = Ring::new(alloc, *setup) else {
+            return Err(NoMem);
+        };
+        rings.push(ring)?;
+    }
+    Ok(rings)
+}
 
 /// One stream more that was made, with its seats, and its feeder if it has one. Refused for want of memory
 /// alone.
 fn keep<M: ModuleOf, N: Plays<M::Kind>>(
     streams: &mut Vec<Shared<M, Of<N>>>,
     seats: &mut Vec<Vec<Seat>>,
-    feeders: &mut Vec<Option<Feeder>>,
-    made: Result<(Shared<M, Of<N>>, Vec<Seat>, Option<Feeder>), SharedFault>,
+    feeders: &mut Vec<Option<Feeder<M::Kind, Of<N>>>>,
+    made: Result<(Shared<M, Of<N>>, Vec<Seat>, Option<Feeder<M::Kind, Of<N>>>), SharedFault>,
 ) -> Result<(), NoMem>
-    requires { IsErrOf made SharedFault.Ring → ⊥ }
     ensures streams { OnOk result (IfOk made (λ one. streams.new.items ≡ streams.old.items ++ one.0 ∷ [])) }
     ensures seats { OnOk result (IfOk made (λ one. seats.new.items ≡ seats.old.items ++ one.1 ∷ [])) }
     ensures feeders { OnOk result (IfOk made (λ one. feeders.new.items ≡ feeders.old.items ++ one.2 ∷ [])) }
@@ -33,30 +48,37 @@ fn keep<M: ModuleOf, N: Plays<M::Kind>>(
     Ok(())
 }
 
-/// A stream for each setup, numbered from 0, with a seat for each caller, and a feeder for each line.
+/// A stream for each ring, numbered from 0, with a seat for each caller, and a feeder for each line.
 /// Refused for want of memory alone.
 pub(crate) fn open<M: ModuleOf, N: Plays<M::Kind>>(
     alloc: Global,
-    setups: &[Setup],
+    rings: Vec<Ring>,
     callers: u32,
-) -> Result<(Vec<Shared<M, Of<N>>>, Vec<Vec<Seat>>, Vec<Option<Feeder>>), NoMem>
-    requires setups { N.run.setups ≡ setups.now }
+) -> Result<
+    (
+        Vec<Shared<M, Of<N>>>,
+        Vec<Vec<Seat>>,
+        Vec<Option<Feeder<M::Kind, Of<N>>>>,
+    ),
+    NoMem,
+>
+    requires rings { N.rings ≡ rings.items }
+    requires setups { map (λ ring. ring.setup) rings.items ≡ N.run.setups }
     requires callers { length N.run.scripts ≡ callers }
-    requires few { length setups.now < 2 ^ 32 }
-    requires rings { All (λ setup. is_ring setup ≡ true) setups.now }
-    requires marks { All (λ setup. is_fit setup ≡ true) setups.now }
+    requires few { length N.run.setups < 2 ^ 32 }
+    requires marks { All (λ setup. is_fit setup ≡ true) N.run.setups }
     ensures { IfOk result (λ all. AreOpened N.run all.0.items all.1.items all.2.items) }
 {
     let mut streams = Vec::new(alloc);
     let mut seats = Vec::new(alloc);
     let mut feeders = Vec::new(alloc);
     let mut number: u32 = 0;
-    for setup in setups {
+    for ring in rings {
         keep(
             &mut streams,
             &mut seats,
             &mut feeders,
-            Shared::new(alloc, number, *setup, callers),
+            Shared::new(alloc, number, callers, ring),
         )?;
         number += 1;
     }

@@ -14,7 +14,7 @@ use crate::ending::finish;
 use crate::fault::RunFault;
 use crate::feeds::{feedings, feeds_of};
 use crate::judge::{are_there, is_crew};
-use crate::opening::open;
+use crate::opening::{open, rings_of};
 use crate::script::{Feed, Gate, Script};
 use crate::streams::Streams;
 use crate::table::transposed;
@@ -26,6 +26,7 @@ use std::sync::Wait;
 use std::thread::Threads;
 use strm_history::Setup;
 use strm_module::{Boxed, ModuleOf};
+use strm_ring::Ring;
 
 /// A run of which all is there, under its name.
 fn run_named<M: ModuleOf, N: Plays<M::Kind> + Send + Sync, R: Threads + Wait + Sync, G: Gate>(
@@ -34,6 +35,7 @@ fn run_named<M: ModuleOf, N: Plays<M::Kind> + Send + Sync, R: Threads + Wait + S
     setups: Vec<Setup>,
     scripts: Vec<Script<Boxed<M>>>,
     feeds: Vec<Feed>,
+    rings: Vec<Ring>,
     workers: u32,
     gate: &G,
 ) -> Result<Transcript<M::Kind>, RunFault>
@@ -43,6 +45,8 @@ where
     requires setups { N.run.setups ≡ setups.items }
     requires scripts { N.run.scripts ≡ scripts.items }
     requires feeds { N.run.feeds ≡ feeds.items }
+    requires rings { N.rings ≡ rings.items }
+    requires made { map (λ ring. ring.setup) rings.items ≡ setups.items }
     requires few { (length setups.items < 2 ^ 32) × (length scripts.items < 2 ^ 32) }
     requires setups_fit { All (λ setup. is_setup setup ≡ true) setups.items }
     requires kinds { AreFromLine feeds.items }
@@ -53,7 +57,7 @@ where
 {
     let many = setups.len();
     let callers = scripts.len();
-    let (all, seats, feeders) = open(alloc, setups.as_slice(), callers as u32)?;
+    let (all, seats, feeders) = open(alloc, rings, callers as u32)?;
     let seats = transposed(alloc, seats, callers)?;
     let feedings = feedings(alloc, feeders, feeds_of(alloc, feeds, many)?)?;
     let crews = deal(alloc, seated(alloc, scripts, seats, many)?, workers)?;
@@ -109,5 +113,6 @@ where
     if !are_there(setups.as_slice(), scripts.as_slice(), feeds.as_slice()) {
         return Err(RunFault::NoSuch);
     }
-    run_named::<M, Brand, R, G>(rt, alloc, setups, scripts, feeds, workers, gate)
+    let rings = rings_of(alloc, setups.as_slice())?;
+    run_named::<M, Brand, R, G>(rt, alloc, setups, scripts, feeds, rings, workers, gate)
 }

@@ -1,5 +1,4 @@
 //! The threads of a run.
-ghost use Rattle.std.specs.Prelude.{◌≡◌};
 ghost use Rattle.std.specs.Thread.{IsSend, IsSync};
 ghost use Rattle.strm_run.specs.Inside.Run.{CallsDoFit};
 
@@ -86,22 +85,12 @@ where
     )
 }
 
-/// Offers a feed to the stream that it is for.
-fn feed<M: ModuleOf, N: Plays<M::Kind>, R: Wait>(
-    rt: &R,
-    streams: &Streams<M, N>,
-    feeding: Feeding<M::Kind, N>,
-) -> Offered<M::Kind, N>
-    ensures { result.feed.number ≡ feeding }
-{
-    let number = feeding.number();
-    feeding.offer(rt, streams.at(number))
-}
-
-/// What was left before, and one more; want of memory, where that was met.
-fn with_one<T: Drop>(before: Result<Vec<T>, NoMem>, one: T) -> Result<Vec<T>, NoMem> {
+/// What was left before, and one more, if there is one; want of memory, where that was met.
+fn with_one<T: Drop>(before: Result<Vec<T>, NoMem>, one: Option<T>) -> Result<Vec<T>, NoMem> {
     let mut all = before?;
-    all.push(one)?;
+    if let Some(one) = one {
+        all.push(one)?;
+    }
     Ok(all)
 }
 
@@ -134,18 +123,16 @@ where
             let mut offered = Ok(Vec::new(alloc));
             for feeding in feedings {
                 if feeding.is_empty() {
-                    offered = with_one(offered, feed(rt, streams, feeding));
+                    offered = with_one(offered, feeding.offer());
                     continue;
                 }
                 let Ok(()) = handles.reserve(1) else {
                     offered = Err(NoMem);
                     break;
                 };
-                let Ok(handle) = scope.spawn(
-                    move || -> Offered<M::Kind, N>
-                        requires { IsSend M.row }
-                    { feed(rt, streams, feeding) },
-                ) else {
+                let Ok(handle) = scope.spawn(move || -> Option<Offered<M::Kind, N>> {
+                    feeding.offer()
+                }) else {
                     offered = Err(NoMem);
                     break;
                 };

@@ -1,5 +1,5 @@
 //! What a run leaves.
-ghost use Rattle.std.specs.Prelude.{◌≡◌, length, count_by};
+ghost use Rattle.std.specs.Prelude.{◌≡◌, ◌+◌, length, count_by};
 ghost use Rattle.strm_msg.specs.declared.words.End.TheVariants.{A, B};
 ghost use Rattle.strm_ends.specs.Image.{end_of};
 ghost use Rattle.strm_history.specs.History.{arrivals};
@@ -71,31 +71,26 @@ fn count_arrivals<K>(history: &[Entry<K>]) -> u64
     count_landed(history) as u64
 }
 
-/// What is left of a stream that has ended, with how many messages of its feed were accepted, and how
-/// many were handed back.
-pub(crate) fn log_of<M: ModuleOf>(
-    ended: Ended<M>,
-    accepted: u64,
-    overrun: u64,
-) -> StreamLog<M::Kind>
+/// What is left of a stream that has ended, with how many messages of its feed were handed back.
+pub(crate) fn log_of<M: ModuleOf>(ended: Ended<M>, overrun: u64) -> StreamLog<M::Kind>
     ensures history { result.history.items ≡ ended.history.items }
     ensures a { result.a ≡ names_at (end_of ended.stream A) }
     ensures b { result.b ≡ names_at (end_of ended.stream B) }
-    ensures accepted { result.accepted ≡ accepted }
+    ensures accepted { result.accepted ≡ length (arrivals ended.history.items) + length ended.left.items }
     ensures arrived { result.arrived ≡ length (arrivals ended.history.items) }
     ensures overrun { result.overrun ≡ overrun }
 {
     let Ended {
         history,
         stream,
-        ..
+        left,
     } = ended;
     let arrived = count_arrivals(history.as_slice());
     StreamLog {
         history,
         a: names_at(&stream, End::A),
         b: names_at(&stream, End::B),
-        accepted,
+        accepted: arrived + left.len() as u64,
         arrived,
         overrun,
     }

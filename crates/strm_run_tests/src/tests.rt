@@ -15,7 +15,6 @@ use strm_run::{
     Feed, Gate, RunFault, Script, ScriptCall, StreamLog, Transcript, are_from_line, are_setups, run,
 };
 
-mod beside;
 mod crews;
 mod faults;
 mod feeds;

@@ -13,5 +13,6 @@ mod stream;
 pub use field::fields_are_read_back;
 pub use printing::print;
 pub use strm_plan::{
-    CallDecl, CallLine, Cause, FeedDecl, Name, Plan, ProcessDecl, PushDecl, ScriptFault, parse,
+    CallDecl, CallLine, Cause, FeedDecl, LoadFault, Name, Plan, ProcessDecl, PushDecl, ScriptFault,
+    load, parse,
 };

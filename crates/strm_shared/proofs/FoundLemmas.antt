@@ -1,7 +1,6 @@
--- What callers and the line of a shared stream find of its history.
-use Rattle.std.proofs.Common.{◌≡◌, ◌↔◌, ℕ, zero, suc, ◌+◌, ◌<◌, ◌++◌, Bool, List, [], ◌∷◌, Option, Some, None, length, map, take, drop, get_or, sym, ◌∙◌, ap, subst}
+-- What callers of a shared stream find of its history.
+use Rattle.std.proofs.Common.{◌≡◌, ℕ, zero, suc, Bool, List, [], ◌∷◌, Option, Some, None, map, take, sym, ◌∙◌, subst}
 use Rattle.std.specs.Option.{option_or}
-use Rattle.std.proofs.lemmas.List.{drop_more}
 use Rattle.std.proofs.lemmas.Simd.{map-map}
 use Rattle.arrayvec.specs.ArrayVec.{ArrayVec}
 use Rattle.strm_msg.specs.Message.{Msg}
@@ -23,20 +22,15 @@ use Rattle.strm_call.specs.Begun.{reply_after}
 use Rattle.strm_ioctl.specs.Ask.{is_empty}
 use Rattle.strm_ioctl.specs.Modules.{pop_refusals, first_name}
 use Rattle.strm_head.specs.declared.event.Event.{Event}
-use Rattle.strm_head.specs.declared.event.Event.TheVariants.{Asked, Arrived}
+use Rattle.strm_head.specs.declared.event.Event.TheVariants.{Asked}
 use Rattle.strm_head.specs.Begin.{back_of, begun_of, common_refusals, handed_out, refusal_of}
 use Rattle.strm_head.specs.Step.{Step}
 use Rattle.strm_head.proofs.RefusalLemmas.{first_of_all}
-use Rattle.strm_history.specs.declared.entry.Entry.{Entry}
 use Rattle.strm_history.specs.declared.call.Call.{Call}
 use Rattle.strm_history.specs.declared.call.Called.{Called}
 use Rattle.strm_history.specs.declared.call.Called.TheVariants.{Done, NoRoom}
-use Rattle.strm_history.specs.declared.call.Landed.{Landed}
-use Rattle.strm_history.specs.declared.call.Landed.TheVariants.{Entered, Full, NoMem}
-use Rattle.strm_history.specs.Entry.{came_in}
-use Rattle.strm_history.specs.History.{arrivals}
-use Rattle.strm_history.specs.Log.{LogValue, CallsBy, IsCalled, Lands}
-use Rattle.strm_shared.specs.Ending.{Replies, HandsOut, HandsBackMade, HandsBack, ComesBack}
+use Rattle.strm_history.specs.Log.{LogValue, CallsBy, IsCalled}
+use Rattle.strm_shared.specs.Ending.{Replies, HandsOut, HandsBackMade, HandsBack}
 
 -- where the second refusal holds, one does
 second_none : (first second : Option Refusal) → option_or first second ≡ None → second ≡ None
@@ -100,29 +94,7 @@ module _ {K : Type 0} (means : Meaning K) where
       let has : Step means old.image call.end (Asked call.request) entry.answer entry.moves entry.out.items new.image = subst (λ (event : Event (Shape K)). Step means old.image call.end event entry.answer entry.moves entry.out.items new.image) is.enters.has at_end in
       made_back old.image call answer entry.moves entry.out.items new.image back (subst (λ (a : Answer). Step means old.image call.end (Asked call.request) a entry.moves entry.out.items new.image) is.enters.answers has) is.comes_back
 
-  -- what a caller, or a line, can tell of it
+  -- what a caller can tell of it
   pub hands_back : (old : LogValue K) (caller : ℕ) (call : Call (Shape K)) (result : Called (Shape K)) (new : LogValue K) → CallsBy means old caller call result new → HandsBack call result
   hands_back old caller call (Done answer back) new is = called_back old new caller call answer back.items is
   hands_back old caller call (NoRoom same) new is = is.0
-
-  pub comes_back : (old : LogValue K) (m : Msg) (result : Landed) (new : LogValue K) → Lands means old m result new → ComesBack m result
-  comes_back old m Entered new is = tt
-  comes_back old m (Full same) new is = is.1
-  comes_back old m (NoMem same) new is = is.0
-
--- the first is left out of both
-rest_of : {P : Type 0} (event : Event P) (one other : List Msg) → came_in event ++ one ≡ came_in event ++ other → one ≡ other
-rest_of (Asked request) one other same = same
-rest_of (Arrived m) one other same = ap (λ l. drop 1 l) same
-
--- what is left of the arrivals, from a step on
-module _ {K : Type 0} (history : List (Entry K)) (i : ℕ) (entry : Entry K) (within : i < length history) (is : entry ≡ get_or history i entry) where
-  arrivals_from : arrivals (drop i history) ≡ came_in entry.event ++ arrivals (drop (i + 1) history)
-  arrivals_from = ap (λ h. arrivals h) (drop_more history i entry within) ∙ ap (λ (e : Entry K). came_in e.event ++ arrivals (drop (i + 1) history)) (sym is)
-
-  -- where it was the next message, the rest is that of the messages
-  pub arrivals_left : (messages rest : List Msg) → messages ≡ came_in entry.event ++ rest → (arrivals (drop (i + 1) history) ≡ rest) ↔ (arrivals (drop i history) ≡ messages)
-  arrivals_left messages rest next = (
-    λ same. arrivals_from ∙ ap (λ l. came_in entry.event ++ l) same ∙ sym next,
-    λ same. rest_of entry.event (arrivals (drop (i + 1) history)) rest (sym arrivals_from ∙ same ∙ next),
-  )

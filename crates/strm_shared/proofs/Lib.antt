@@ -1,2 +1,3 @@
+pub mod ArrivalLemmas
 pub mod FoundLemmas
 pub mod TurnLemmas

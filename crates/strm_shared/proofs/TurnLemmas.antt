@@ -5,7 +5,6 @@ use Rattle.std.proofs.lemmas.List.Elements.{All-push, filter-append}
 use Rattle.std.proofs.lemmas.Option.{same_Some}
 use Rattle.std.proofs.lemmas.Bool.{eqb-true, eqb-false, lt-ltb, ltb-true, both_ways, and_parts}
 use Rattle.strm_msg.specs.declared.words.End.{End}
-use Rattle.strm_msg.specs.Message.{Msg}
 use Rattle.strm_module.specs.Kinds.{Meaning}
 use Rattle.strm_module.specs.declared.shape.Shape.{Shape}
 use Rattle.strm_call.specs.declared.answer.Answer.{Answer}
@@ -17,15 +16,14 @@ use Rattle.strm_shared.specs.declared.fault.EndFault.TheVariants as EndFaults
 use Rattle.strm_history.specs.declared.call.Call.{Call}
 use Rattle.strm_history.specs.declared.call.Called.{Called}
 use Rattle.strm_history.specs.declared.call.Called.TheVariants.{Done, NoRoom}
-use Rattle.strm_history.specs.declared.call.Landed.{Landed}
-use Rattle.strm_history.specs.declared.call.Landed.TheVariants.{Entered, Full, NoMem}
 use Rattle.strm_history.specs.Entry.{is_caller}
 use Rattle.strm_history.specs.History.{own, calls_of}
-use Rattle.strm_history.specs.Log.{LogValue, Enters, CallsBy, Lands, is_done}
+use Rattle.strm_history.specs.Log.{LogValue, Enters, CallsBy, is_done}
 use Rattle.strm_shared.specs.Seat.{SeatValue}
 use Rattle.strm_shared.specs.Ending.{has_seat, CountsAgree, Counted}
 use Rattle.strm_history.specs.Entry.{asked_of}
-use Rattle.strm_shared.specs.Turns.{counted, has_count, is_next, turned, AreFirstOf, AreInTurn, IsNextOf, TurnsValue}
+use Rattle.strm_shared.specs.Turns.{counted, has_count, is_next, turned, AreFirstOf, AreInTurn, TurnsValue}
+use Rattle.strm_ring.specs.Runs.{IsNextOf}
 
 -- the first elements, with one more
 take_next : {A : Type 0} (all : List A) (count : ℕ) (one : A) → slice_get all count ≡ Some one → take (suc count) all ≡ take count all ++ one ∷ []
@@ -143,12 +141,6 @@ module _ {K : Type 0} (means : Meaning K) (calls : ℕ → ℕ → Option (List 
   call_keeps old new seat call (Done answer back) turns after by is one was so = done_in_turn old new seat call answer turns after (is_next number seat turns.counts) refl by.enters is one was so
   call_keeps old new seat call (NoRoom same) turns after by is one was so =
       subst (λ (l : LogValue K). AreInTurn (calls number) after.counts l.history) (sym by.1) (subst (λ (t : TurnsValue). AreInTurn (calls number) t.counts old.history) (sym is) (was (sym (ap (λ t. t.in_turn) is) ∙ so)))
-
-  -- a message that came in, or did not, keeps them too
-  pub arrival_keeps : (old new : LogValue K) (m : Msg) (result : Landed) (turns : TurnsValue) → Lands means old m result new → (turns.in_turn ≡ true → AreInTurn (calls number) turns.counts old.history) → turns.in_turn ≡ true → AreInTurn (calls number) turns.counts new.history
-  arrival_keeps old new m Entered turns is was so = line_in_turn (calls number) turns.counts old.history new.history is.enters.entry is.enters.history is.enters.by (was so)
-  arrival_keeps old new m (Full same) turns is was so = subst (λ (l : LogValue K). AreInTurn (calls number) turns.counts l.history) (sym is.2) (was so)
-  arrival_keeps old new m (NoMem same) turns is was so = subst (λ (l : LogValue K). AreInTurn (calls number) turns.counts l.history) (sym is.1) (was so)
 
 -- a call that was made, or not, is counted in the turns as the seat counts it
 pub done_turned : {P : Type 0} (number : ℕ) (seat after : SeatValue) (result : Called P) (turns new : TurnsValue) (next : Bool) → true ≡ is_done result → next ≡ is_next number seat turns.counts → after ≡ record seat { calls = seat.calls + 1 } → new ≡ (if next then record { counts = set turns.counts after.caller after.calls; in_turn = turns.in_turn } else record { counts = turns.counts; in_turn = false }) → new ≡ turned number seat result turns

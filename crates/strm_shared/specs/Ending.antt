@@ -1,6 +1,5 @@
--- What a shared stream, its seats and its feeder are to a contract, and what must agree at the end.
-use Rattle.std.specs.Prelude.{◌≡◌, ℕ, ◌+◌, ◌<◌, ◌==◌, nat_lt, zero, suc, not, Bool, true, Option, Some, None, List, [], ◌∷◌, ◌++◌, length, map, All, Any, if◌then◌else◌, ⊤}
-use Rattle.strm_msg.specs.Message.{Msg}
+-- What a shared stream and its seats are to a contract, what comes back of a call, and what must agree at the end.
+use Rattle.std.specs.Prelude.{◌≡◌, ℕ, ◌+◌, ◌<◌, ◌==◌, nat_lt, zero, suc, not, Bool, true, Option, Some, None, List, [], ◌∷◌, ◌++◌, length, map, All, Any, ⊤}
 use Rattle.strm_module.specs.declared.shape.Shape.{Shape}
 use Rattle.strm_call.specs.declared.request.Request.{Request}
 use Rattle.strm_call.specs.declared.request.Request.TheVariants as Requests
@@ -17,9 +16,8 @@ use Rattle.strm_history.specs.declared.entry.Entry.{Entry}
 use Rattle.strm_history.specs.declared.call.Call.{Call}
 use Rattle.strm_history.specs.declared.call.Called.{Called}
 use Rattle.strm_history.specs.declared.call.Called.TheVariants.{Done, NoRoom}
-use Rattle.strm_history.specs.declared.call.Landed.{Landed}
-use Rattle.strm_history.specs.declared.call.Landed.TheVariants.{Entered, Full, NoMem}
 use Rattle.strm_history.specs.History.{calls_of}
+use Rattle.strm_ring.specs.Feed.{FeedValue}
 use Rattle.strm_shared.specs.Seat.{SeatValue}
 
 -- a shared stream: its number, its setup, and how many callers it has
@@ -28,20 +26,10 @@ pub record SharedValue : Type 0 where
   pub setup : Setup
   pub seats : ℕ
 
--- a feeder, and what it leaves: the number of the stream, how many offers it has made, and the messages that it had accepted
-pub record FeedValue : Type 0 where
-  pub number : ℕ
-  pub offers : ℕ
-  pub accepted : List Msg
-
 -- a seat for each caller, that has made no call
 abbrev pub fresh_seats : ℕ → ℕ → List SeatValue
 fresh_seats number zero = []
 fresh_seats number (suc callers) = fresh_seats number callers ++ record { number = number; caller = callers; calls = 0 } ∷ []
-
--- the feeder of a line, that has offered nothing; the other drivers have none
-abbrev pub fresh_feed : ℕ → Setup → Option FeedValue
-fresh_feed number setup = if is_line setup.driver then Some (record { number = number; offers = 0; accepted = [] }) else None
 
 -- as many seats as callers, all of one stream, and one for each caller
 pub record AreSeats (number callers : ℕ) (seats : List SeatValue) : Type 0 where
@@ -79,12 +67,6 @@ abbrev pub HandsBack : {K : Type 0} → Call (Shape K) → Called (Shape K) → 
 HandsBack call (Done answer back) = HandsBackMade call answer back.items
 HandsBack call (NoRoom same) = same ≡ call
 
--- a message that did not come in comes back
-abbrev pub ComesBack : Msg → Landed → Type 0
-ComesBack m Entered = ⊤
-ComesBack m (Full same) = same ≡ m
-ComesBack m (NoMem same) = same ≡ m
-
 -- the step was made by the line, or by a caller who has a seat
 abbrev pub has_seat : ℕ → Who → Bool
 has_seat callers (Caller caller) = nat_lt caller callers
@@ -98,8 +80,3 @@ CountsAgree history seats = All (λ s. calls_of s.caller history ≡ s.calls) se
 abbrev pub is_fed : ℕ → Setup → Option FeedValue → Bool
 is_fed number setup None = not (is_line setup.driver)
 is_fed number setup (Some feed) = feed.number == number
-
--- what the feeder had accepted, if there was one
-abbrev pub accepted_of : Option FeedValue → List Msg
-accepted_of None = []
-accepted_of (Some feed) = feed.accepted

@@ -1,26 +1,16 @@
--- Why a shared stream was not made, or not ended.
+-- Why a shared stream was not ended.
 use Rattle.std.specs.Prelude.{ℕ, List, codes}
-use Rattle.strm_shared.specs.declared.fault.SharedFault.{SharedFault}
-use Rattle.strm_shared.specs.declared.fault.SharedFault.TheVariants as Shared
 use Rattle.strm_shared.specs.declared.fault.EndFault.{EndFault}
-use Rattle.strm_shared.specs.declared.fault.EndFault.TheVariants as End
+use Rattle.strm_shared.specs.declared.fault.EndFault.TheVariants.{Seats, Unfinished, NoMem}
 
 -- in the order in which the faults are looked for
-abbrev pub shared_number : SharedFault → ℕ
-shared_number Shared.Ring = 1
-shared_number Shared.NoMem = 2
-
 abbrev pub end_number : EndFault → ℕ
-end_number End.Seats = 1
-end_number End.Unfinished = 2
-end_number End.NoMem = 3
+end_number Seats = 1
+end_number Unfinished = 2
+end_number NoMem = 3
 
 -- the texts that the faults print
-abbrev pub shared_text : SharedFault → List ℕ
-shared_text Shared.Ring = codes "the ring of a line does not hold 1 to 4096 messages"
-shared_text Shared.NoMem = codes "no memory"
-
 abbrev pub end_text : EndFault → List ℕ
-end_text End.Seats = codes "not the seats of this stream, one for each caller"
-end_text End.Unfinished = codes "a caller or the feeder has not ended"
-end_text End.NoMem = codes "no memory"
+end_text Seats = codes "not the seats of this stream, one for each caller"
+end_text Unfinished = codes "a caller or the feeder has not ended"
+end_text NoMem = codes "no memory"

@@ -1,5 +1,5 @@
 -- Whether the calls of a history are in turn, and which calls a run allows.
-use Rattle.std.specs.Prelude.{◌≡◌, ℕ, ◌+◌, ◌<◌, ◌&&◌, ◌==◌, nat_lt, Bool, true, false, Option, Some, None, List, All, get_or, length, map, set, slice_get, take, if◌then◌else◌, ⊤}
+use Rattle.std.specs.Prelude.{◌≡◌, ℕ, ◌+◌, ◌<◌, ◌&&◌, ◌==◌, nat_lt, Bool, true, false, Option, Some, None, List, All, get_or, length, map, set, take, if◌then◌else◌, ⊤}
 use Rattle.strm_msg.specs.declared.words.End.{End}
 use Rattle.strm_module.specs.declared.shape.Shape.{Shape}
 use Rattle.strm_head.specs.declared.event.Event.{Event}
@@ -7,15 +7,12 @@ use Rattle.strm_history.specs.declared.entry.Entry.{Entry}
 use Rattle.strm_history.specs.declared.call.Called.{Called}
 use Rattle.strm_history.specs.declared.call.Called.TheVariants.{Done, NoRoom}
 use Rattle.strm_history.specs.Entry.{asked_of}
-use Rattle.strm_history.specs.History.{own, calls_of}
+use Rattle.strm_history.specs.History.{arrivals, own, calls_of}
 use Rattle.strm_history.specs.Log.{LogValue}
+use Rattle.strm_head.specs.Step.{is_line}
+use Rattle.strm_ring.specs.Inlet.{InletValue}
 use Rattle.strm_shared.specs.Seat.{SeatValue}
 use Rattle.strm_shared.specs.Ending.{has_seat}
-
--- a call is the next one of those that may be made, after so many; without such a list any is
-abbrev pub IsNextOf : {A : Type 0} → Option (List A) → ℕ → A → Type 0
-IsNextOf None count call = ⊤
-IsNextOf (Some calls) count call = slice_get calls count ≡ Some call
 
 -- what was asked are the first of the calls that may be made
 abbrev pub AreFirstOf : {K : Type 0} → Option (List (End × Event (Shape K))) → List (Entry K) → Type 0
@@ -27,11 +24,12 @@ pub record TurnsValue : Type 0 where
   pub counts : List ℕ
   pub in_turn : Bool
 
--- what stands under the lock: the number of the shared stream, the stream with its history, and the counts
+-- what stands under the lock: the number of the shared stream, the stream with its history, the counts, and where messages come in
 pub record LockedValue (K : Type 0) : Type 0 where
   pub number : ℕ
   pub log : LogValue K
   pub turns : TurnsValue
+  pub inlet : InletValue
 
 -- the caller has a count, and it is the seat's
 abbrev pub has_count : SeatValue → List ℕ → Bool
@@ -57,3 +55,11 @@ pub record AreInTurn {K : Type 0} (calls : ℕ → Option (List (End × Event (S
   pub counts_are : (caller : ℕ) → caller < length counts → get_or counts caller 0 ≡ calls_of caller history
   pub seated : All (λ entry. has_seat (length counts) entry.who ≡ true) history
   pub first : (caller : ℕ) → AreFirstOf (calls caller) (own caller history)
+
+-- as long as the calls are in turn they are so in the history; what came in is what has left the inlet, which is the stream's, and
+-- has a ring where that is a line
+pub record IsLocked {K : Type 0} (calls : ℕ → Option (List (End × Event (Shape K)))) (number : ℕ) (log : LogValue K) (turns : TurnsValue) (inlet : InletValue) : Type 0 where
+  pub in_turn : turns.in_turn ≡ true → AreInTurn calls turns.counts log.history
+  pub came_in : arrivals log.history ≡ inlet.came
+  pub of : inlet.number ≡ number
+  pub fed : inlet.is_fed ≡ is_line log.setup.driver

@@ -1,55 +1,72 @@
 //! What stands under the lock of a shared stream.
-ghost use Rattle.std.specs.Prelude.{◌≡◌, ◌↔◌, true, [], IfOk, replicate};
-ghost use Rattle.strm_msg.specs.Kind.{is_from_line};
+ghost use Rattle.std.specs.Prelude.{◌≡◌, ◌↔◌, ◌+◌, ◌<◌, ◌^◌, true, false, [], IfOk, replicate};
+ghost use Rattle.strm_head.specs.Step.{is_line};
 ghost use Rattle.strm_head.specs.declared.event.Event.TheVariants.{Asked};
+ghost use Rattle.strm_history.specs.History.{arrivals};
 ghost use Rattle.strm_history.specs.Setup.{is_fit, opened};
-ghost use Rattle.strm_history.specs.Log.{CallsBy, Lands};
+ghost use Rattle.strm_history.specs.Log.{CallsBy};
+ghost use Rattle.strm_ring.specs.Runs.{IsNextOf};
+ghost use Rattle.strm_ring.specs.Inlet.{fresh_inlet};
 ghost use Rattle.strm_shared.specs.Ending.{Counted};
-ghost use Rattle.strm_shared.specs.Turns.{turned, AreInTurn, IsNextOf};
+ghost use Rattle.strm_shared.specs.Turns.{turned, AreInTurn};
+ghost use Rattle.strm_shared.specs.Arrivals.{Intakes, CallsAfter, ComesIn};
 
-use crate::runs::Runs;
 use crate::seat::Seat;
 use crate::turns::Turns;
 use std::alloc::Global;
-use std::marker::{Model, PhantomData};
+use std::marker::Model;
 use strm_head::Request;
 use strm_history::{Call, Called, Landed, Log, Setup};
 use strm_module::{Boxed, BoxedShape, ModuleOf};
-use strm_msg::{Message, NoMem};
+use strm_msg::NoMem;
+use strm_ring::{Inlet, Runs};
 
-/// What stands under the lock of a shared stream: the number of the stream, the stream with its history, and
-/// how many calls each caller has made there.
+/// What stands under the lock of a shared stream: the number of the stream, the stream with its history,
+/// how many calls each caller has made there, and where the messages of a line come in.
 ///
 /// While the calls are in turn, the counts are those of the history, and the calls of each caller are the
-/// first of those that the run has for it.
+/// first of those that the run has for it. What came in, as the history has it, is what has left the inlet.
 #[derive(Drop)]
 pub(crate) struct Locked<M: ModuleOf, N: Runs<M::Kind>> {
     number: u32,
     log: Log<M>,
     turns: Turns,
-    of: PhantomData<N>,
+    inlet: Inlet<M::Kind, N>,
 }
 
 impl<M: ModuleOf, N: Runs<M::Kind>> Model for Locked<M, N> {
-    ghost use Rattle.std.specs.Prelude.{◌≡◌, true};
-    ghost use Rattle.strm_shared.specs.Turns.{LockedValue, AreInTurn};
+    ghost use Rattle.strm_shared.specs.Turns.{LockedValue, IsLocked};
 
     ghost Value = { LockedValue M.Kind };
 
-    ghost view = { λ s. record { number = s.number; log = s.log; turns = s.turns } };
+    ghost view = { λ s. record { number = s.number; log = s.log; turns = s.turns; inlet = s.inlet } };
 
-    ghost invariant = { λ s. s.turns.in_turn ≡ true → AreInTurn (N.calls s.number) s.turns.counts s.log.history };
+    ghost invariant = { λ s. IsLocked (N.calls s.number) s.number s.log s.turns s.inlet };
+}
+
+/// What became of the next message of a line.
+#[derive(Clone, Copy, Debug, PartialEq, Eq)]
+pub(crate) enum Intake {
+    /// It came in.
+    Entered,
+    /// There is none, or it cannot come in yet, and is held back.
+    Rests,
+    /// Memory was wanting for it, and it is held back.
+    NoMem,
 }
 
 impl<M: ModuleOf, N: Runs<M::Kind>> Locked<M, N> {
-    /// A stream that was just made, on which no caller has made a call. Refused for want of memory alone.
+    /// A stream that was just made, on which no caller has made a call, with the inlet of its ring. Refused for want of
+    /// memory alone.
     pub(crate) fn new(
         alloc: Global,
         number: u32,
         setup: Setup,
         callers: u32,
+        inlet: Inlet<M::Kind, N>,
     ) -> Result<Locked<M, N>, NoMem>
-        requires { is_fit setup ≡ true }
+        requires marks { is_fit setup ≡ true }
+        requires inlet { inlet ≡ fresh_inlet number (is_line setup.driver) }
         ensures number { IfOk result (λ all. all.number ≡ number) }
         ensures log { IfOk result (λ all. all.log ≡ record { setup = setup; image = opened setup; history = [] }) }
         ensures turns { IfOk result (λ all. all.turns ≡ record { counts = replicate callers 0; in_turn = true }) }
@@ -62,7 +79,7 @@ impl<M: ModuleOf, N: Runs<M::Kind>> Locked<M, N> {
             number,
             log,
             turns,
-            of: PhantomData,
+            inlet,
         })
     }
 
@@ -73,8 +90,72 @@ impl<M: ModuleOf, N: Runs<M::Kind>> Locked<M, N> {
         self.number == number && self.log.setup() == setup
     }
 
+    /// The next message of the line comes in, if there is one and it can; else it is held back, and nothing is changed.
+    fn take_next(&mut self) -> Intake
+        ensures number { self.new.number ≡ self.old.number }
+        ensures log { Intakes M.Kind.means self.old.log result self.new.log }
+        ensures turns { self.new.turns ≡ self.old.turns }
+    {
+        let Some(m) = self.inlet.take() else {
+            return Intake::Rests;
+        };
+        match self.log.arrive(m) {
+            Landed::Entered => Intake::Entered,
+            Landed::Full(m) => {
+                self.inlet.hold(m);
+                Intake::Rests
+            }
+            Landed::NoMem(m) => {
+                self.inlet.hold(m);
+                Intake::NoMem
+            }
+        }
+    }
+
+    /// Messages of the line come in, in order, as long as they can, at most as many as its ring holds; and whether memory
+    /// was not wanting for one.
+    fn take_in(&mut self) -> bool
+        ensures number { self.new.number ≡ self.old.number }
+        ensures log { ComesIn M.Kind.means self.old.log self.new.log }
+        ensures turns { self.new.turns ≡ self.old.turns }
+    {
+        for _at in 0..self.log.setup().ring {
+            match self.take_next() {
+                Intake::Entered => {}
+                Intake::Rests => return true,
+                Intake::NoMem => return false,
+            }
+        }
+        true
+    }
+
     /// One call of a seat, as `Log::enter` makes it, which the seat counts, and which is counted in its turn.
-    /// Where the seat can count no more, the call comes back and nothing is changed.
+    fn enter(
+        &mut self,
+        seat: &mut Seat,
+        call: Call<Boxed<M>>,
+        copy: Request<BoxedShape<M::Kind>>,
+    ) -> Called<Boxed<M>>
+        requires same { copy ≡ call.request }
+        requires next { IsNextOf (N.calls seat.old.number seat.old.caller) seat.old.calls (call.end, Asked call.request) }
+        requires counts { seat.old.calls + 1 < 2 ^ 64 }
+        ensures number { self.new.number ≡ self.old.number }
+        ensures log { CallsBy M.Kind.means self.old.log seat.old.caller call result self.new.log }
+        ensures counts { Counted call seat.old result seat.new }
+        ensures turns { self.new.turns ≡ turned self.old.number seat.old result self.old.turns }
+    {
+        let is_next = self.turns.is_next(self.number, seat);
+        let called = self.log.enter(seat.caller(), call, copy);
+        if called.is_done() {
+            seat.count();
+            self.turns.count(is_next, seat);
+        }
+        called
+    }
+
+    /// One call of a seat, after the messages of the line that can come in. Where the seat can count no more, the call comes
+    /// back and nothing is changed; where memory was wanting for a message, those before it came in, and the call comes
+    /// back.
     ///
     /// To be called with the call that the run has next for the seat.
     pub(crate) fn call(
@@ -86,45 +167,34 @@ impl<M: ModuleOf, N: Runs<M::Kind>> Locked<M, N> {
         requires same { copy ≡ call.request }
         requires next { IsNextOf (N.calls seat.old.number seat.old.caller) seat.old.calls (call.end, Asked call.request) }
         ensures number { self.new.number ≡ self.old.number }
-        ensures log { CallsBy M.Kind.means self.old.log seat.old.caller call result self.new.log }
+        ensures log { CallsAfter M.Kind.means self.old.log seat.old.caller call result self.new.log }
         ensures counts { Counted call seat.old result seat.new }
         ensures turns { self.new.turns ≡ turned self.old.number seat.old result self.old.turns }
     {
         if seat.calls() == u64::MAX {
             return Called::NoRoom(call);
         }
-        let is_next = self.turns.is_next(self.number, seat);
-        let called = self.log.enter(seat.caller(), call, copy);
-        if called.is_done() {
-            seat.count();
-            self.turns.count(is_next, seat);
+        if !self.take_in() {
+            return Called::NoRoom(call);
         }
-        called
+        self.enter(seat, call, copy)
     }
 
-    /// A message comes in from a line, as `Log::land` takes it in.
-    pub(crate) fn arrive(&mut self, m: Message, copy: Message) -> Landed
-        requires line { is_from_line m.kind ≡ true }
-        requires same { copy ≡ m }
-        ensures number { self.new.number ≡ self.old.number }
-        ensures log { Lands M.Kind.means self.old.log m result self.new.log }
-        ensures turns { self.new.turns ≡ self.old.turns }
-    {
-        self.log.land(m, copy)
-    }
-
-    /// The stream with its history, and the counts.
-    pub(crate) fn into_parts(self) -> (Log<M>, Turns)
+    /// The stream with its history, the counts, and the inlet.
+    pub(crate) fn into_parts(self) -> (Log<M>, Turns, Inlet<M::Kind, N>)
         ensures log { result.0 ≡ self.log }
         ensures turns { result.1 ≡ self.turns }
+        ensures inlet { result.2 ≡ self.inlet }
         ensures in_turn { self.turns.in_turn ≡ true → AreInTurn (N.calls self.number) self.turns.counts self.log.history }
+        ensures came_in { arrivals self.log.history ≡ self.inlet.came }
+        ensures of { (self.inlet.number ≡ self.number) × (self.inlet.is_fed ≡ is_line self.log.setup.driver) }
     {
         let Locked {
             number: _,
             log,
             turns,
-            of: _,
+            inlet,
         } = self;
-        (log, turns)
+        (log, turns, inlet)
     }
 }

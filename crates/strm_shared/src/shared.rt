@@ -1,26 +1,26 @@
 //! A stream that several callers share.
-ghost use Rattle.std.specs.Prelude.{◌≡◌, ◌↔◌, ◌+◌, ◌++◌, ℕ, true, false, All, IfOk, OnOk, IsErrOf};
-ghost use Rattle.strm_msg.specs.Kind.{is_from_line};
+ghost use Rattle.std.specs.Prelude.{◌≡◌, ◌↔◌, ◌++◌, ℕ, true, false, All, IfErr, IfOk, OnOk, IsErrOf};
 ghost use Rattle.strm_head.specs.declared.event.Event.TheVariants.{Asked};
-ghost use Rattle.strm_history.specs.Setup.{is_fit, is_ring, opened};
+ghost use Rattle.strm_history.specs.Setup.{is_fit, opened};
 ghost use Rattle.strm_history.specs.History.{arrivals, own, Legal};
 ghost use Rattle.strm_history.specs.Serials.{AreAccounted};
-ghost use Rattle.strm_shared.specs.Ending.{fresh_seats, fresh_feed, accepted_of, has_seat, is_fed, AreSeats, CountsAgree, Counted, ComesBack, HandsBack};
-ghost use Rattle.strm_shared.specs.Turns.{AreFirstOf, IsNextOf};
+ghost use Rattle.strm_ring.specs.Feed.{accepted_of, fresh_feeder};
+ghost use Rattle.strm_ring.specs.Runs.{IsNextOf};
+ghost use Rattle.strm_shared.specs.Ending.{fresh_seats, has_seat, is_fed, AreSeats, CountsAgree, Counted, HandsBack};
+ghost use Rattle.strm_shared.specs.Turns.{AreFirstOf};
 
-use crate::ending::{are_seats, is_accepted, is_fed};
-use crate::fault::{EndFault, SharedFault};
-use crate::feeder::{FeedEnd, Feeder};
+use crate::ending::{are_seats, is_fed};
+use crate::fault::EndFault;
 use crate::locked::Locked;
-use crate::runs::{AnyCalls, Runs};
 use crate::seat::Seat;
 use std::alloc::Global;
 use std::marker::Model;
 use std::sync::{Mutex, Wait};
 use strm_head::Stream;
-use strm_history::{Call, Called, Entry, Landed, Setup, copy_request};
+use strm_history::{Call, Called, Entry, Setup, copy_request};
 use strm_module::{Boxed, ModuleOf};
 use strm_msg::{Message, NoMem};
+use strm_ring::{AnyCalls, FeedEnd, Feeder, Ring, Runs, SharedFault};
 
 /// A stream that several callers share.
 ///
@@ -49,7 +49,7 @@ pub struct Ended<M: ModuleOf> {
     pub history: Vec<Entry<M::Kind>>,
     /// The stream to which they led.
     pub stream: Stream<M>,
-    /// The messages that were accepted and had not come in yet. Today there are none.
+    /// The messages that were accepted and had not come in, in order: the one that was held back, and what the ring still held.
     pub left: Vec<Message>,
 }
 
@@ -64,41 +64,30 @@ fn seats_of(alloc: Global, number: u32, callers: u32) -> Result<Vec<Seat>, NoMem
     Ok(seats)
 }
 
-/// The feeder of a line; the other drivers have none.
-fn feeder_of(alloc: Global, number: u32, setup: Setup) -> Option<Feeder>
-    ensures { result ≡ fresh_feed number setup }
-{
-    if setup.is_line() {
-        return Some(Feeder::new(alloc, number));
-    }
-    None
-}
-
 impl<M: ModuleOf, N: Runs<M::Kind>> Shared<M, N> {
-    /// A stream that was just made, with a seat for each of its callers, numbered from 0, and for a line
-    /// a feeder. The number is the caller's to choose; seats and feeder have it too.
+    /// A stream that was just made by the setup of its ring, with a seat for each of its callers, numbered from 0, and for a
+    /// line a feeder. The number is the caller's to choose; seats and feeder have it too.
     ///
-    /// To be called with marks of which each low one is below its high one. Refused with `Ring` exactly
-    /// where the ring of a line does not hold 1 to 4096 messages, which is looked at first, and with
-    /// `NoMem` for want of memory.
+    /// To be called with marks of which each low one is below its high one, and with the ring that the run names at this
+    /// number: `AnyCalls` has none, and so no lines. Refused for want of memory alone.
     pub fn new(
         alloc: Global,
         number: u32,
-        setup: Setup,
         seats: u32,
-    ) -> Result<(Shared<M, N>, Vec<Seat>, Option<Feeder>), SharedFault>
-        requires { is_fit setup ≡ true }
-        ensures shared { IfOk result (λ all. all.0 ≡ record { number = number; setup = setup; seats = seats }) }
+        ring: Ring,
+    ) -> Result<(Shared<M, N>, Vec<Seat>, Option<Feeder<M::Kind, N>>), SharedFault>
+        requires marks { is_fit ring.setup ≡ true }
+        requires name { ring.name ≡ N.ring number }
+        ensures shared { IfOk result (λ all. all.0 ≡ record { number = number; setup = ring.setup; seats = seats }) }
         ensures seats { IfOk result (λ all. all.1.items ≡ fresh_seats number seats) }
-        ensures feeder { IfOk result (λ all. all.2 ≡ fresh_feed number setup) }
-        ensures ring { IsErrOf result SharedFault.Ring ↔ (is_ring setup ≡ false) }
+        ensures feeder { IfOk result (λ all. all.2 ≡ fresh_feeder number ring.setup) }
+        ensures memory { IfErr result (λ fault. fault ≡ SharedFault.NoMem) }
     {
-        if !setup.is_ring() {
-            return Err(SharedFault::Ring);
-        }
+        let setup = ring.setup();
+        let (inlet, feeder) = ring.into_ends(number);
         let (Ok(all), Ok(locked)) = (
             seats_of(alloc, number, seats),
-            Locked::new(alloc, number, setup, seats),
+            Locked::new(alloc, number, setup, seats, inlet),
         ) else {
             return Err(SharedFault::NoMem);
         };
@@ -109,7 +98,7 @@ impl<M: ModuleOf, N: Runs<M::Kind>> Shared<M, N> {
             alloc,
             locked: Mutex::new(locked),
         };
-        Ok((shared, all, feeder_of(alloc, number, setup)))
+        Ok((shared, all, feeder))
     }
 
     /// The number.
@@ -126,9 +115,10 @@ impl<M: ModuleOf, N: Runs<M::Kind>> Shared<M, N> {
         self.setup
     }
 
-    /// One call of a caller, under the lock: a step of the stream, which the history has with the caller,
-    /// the call and the answer, and which the seat counts. Or it comes back for want of memory for its
-    /// entry, or since the seat can count no more, and nothing is changed.
+    /// One call of a caller, under the lock: first the messages of the line come in that can, each a step of the stream and
+    /// an entry of the history, and then the call is made, a step of the stream, which the history has with the caller,
+    /// the call and the answer, and which the seat counts. Or it comes back for want of memory, for its entry or for a
+    /// message of the line, or since the seat can count no more, and then it has changed nothing.
     ///
     /// To be called with a seat of this number, and with the call that the run has next for it; in a run of
     /// `AnyCalls` any is. Modules that come back are the caller's, and are not
@@ -145,24 +135,19 @@ impl<M: ModuleOf, N: Runs<M::Kind>> Shared<M, N> {
         self.locked.lock(rt).call(seat, call, copy)
     }
 
-    /// A message comes in from a line, under the lock.
-    pub(crate) fn arrive<R: Wait>(&self, rt: &R, m: Message, copy: Message) -> Landed
-        requires line { is_from_line m.kind ≡ true }
-        requires same { copy ≡ m }
-        ensures { ComesBack m result }
-    {
-        self.locked.lock(rt).arrive(m, copy)
-    }
-
-    /// Ends the stream, when no caller and no feeder has it any more: its whole history, and the stream
-    /// to which the history leads.
+    /// Ends the stream, when no caller and no feeder has it any more: its whole history, the stream
+    /// to which the history leads, and the messages that were accepted and had not come in.
     ///
     /// Refused with `Seats` exactly where the seats are not those of this number, one for each caller, in
     /// any order; then with `Unfinished`, where a line's feeder is not shown to have ended, or what stood
-    /// under the lock has another number or setup, calls of a seat that is not of this stream, another
-    /// number of calls than a seat counts, or other arrivals than the feeder had accepted. Then all is
+    /// under the lock has another number or setup, calls of a seat that is not of this stream, or another
+    /// number of calls than a seat counts; and then with `NoMem` for want of memory for what is left. Then all is
     /// dropped.
-    pub fn end(self, seats: Vec<Seat>, feed: Option<FeedEnd>) -> Result<Ended<M>, EndFault>
+    pub fn end(
+        self,
+        seats: Vec<Seat>,
+        feed: Option<FeedEnd<M::Kind, N>>,
+    ) -> Result<Ended<M>, EndFault>
         ensures legal { IfOk result (λ ended. Legal M.Kind.means (opened self.setup) ended.history.items ended.stream) }
         ensures accounts { IfOk result (λ ended. AreAccounted (opened self.setup) ended.history.items ended.stream) }
         ensures callers { IfOk result (λ ended. All (λ entry. has_seat self.seats entry.who ≡ true) ended.history.items) }
@@ -187,7 +172,7 @@ impl<M: ModuleOf, N: Runs<M::Kind>> Shared<M, N> {
         if !locked.is_of(number, setup) {
             return Err(EndFault::Unfinished);
         }
-        let (log, turns) = locked.into_parts();
+        let (log, turns, inlet) = locked.into_parts();
         if !is_fed(number, setup, &feed) {
             return Err(EndFault::Unfinished);
         }
@@ -195,13 +180,13 @@ impl<M: ModuleOf, N: Runs<M::Kind>> Shared<M, N> {
             return Err(EndFault::Unfinished);
         }
         let (history, stream) = log.into_parts();
-        if !is_accepted(history.as_slice(), &feed) {
-            return Err(EndFault::Unfinished);
-        }
+        let Ok(left) = inlet.drain(alloc, feed) else {
+            return Err(EndFault::NoMem);
+        };
         Ok(Ended {
             history,
             stream,
-            left: Vec::new(alloc),
+            left,
         })
     }
 }

@@ -1,7 +1,7 @@
 //! Worked examples, by the public calls alone. What is expected is worked out by hand from the rules:
 //! what each call answers, what the history has of it, and when a shared stream ends.
-ghost use Rattle.std.specs.Prelude.{◌≡◌, true};
-ghost use Rattle.strm_msg.specs.Kind.{is_from_line};
+ghost use Rattle.std.specs.Prelude.{◌≡◌, true, false};
+ghost use Rattle.strm_head.specs.Step.{is_line};
 ghost use Rattle.strm_history.specs.Setup.{is_fit};
 
 use std::alloc::Global;
@@ -10,12 +10,12 @@ use std::sync::Wait;
 use strm_head::{Answer, Driver, Event, Refusal, Reply, Request};
 use strm_history::{Call, Called, Entry, Setup, Who};
 use strm_module::{Boxed, Instance, Kind, Plain, Shape};
-use strm_msg::{Bytes, End, Errno, Message};
-use strm_shared::{EndFault, Ended, FeedEnd, Feeder, Seat, Shared, SharedFault};
+use strm_msg::{Bytes, End};
+use strm_shared::{EndFault, Ended, Ring, Seat, Shared};
 
 mod callers;
 mod ending;
-mod feeding;
+mod lines;
 
 /// An echo whose lists are full at 16 bytes.
 const ECHO: Setup = Setup {
@@ -25,37 +25,28 @@ const ECHO: Setup = Setup {
     ring: 1,
 };
 
-/// A line whose lists are full at 5 bytes.
-const LINE: Setup = Setup {
-    driver: Driver::Line,
-    head: (5, 4),
-    drv: (5, 4),
-    ring: 2,
-};
-
-/// A shared stream of this number, with its seats and maybe its feeder.
-type Made = (Shared<Plain>, Vec<Seat>, Option<Feeder>);
+/// A shared stream of this number that is no line, with its seats.
+type Made = (Shared<Plain>, Vec<Seat>);
 
 fn made(rt: &impl Abort, alloc: Global, number: u32, setup: Setup, seats: u32) -> Made
-    requires { is_fit setup ≡ true }
+    requires marks { is_fit setup ≡ true }
+    requires no_line { is_line setup.driver ≡ false }
 {
-    Shared::new(alloc, number, setup, seats)
+    let ring = Ring::new(alloc, setup).ok().expect(rt, "a ring");
+    let (shared, seats, _) = Shared::new(alloc, number, seats, ring)
         .ok()
-        .expect(rt, "a stream")
+        .expect(rt, "a stream");
+    (shared, seats)
 }
 
-/// The end of a shared stream.
-fn ended(
-    shared: Shared<Plain>,
-    seats: Vec<Seat>,
-    feed: Option<FeedEnd>,
-) -> Result<Ended<Plain>, EndFault> {
-    shared.end(seats, feed)
+/// The end of a shared stream that is no line.
+fn ended(shared: Shared<Plain>, seats: Vec<Seat>) -> Result<Ended<Plain>, EndFault> {
+    shared.end(seats, None)
 }
 
-/// Why a shared stream does not end, if it does not.
-fn fault_of(shared: Shared<Plain>, seats: Vec<Seat>, feed: Option<FeedEnd>) -> Option<EndFault> {
-    ended(shared, seats, feed).err()
+/// Why a shared stream that is no line does not end, if it does not.
+fn fault_of(shared: Shared<Plain>, seats: Vec<Seat>) -> Option<EndFault> {
+    ended(shared, seats).err()
 }
 
 fn bytes(rt: &impl Abort, alloc: Global, bytes: &[u8]) -> Bytes {
@@ -107,27 +98,4 @@ fn answer<R: Abort + Wait>(
 ) -> Answer {
     let (answer, _) = called(rt, shared, seat, End::A, request);
     answer
-}
-
-fn data(rt: &impl Abort, alloc: Global, dat: &[u8]) -> Message {
-    Message::of_data(alloc, 0, dat).expect(rt, "no memory")
-}
-
-/// Whether the feeder has a message accepted. What comes back is the same message.
-fn accepted<R: Abort + Wait>(
-    rt: &R,
-    alloc: Global,
-    shared: &Shared<Plain>,
-    feeder: &mut Feeder,
-    m: Message,
-) -> bool {
-    assert!(rt; m.from_line());
-    let copy = m.copy(alloc).expect(rt, "no memory");
-    match feeder.arrive(rt, shared, m) {
-        Ok(()) => true,
-        Err(same) => {
-            assert!(rt; same == copy);
-            false
-        }
-    }
 }

@@ -1,4 +1,8 @@
 //! Why the program did not print a transcript.
+ghost use Rattle.std.specs.Prelude.{◌≡◌};
+ghost use Rattle.strm_run.specs.declared.fault.RunFault.TheVariants as RunFaults;
+ghost use Rattle.strsh.specs.Fault.{EndsWith, IsFaultOf, fault_line};
+
 use clap::error::ErrorKind;
 use std::alloc::AllocError;
 use std::{fmt, io};
@@ -23,13 +27,17 @@ pub enum Fault {
 
 impl Fault {
     /// Want of memory for what is the program's own: the words of the command line, and the buffer of what is printed.
-    pub fn no_memory() -> Self {
+    pub fn no_memory() -> Self
+        ensures { result ≡ Fault.Run RunFaults.NoMem }
+    {
         Fault::Run(RunFault::NoMem)
     }
 
     /// The status with which the program ends: 0 where help was asked for, 2 for the command line
     /// and the script, and 1 for the run and the writing.
-    pub fn status(&self) -> u8 {
+    pub fn status(&self) -> u8
+        ensures { EndsWith self.now result }
+    {
         match self {
             Fault::Words(error) => u8::try_from(error.exit_code()).unwrap_or(2),
             Fault::Read | Fault::Script(_) => 2,
@@ -41,6 +49,8 @@ impl Fault {
 /// Printed with its line's end, after the name of the program; of a command line it is the text
 /// that its reader has.
 impl fmt::Display for Fault {
+    ghost output = { λ fault. fault_line fault };
+
     fn fmt<W: fmt::Write>(&self, f: &mut fmt::Formatter<W>) -> fmt::Result {
         match self {
             Fault::Words(error) => write!(f, "{error}"),
@@ -53,6 +63,8 @@ impl fmt::Display for Fault {
 }
 
 impl From<clap::Error> for Fault {
+    ghost from_gives = { λ error fault. IsFaultOf error fault };
+
     fn from(error: clap::Error) -> Self {
         match error.kind() {
             ErrorKind::OutOfMemory => Fault::no_memory(),

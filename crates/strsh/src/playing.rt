@@ -12,9 +12,8 @@ use std::io::{self, BufWriter, Write};
 use std::rt::Files;
 use std::sync::Wait;
 use std::thread::Threads;
-use strm_plan::{LoadFault, load};
 use strm_play::{Outcome, play};
-use strm_script::print;
+use strm_script::{LoadFault, load, print};
 
 /// The bytes of the script at a path.
 fn script<R: Files>(rt: &R, alloc: Global, path: &str) -> Result<Vec<u8>, LoadFault> {

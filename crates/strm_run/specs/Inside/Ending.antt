@@ -1,6 +1,7 @@
 -- The seats and feeders of a run when its threads have ended, and how its streams end.
-use Rattle.std.specs.Prelude.{◌≡◌, ℕ, ◌<◌, Bool, true, false, Option, Some, None, List, [], All, get_or, length, Vec, ⊤}
+use Rattle.std.specs.Prelude.{◌≡◌, ℕ, ◌+◌, ◌<◌, Bool, true, false, Option, Some, None, List, [], All, get_or, length, Vec, ⊤}
 use Rattle.std.specs.Global.{Global}
+use Rattle.strm_msg.specs.Message.{Msg}
 use Rattle.strm_msg.specs.declared.words.End.TheVariants.{A, B}
 use Rattle.strm_module.specs.Kinds.{Meaning}
 use Rattle.strm_ends.specs.Image.{Image, end_of}
@@ -13,7 +14,8 @@ use Rattle.strm_shared.specs.declared.fault.EndFault.{EndFault}
 use Rattle.strm_shared.specs.declared.fault.EndFault.TheVariants as EndFaults
 use Rattle.strm_history.specs.History.{arrivals}
 use Rattle.strm_shared.specs.Seat.{SeatValue}
-use Rattle.strm_shared.specs.Ending.{FeedValue, SharedValue}
+use Rattle.strm_ring.specs.Feed.{FeedValue}
+use Rattle.strm_shared.specs.Ending.{SharedValue}
 use Rattle.strm_run.specs.declared.fault.RunFault.{RunFault}
 use Rattle.strm_run.specs.declared.fault.RunFault.TheVariants as RunFaults
 use Rattle.strm_run.specs.declared.transcript.StreamLog.{StreamLog}
@@ -66,12 +68,12 @@ abbrev pub has_come_in : {P : Type 0} → Event P → Bool
 has_come_in (Asked request) = false
 has_come_in (Arrived m) = true
 
--- what is left of a stream that ended with this history
-pub record IsLogOf {K : Type 0} (history : List (Entry K)) (stream : Image K) (accepted overrun : ℕ) (log : StreamLog K) : Type 0 where
+-- what is left of a stream that ended with this history, and with these messages not come in
+pub record IsLogOf {K : Type 0} (history : List (Entry K)) (stream : Image K) (left : List Msg) (overrun : ℕ) (log : StreamLog K) : Type 0 where
   pub same : log.history.items ≡ history
   pub a : log.a ≡ names_at (end_of stream A)
   pub b : log.b ≡ names_at (end_of stream B)
-  pub accepted_is : log.accepted ≡ accepted
+  pub accepted_is : log.accepted ≡ length (arrivals history) + length left
   pub arrived : log.arrived ≡ length (arrivals history)
   pub overrun_is : log.overrun ≡ overrun
 

@@ -4,7 +4,8 @@ use Rattle.std.specs.Global.{Global}
 use Rattle.strm_msg.specs.Message.{Msg}
 use Rattle.strm_history.specs.declared.setup.Setup.{Setup}
 use Rattle.strm_shared.specs.Seat.{SeatValue}
-use Rattle.strm_shared.specs.Ending.{fresh_seats, fresh_feed, FeedValue, SharedValue}
+use Rattle.strm_ring.specs.Feed.{fresh_feeder, FeederValue}
+use Rattle.strm_shared.specs.Ending.{fresh_seats, SharedValue}
 use Rattle.strm_run.specs.declared.script.Feed.{Feed}
 use Rattle.strm_run.specs.Scripts.{feed_of, line_is_there}
 use Rattle.strm_run.specs.Run.{RunValue}
@@ -16,12 +17,12 @@ pub record AreSeatsOn {K : Type 0} (run : RunValue K) (seats : List (Vec SeatVal
   pub each : (k : ℕ) (d : Vec SeatValue Global) → k < length run.setups → (get_or seats k d).items ≡ fresh_seats k (length run.scripts)
 
 -- the feeders, in order of the streams: one for each line, that had nothing accepted
-pub record AreFeeders {K : Type 0} (run : RunValue K) (feeders : List (Option FeedValue)) : Type 0 where
+pub record AreFeeders {K : Type 0} (run : RunValue K) (feeders : List (Option FeederValue)) : Type 0 where
   pub many : length feeders ≡ length run.setups
-  pub each : (k : ℕ) (d : Option FeedValue) (s : Setup) → k < length run.setups → get_or feeders k d ≡ fresh_feed k (get_or run.setups k s)
+  pub each : (k : ℕ) (d : Option FeederValue) (s : Setup) → k < length run.setups → get_or feeders k d ≡ fresh_feeder k (get_or run.setups k s)
 
 -- the streams of a run that were just made, in order, each with a seat for each caller, and a feeder if it is a line
-pub record AreOpened {K : Type 0} (run : RunValue K) (streams : List SharedValue) (seats : List (Vec SeatValue Global)) (feeders : List (Option FeedValue)) : Type 0 where
+pub record AreOpened {K : Type 0} (run : RunValue K) (streams : List SharedValue) (seats : List (Vec SeatValue Global)) (feeders : List (Option FeederValue)) : Type 0 where
   pub streams_are : AreStreams run streams
   pub seats_are : AreSeatsOn run seats
   pub feeders_are : AreFeeders run feeders

@@ -4,17 +4,17 @@ use super::{
     Request, Script, ScriptCall, Setup, Who, log, run_of,
 };
 
-/// A line whose lists are full at so many bytes.
-pub(super) const fn line(high: u32) -> Setup {
+/// A line with a ring for so many messages.
+const fn line(ring: u16) -> Setup {
     Setup {
         driver: Driver::Line,
-        head: (high, 4),
-        drv: (high, 4),
-        ring: 1,
+        head: (16, 4),
+        drv: (16, 4),
+        ring,
     }
 }
 
-pub(super) fn feed(rt: &impl Abort, alloc: Global, stream: u32, rows: &[&[u8]]) -> Feed {
+fn feed(rt: &impl Abort, alloc: Global, stream: u32, rows: &[&[u8]]) -> Feed {
     let mut messages = vec![in alloc].expect(rt, "no memory");
     for dat in rows {
         let m = Message::of_data(alloc, 0, dat).expect(rt, "no memory");
@@ -43,11 +43,11 @@ fn read(entry: &Entry<Kind>) -> Option<usize> {
 }
 
 #[test]
-fn what_is_too_much_is_handed_back_and_counted(rt: HostRuntime) {
+fn what_the_ring_has_no_room_for_is_handed_back_and_counted(rt: HostRuntime) {
     let alloc: Global = rt.alloc();
-    let setups = vec![in alloc; line(5), line(5)].expect(&rt, "no memory");
+    let setups = vec![in alloc; line(2), line(2)].expect(&rt, "no memory");
     let scripts = vec![in alloc].expect(&rt, "no memory");
-    let rows = [b"aaaaa".as_slice(), b"bbbbb".as_slice(), b"c".as_slice()];
+    let rows = [b"a".as_slice(), b"b".as_slice(), b"c".as_slice()];
     let feeds = vec![in alloc; feed(&rt, alloc, 1, &rows)].expect(&rt, "no memory");
     let transcript = run_of(&rt, alloc, setups, scripts, feeds, 1, &Open).expect(
         &rt,
@@ -56,17 +56,14 @@ fn what_is_too_much_is_handed_back_and_counted(rt: HostRuntime) {
     let unfed = log(&rt, &transcript, 0);
     assert!(rt; (unfed.accepted, unfed.arrived, unfed.overrun) == (0, 0, 0));
     let fed = log(&rt, &transcript, 1);
-    assert!(rt; (fed.accepted, fed.arrived, fed.overrun) == (2, 2, 1));
-    let history = fed.history.as_slice();
-    assert_eq!(rt; history.len(), 2);
-    assert!(rt; history.get(0).and_then(came) == Some(b'a'));
-    assert!(rt; history.get(1).and_then(came) == Some(b'b'));
+    assert!(rt; (fed.accepted, fed.arrived, fed.overrun) == (2, 0, 1));
+    assert!(rt; fed.history.is_empty());
 }
 
 #[test]
 fn a_line_is_fed_while_a_caller_reads(rt: HostRuntime) {
     let alloc: Global = rt.alloc();
-    let setups = vec![in alloc; line(16)].expect(&rt, "no memory");
+    let setups = vec![in alloc; line(3)].expect(&rt, "no memory");
     let mut calls = vec![in alloc].expect(&rt, "no memory");
     for _ in 0..3 {
         let request = Request::Read { max: 8 };
@@ -86,16 +83,19 @@ fn a_line_is_fed_while_a_caller_reads(rt: HostRuntime) {
         "a transcript",
     );
     let log = log(&rt, &transcript, 0);
-    assert!(rt; (log.accepted, log.arrived, log.overrun) == (3, 3, 0));
+    assert!(rt; (log.accepted, log.overrun) == (3, 0) && log.arrived <= 3);
     let mut next = b'a';
+    let mut arrived: u64 = 0;
     let mut taken: usize = 0;
     for entry in log.history.iter() {
-        if came(entry) == Some(next) {
+        if let Some(first) = came(entry) {
+            assert_eq!(rt; first, next);
             next = next.saturating_add(1);
+            arrived = arrived.saturating_add(1);
         }
         taken = taken.saturating_add(read(entry).unwrap_or(0));
     }
-    assert_eq!(rt; next, b'd');
-    assert!(rt; taken <= 3);
-    assert_eq!(rt; log.history.len(), 6);
+    assert_eq!(rt; arrived, log.arrived);
+    assert!(rt; taken as u64 <= arrived);
+    assert_eq!(rt; log.history.len() as u64, arrived.saturating_add(3));
 }

@@ -273,6 +273,40 @@ fn steps_are_spelt_with_their_answers(rt: HostRuntime) {
     assert!(rt; printed(&rt, alloc, &plan, log) == lines(&rt, alloc));
 }
 
+/// Messages of a feed, also with words and parts that a transcript has otherwise.
+const FEED: &[u8] = b"stream s line 0016/04 16/4 4096\nfeed s\n\
+    data 3 =a\nproto 0 =c -\npcproto =c =\nflush w\nhangup\nerror EPROTO\nflush rw\nflush r\n\
+    error\tEIO\nproto 003 *1:63 -\npcproto *0:00 =%2d\ndata 255 =a%20%62\n";
+
+/// What is printed where each of them came in.
+const FED: &str = "stream s\n\
+    line data 3 =a : 0\nline proto 0 =c - : 0\nline pcproto =c = : 0\nline flush w : 0\n\
+    line hangup : 0\nline error EPROTO : 0\nline flush rw : 0\nline flush r : 0\n\
+    line error EIO : 0\nline proto 3 =c - : 0\nline pcproto = =- : 0\nline data 255 =a%20b : 0\n\
+    open a\nfeed accepted 3 arrived 2 overrun 1\n";
+
+/// A step for each message of the plan's feeds.
+fn fed(rt: &impl Abort, alloc: Global, plan: &Plan) -> Vec<Entry<Kind>> {
+    let mut history = Vec::new(alloc);
+    for feed in &plan.feeds {
+        for m in &feed.messages {
+            let m = m.copy(alloc).expect(rt, "no memory");
+            let entry = came(alloc, m, Answer::Done(Reply::Line));
+            history.push(entry).expect(rt, "no memory");
+        }
+    }
+    history
+}
+
+#[test]
+fn messages_that_came_in_are_spelt_as_in_a_feed(rt: HostRuntime) {
+    let alloc: Global = rt.alloc();
+    let plan = plan_of(&rt, alloc, FEED);
+    let mut log = log(&rt, alloc, &[]);
+    log.history = fed(&rt, alloc, &plan);
+    assert!(rt; printed(&rt, alloc, &plan, log) == FED.as_bytes());
+}
+
 /// A plan with a loop `one` and an echo `two`, and one process, `p`.
 const PLAN: &[u8] = b"stream one loop 16/4 16/4\nstream two echo 16/4 16/4\nprocess p";
 

@@ -21,7 +21,7 @@ fn wrote(entry: &Entry<Kind>) -> Option<(u32, u64)> {
 #[test]
 fn the_history_has_each_call_in_order_with_its_caller(rt: HostRuntime) {
     let alloc: Global = rt.alloc();
-    let (shared, mut seats, _) = made(&rt, alloc, 3, ECHO, 2);
+    let (shared, mut seats) = made(&rt, alloc, 3, ECHO, 2);
     let mut second = seats.pop().expect(&rt, "a seat");
     let mut first = seats.pop().expect(&rt, "a seat");
     answer(&rt, &shared, &mut second, write(&rt, alloc, b"one"));
@@ -29,7 +29,7 @@ fn the_history_has_each_call_in_order_with_its_caller(rt: HostRuntime) {
     answer(&rt, &shared, &mut second, write(&rt, alloc, b"x"));
     assert!(rt; first.calls() == 1 && second.calls() == 2);
     assert!(rt; seats.push(second).is_ok() && seats.push(first).is_ok());
-    let end = ended(shared, seats, None).ok().expect(&rt, "an end");
+    let end = ended(shared, seats).ok().expect(&rt, "an end");
     let history = end.history.as_slice();
     assert_eq!(rt; history.len(), 3);
     assert!(rt; history.get(0).and_then(wrote) == Some((1, 3)));
@@ -40,7 +40,7 @@ fn the_history_has_each_call_in_order_with_its_caller(rt: HostRuntime) {
 #[test]
 fn modules_come_back_to_their_caller(rt: HostRuntime) {
     let alloc: Global = rt.alloc();
-    let (shared, mut seats, _) = made(&rt, alloc, 0, ECHO, 1);
+    let (shared, mut seats) = made(&rt, alloc, 0, ECHO, 1);
     let mut seat = seats.pop().expect(&rt, "a seat");
     for serial in [5, 6] {
         let pushed = called(&rt, &shared, &mut seat, End::A, push(&rt, alloc, serial));
@@ -51,7 +51,7 @@ fn modules_come_back_to_their_caller(rt: HostRuntime) {
     let closed = called(&rt, &shared, &mut seat, End::A, Request::Close);
     assert!(rt; closed.1 == [Some(6), Some(5)]);
     assert!(rt; seats.push(seat).is_ok());
-    let end = ended(shared, seats, None).ok().expect(&rt, "an end");
+    let end = ended(shared, seats).ok().expect(&rt, "an end");
     let entry = end.history.last().expect(&rt, "an entry");
     assert_eq!(rt; entry.out.as_slice(), [6, 5].as_slice());
     assert!(rt; !end.stream.is_open(End::A));

@@ -2,7 +2,7 @@ use Rattle.std.proofs.Common.{◌≡◌, true, ◌∷◌, ◌++◌, append_assoc
 use Rattle.std.specs.Vec.Iter.{into_iter_items}
 use Rattle.strm_msg.specs.Message.{Msg}
 use Rattle.strm_msg.specs.Kind.{is_from_line}
-use Rattle.strm_shared.specs.Ending.{FeedValue}
+use Rattle.strm_ring.specs.Feed.{FeedValue}
 use Rattle.strm_run.specs.Scripts.{feed_of}
 use Rattle.strm_run.proofs.EachLemmas.{of_others}
 use Rattle.strm_run.proofs.PartLemmas.{part_less, part_more}
@@ -11,17 +11,17 @@ use Rattle.strm_run.proofs.FeedLemmas.{taken_more, back_more, next_of_feed, offe
 use Rattle.strm_run.proofs.feeding.Feeding.offer.Goals as goal
 
 pub accepts-requires-clause-next : goal.accepts-requires-clause-next
-accepts-requires-clause-next g c κs within =
+accepts-requires-clause-next g c =
     let was = c.loop-m.invariant in
     let next = c.in-Some.ensures.steps.0 in
-    let is : c.loop-m.yielded ++ c.in-Some.m ∷ into_iter_items c.next.new.self ≡ feed_of g.N.Plays.run.feeds c.loop-m.feeder.number = ap (λ l. c.loop-m.yielded ++ l) (sym next) ∙ was.rest in
+    let is : c.loop-m.yielded ++ c.in-Some.m ∷ into_iter_items c.next.new.self ≡ feed_of g.N.Plays.run.feeds c.loop-m.feeder.feed.number = ap (λ l. c.loop-m.yielded ++ l) (sym next) ∙ was.rest in
     next_of_feed _ _ c.in-Some.m _ _ is was.offers
 
 pub loop-m-preserved-then-not-accepts : goal.loop-m-preserved-then-not-accepts
 loop-m-preserved-then-not-accepts g c =
     let was = c.loop-m.invariant in
     let next = c.in-Some.ensures.steps.0 in
-    let is : c.loop-m.yielded ++ c.in-Some.m ∷ into_iter_items c.next.new.self ≡ feed_of g.N.Plays.run.feeds c.loop-m.feeder.number = ap (λ l. c.loop-m.yielded ++ l) (sym next) ∙ was.rest in
+    let is : c.loop-m.yielded ++ c.in-Some.m ∷ into_iter_items c.next.new.self ≡ feed_of g.N.Plays.run.feeds c.loop-m.feeder.feed.number = ap (λ l. c.loop-m.yielded ++ l) (sym next) ∙ was.rest in
     let same = c.accepts.ensures.none c.if-not-accepts.true in
     record {
       left = iterated_len _ _ _ _ _ was.left next c.in-Some.ensures.steps.1;
@@ -39,7 +39,7 @@ pub loop-m-preserved : goal.loop-m-preserved
 loop-m-preserved g c =
     let was = c.loop-m.invariant in
     let next = c.in-Some.ensures.steps.0 in
-    let is : c.loop-m.yielded ++ c.in-Some.m ∷ into_iter_items c.next.new.self ≡ feed_of g.N.Plays.run.feeds c.loop-m.feeder.number = ap (λ l. c.loop-m.yielded ++ l) (sym next) ∙ was.rest in
+    let is : c.loop-m.yielded ++ c.in-Some.m ∷ into_iter_items c.next.new.self ≡ feed_of g.N.Plays.run.feeds c.loop-m.feeder.feed.number = ap (λ l. c.loop-m.yielded ++ l) (sym next) ∙ was.rest in
     let more = c.accepts.ensures.accepted c.if-not-accepts.false in
     record {
       left = iterated_len _ _ _ _ _ was.left next c.in-Some.ensures.steps.1;

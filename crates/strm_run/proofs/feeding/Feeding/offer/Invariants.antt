@@ -9,12 +9,12 @@ use Rattle.strm_run.proofs.feeding.Feeding.offer.Given as goal
 abbrev pub invariant-loop-m : goal.invariant-loop-m
 invariant-loop-m g l = record {
   left : into_iter_len l.m-iterator ≡ length (into_iter_items l.m-iterator);
-  rest : l.yielded ++ into_iter_items l.m-iterator ≡ feed_of g.N.Plays.run.feeds l.feeder.number;
-  offers : l.feeder.offers ≡ length l.yielded;
-  there : l.feeder.number < length g.N.Plays.run.setups;
-  few : length (feed_of g.N.Plays.run.feeds l.feeder.number) < 2 ^ 63;
+  rest : l.yielded ++ into_iter_items l.m-iterator ≡ feed_of g.N.Plays.run.feeds l.feeder.feed.number;
+  offers : l.feeder.feed.offers ≡ length l.yielded;
+  there : l.feeder.feed.number < length g.N.Plays.run.setups;
+  few : length (feed_of g.N.Plays.run.feeds l.feeder.feed.number) < 2 ^ 63;
   kinds : All (λ m. is_from_line m.kind ≡ true) (into_iter_items l.m-iterator);
-  part : IsPartOf l.feeder.accepted l.yielded;
-  all : length l.feeder.accepted + l.overrun ≡ length l.yielded;
-  number : l.feeder.number ≡ l.fn.self;
+  part : IsPartOf l.feeder.feed.accepted l.yielded;
+  all : length l.feeder.feed.accepted + l.overrun ≡ length l.yielded;
+  number : l.feeder.feed.number ≡ l.fn.self;
 }

@@ -1,4 +1,4 @@
-use Rattle.std.proofs.Common.{List, ◌++◌, append-nil, refl, sym, ◌∙◌, ap}
+use Rattle.std.proofs.Common.{List, ◌++◌, refl, sym, ◌∙◌, ap}
 use Rattle.strm_msg.specs.Message.{Msg}
 use Rattle.strm_history.specs.History.{arrivals}
 use Rattle.strm_history.proofs.SerialLemmas.{legal_accounts}
@@ -22,11 +22,6 @@ returns-then-not-is_fed-clause-seats g c =
 
 pub returns-then-not-do_agree-clause-seats : goal.returns-then-not-do_agree-clause-seats
 returns-then-not-do_agree-clause-seats g c =
-    let are = rw c.as_slice.ensures.value at c.are_seats.ensures in
-    rw (← c.self.view_is) ((λ is. unfinished_apart is), (λ none. absurd (none (are.0 c.if-not-are_seats.false))))
-
-pub returns-then-not-is_accepted-clause-seats : goal.returns-then-not-is_accepted-clause-seats
-returns-then-not-is_accepted-clause-seats g c =
     let are = rw c.as_slice.ensures.value at c.are_seats.ensures in
     rw (← c.self.view_is) ((λ is. unfinished_apart is), (λ none. absurd (none (are.0 c.if-not-are_seats.false))))
 
@@ -68,8 +63,8 @@ returns-clause-first g c =
 
 pub returns-clause-arrived : goal.returns-clause-arrived
 returns-clause-arrived g c =
-    let arrived = (rw c.as_slice-3.ensures.value at c.is_accepted.ensures).0 c.if-not-is_accepted.false in
-    ap (λ (l : List Msg). arrivals c.into_parts-history.result.0.items ++ l) c.new.ensures.items ∙ append-nil _ ∙ arrived
+    let locked = c.into_parts-log.ensures in
+    ap (λ (l : List Msg). l ++ c.in-Ok.left.items) (ap (λ h. arrivals h) c.into_parts-history.ensures.history ∙ (rw (← locked.log, ← locked.inlet) at locked.came_in)) ∙ c.in-Ok.ensures
 
 pub returns-clause-fed : goal.returns-clause-fed
 returns-clause-fed g c =

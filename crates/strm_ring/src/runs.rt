@@ -1,8 +1,8 @@
 //! What a run is about.
 use std::marker::Brand;
 
-/// What a run is about: which calls its callers make on which streams, and what its lines are fed. Proofs
-/// alone speak of it; a program names it by a type, which has no values and costs nothing.
+/// What a run is about: which calls its callers make on which streams, what its lines are fed, and through which rings.
+/// Proofs alone speak of it; a program names it by a type, which has no values and costs nothing.
 ///
 /// `K` is what the modules are.
 pub trait Runs<K> {
@@ -11,6 +11,7 @@ pub trait Runs<K> {
     ghost use Rattle.strm_msg.specs.declared.words.End.{End};
     ghost use Rattle.strm_module.specs.declared.shape.Shape.{Shape};
     ghost use Rattle.strm_head.specs.declared.event.Event.{Event};
+    ghost use Rattle.strm_ring.specs.Name.{RingName};
 
     /// Of a stream's number and a caller: the calls that the caller makes there, in order, or none where
     /// it may make any.
@@ -18,9 +19,12 @@ pub trait Runs<K> {
 
     /// Of a stream's number: the messages that its feeder offers, in order, or none where it may offer any.
     ghost feed: { ℕ → Option (List Msg) };
+
+    /// Of a stream's number: the ring through which it is fed, if it is a line.
+    ghost ring: { ℕ → Option RingName };
 }
 
-/// A run of any calls and any feeds.
+/// A run of any calls, on streams that are no lines.
 pub struct AnyCalls;
 
 impl<K> Runs<K> for AnyCalls {
@@ -29,6 +33,8 @@ impl<K> Runs<K> for AnyCalls {
     ghost calls = { λ number caller. None };
 
     ghost feed = { λ number. None };
+
+    ghost ring = { λ number. None };
 }
 
 /// A run that a proof picks.
@@ -38,4 +44,6 @@ impl<K> Runs<K> for Brand {
     ghost calls = { λ number caller. None };
 
     ghost feed = { λ number. None };
+
+    ghost ring = { λ number. None };
 }

@@ -1,0 +1,106 @@
+//! The ring of a line.
+ghost use Rattle.std.specs.Prelude.{◌≡◌, ◌↔◌, true, false, is_some, IfOk, IsErrOf};
+ghost use Rattle.strm_head.specs.Step.{is_line};
+ghost use Rattle.strm_history.specs.Setup.{is_ring};
+ghost use Rattle.strm_ring.specs.Feed.{fresh_feeder};
+ghost use Rattle.strm_ring.specs.Inlet.{fresh_inlet};
+
+use crate::fault::SharedFault;
+use crate::feeder::Feeder;
+use crate::inlet::Inlet;
+use crate::runs::Runs;
+use rtrb::{Consumer, Producer, Protocol, RingBuffer};
+use std::alloc::Global;
+use std::marker::Model;
+use strm_history::Setup;
+use strm_msg::Message;
+
+/// What goes through a ring: messages of kinds that come from a line.
+pub(crate) struct FromLine;
+
+impl Protocol<Message> for FromLine {
+    ghost use Rattle.std.specs.Prelude.{◌≡◌, true};
+    ghost use Rattle.strm_msg.specs.Kind.{is_from_line};
+
+    ghost allows = { λ before m. is_from_line m.kind ≡ true };
+}
+
+/// The ring through which the line of a shared stream is fed, before its ends are taken apart. Other drivers have none.
+///
+/// A contract sees the setup, and the name by which a run knows the ring.
+#[derive(Drop)]
+pub struct Ring {
+    setup: Setup,
+    ends: Option<
+        (
+            Producer<Message, Global, FromLine>,
+            Consumer<Message, Global, FromLine>,
+        ),
+    >,
+}
+
+impl Model for Ring {
+    ghost use Rattle.std.specs.Prelude.{◌≡◌, is_some};
+    ghost use Rattle.std.specs.Option.{option_map};
+    ghost use Rattle.strm_head.specs.Step.{is_line};
+    ghost use Rattle.strm_ring.specs.Name.{producer_name};
+    ghost use Rattle.strm_ring.specs.Feed.{RingValue};
+    ghost use Rattle.strm_ring.specs.Ring.{AreNew};
+
+    ghost Value = { RingValue };
+
+    ghost view = { λ r. record { setup = r.setup; name = option_map (λ ends. producer_name ends.0) r.ends } };
+
+    ghost invariant = { λ r. (is_some r.ends ≡ is_line r.setup.driver) × AreNew r.setup.ring r.ends };
+}
+
+impl Ring {
+    /// The ring for a stream that is made by this setup: for as many messages as the setup says if it is a line, and else
+    /// none.
+    ///
+    /// Refused with `Ring` exactly where the ring of a line does not hold 1 to 4096 messages, which is looked at first, and
+    /// with `NoMem` for want of memory.
+    pub fn new(alloc: Global, setup: Setup) -> Result<Ring, SharedFault>
+        ensures setup { IfOk result (λ ring. ring.setup ≡ setup) }
+        ensures line { IfOk result (λ ring. is_some ring.name ≡ is_line setup.driver) }
+        ensures ring { IsErrOf result SharedFault.Ring ↔ (is_ring setup ≡ false) }
+    {
+        if !setup.is_ring() {
+            return Err(SharedFault::Ring);
+        }
+        if !setup.is_line() {
+            return Ok(Ring { setup, ends: None });
+        }
+        let Ok(ends) = RingBuffer::with_protocol::<Global, FromLine>(alloc, setup.ring as usize)
+        else {
+            return Err(SharedFault::NoMem);
+        };
+        Ok(Ring {
+            setup,
+            ends: Some(ends),
+        })
+    }
+
+    /// The setup of the stream that it is for.
+    pub fn setup(&self) -> Setup
+        ensures { result ≡ self.now.setup }
+    {
+        self.setup
+    }
+
+    /// Its ends: where messages come in, and for a line who feeds it. The run names the ring at this number.
+    pub fn into_ends<K, N: Runs<K>>(self, number: u32) -> (Inlet<K, N>, Option<Feeder<K, N>>)
+        requires { self.name ≡ N.ring number }
+        ensures inlet { result.0 ≡ fresh_inlet number (is_line self.setup.driver) }
+        ensures feeder { result.1 ≡ fresh_feeder number self.setup }
+    {
+        let Ring { setup: _, ends } = self;
+        match ends {
+            Some((producer, consumer)) => (
+                Inlet::new(number, Some(consumer)),
+                Some(Feeder::new(number, producer)),
+            ),
+            None => (Inlet::new(number, None), None),
+        }
+    }
+}

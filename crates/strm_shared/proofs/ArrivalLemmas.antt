@@ -1,0 +1,62 @@
+-- What stands under the lock, with one message or one call more.
+use Rattle.std.proofs.Common.{◌≡◌, ℕ, ◌++◌, Option, List, [], ◌∷◌, append-nil, refl, sym, ◌∙◌, ap, subst}
+use Rattle.std.proofs.lemmas.List.Concat.{flat_map-append}
+use Rattle.strm_msg.specs.Message.{Msg}
+use Rattle.strm_msg.specs.declared.words.End.{End}
+use Rattle.strm_module.specs.Kinds.{Meaning}
+use Rattle.strm_module.specs.declared.shape.Shape.{Shape}
+use Rattle.strm_head.specs.Step.{is_line}
+use Rattle.strm_head.specs.declared.event.Event.{Event}
+use Rattle.strm_head.specs.declared.event.Event.TheVariants.{Asked}
+use Rattle.strm_history.specs.declared.entry.Entry.{Entry}
+use Rattle.strm_history.specs.declared.call.Call.{Call}
+use Rattle.strm_history.specs.declared.call.Called.{Called}
+use Rattle.strm_history.specs.declared.call.Called.TheVariants.{Done, NoRoom}
+use Rattle.strm_history.specs.Entry.{came_in}
+use Rattle.strm_history.specs.History.{arrivals}
+use Rattle.strm_history.specs.Log.{LogValue, HasLanded, CallsBy}
+use Rattle.strm_ring.specs.Inlet.{InletValue}
+use Rattle.strm_ring.specs.Runs.{IsNextOf}
+use Rattle.strm_shared.specs.Seat.{SeatValue}
+use Rattle.strm_shared.specs.Turns.{turned, IsLocked, TurnsValue}
+use Rattle.strm_shared.specs.Arrivals.{TakesIn, ComesIn}
+use Rattle.strm_shared.proofs.TurnLemmas.{call_keeps}
+
+-- what came in, with one step more
+arrivals_more : {K : Type 0} (history longer : List (Entry K)) (entry : Entry K) (event : Event (Shape K)) → longer ≡ history ++ entry ∷ [] → entry.event ≡ event → arrivals longer ≡ arrivals history ++ came_in event
+arrivals_more history longer entry event is has =
+    ap (λ (l : List (Entry _)). arrivals l) is
+    ∙ flat_map-append (λ (e : Entry _). came_in e.event) history (entry ∷ [])
+    ∙ ap (λ (l : List Msg). arrivals history ++ l) (append-nil (came_in entry.event) ∙ ap (λ (e : Event (Shape _)). came_in e) has)
+
+-- for kinds of any meaning
+module _ {K : Type 0} (means : Meaning K) where
+  -- some messages that came in, and one more
+  takes_more : (old between new : LogValue K) (came : List Msg) (m : Msg) → TakesIn means old came between → HasLanded means between m new → TakesIn means old (came ++ m ∷ []) new
+  takes_more old between new [] m same lands = (new, subst (λ (l : LogValue K). HasLanded means l m new) same lands, refl)
+  takes_more old between new (first ∷ rest) m takes lands = (takes.0, takes.1, takes_more takes.0 between new rest m takes.2 lands)
+
+  pub comes_more : (old between new : LogValue K) (m : Msg) → ComesIn means old between → HasLanded means between m new → ComesIn means old new
+  comes_more old between new m comes lands = record {
+    came = comes.came ++ m ∷ [];
+    takes = takes_more old between new comes.came m comes.takes lands;
+  }
+
+  -- a call has let nothing in, and keeps the setup
+  call_arrivals : (old new : LogValue K) (caller : ℕ) (call : Call (Shape K)) (result : Called (Shape K)) → CallsBy means old caller call result new → arrivals new.history ≡ arrivals old.history
+  call_arrivals old new caller call (Done answer back) by =
+      arrivals_more old.history new.history by.enters.entry (Asked call.request) by.enters.history by.enters.has ∙ append-nil (arrivals old.history)
+  call_arrivals old new caller call (NoRoom same) by = ap (λ (l : LogValue K). arrivals l.history) by.1
+
+  call_setup : (old new : LogValue K) (caller : ℕ) (call : Call (Shape K)) (result : Called (Shape K)) → CallsBy means old caller call result new → is_line new.setup.driver ≡ is_line old.setup.driver
+  call_setup old new caller call (Done answer back) by = ap (λ s. is_line s.driver) by.enters.setup
+  call_setup old new caller call (NoRoom same) by = ap (λ (l : LogValue K). is_line l.setup.driver) by.1
+
+  module _ (calls : ℕ → ℕ → Option (List (End × Event (Shape K)))) (number : ℕ) where
+    pub call_locked : (old new : LogValue K) (seat : SeatValue) (call : Call (Shape K)) (result : Called (Shape K)) (turns after : TurnsValue) (inlet : InletValue) → CallsBy means old seat.caller call result new → after ≡ turned number seat result turns → IsNextOf (calls seat.number seat.caller) seat.calls (call.end, Asked call.request) → IsLocked (calls number) number old turns inlet → IsLocked (calls number) number new after inlet
+    call_locked old new seat call result turns after inlet by is next was = record {
+      in_turn = call_keeps means calls number old new seat call result turns after by is next was.in_turn;
+      came_in = call_arrivals old new seat.caller call result by ∙ was.came_in;
+      of = was.of;
+      fed = was.fed ∙ sym (call_setup old new seat.caller call result by);
+    }

@@ -1,0 +1,34 @@
+-- Messages that come in from a line before a call is made.
+use Rattle.std.specs.Prelude.{◌≡◌, ℕ, List, [], ◌∷◌}
+use Rattle.strm_msg.specs.Message.{Msg}
+use Rattle.strm_module.specs.Kinds.{Meaning}
+use Rattle.strm_module.specs.declared.shape.Shape.{Shape}
+use Rattle.strm_history.specs.declared.call.Call.{Call}
+use Rattle.strm_history.specs.declared.call.Called.{Called}
+use Rattle.strm_history.specs.Log.{LogValue, HasLanded, CallsBy}
+use Rattle.strm_shared.specs.declared.locked.Intake.{Intake}
+use Rattle.strm_shared.specs.declared.locked.Intake.TheVariants.{Entered, Rests, NoMem}
+
+-- for kinds of any meaning
+module _ {K : Type 0} (means : Meaning K) where
+  -- a message came in, or nothing is changed
+  abbrev pub Intakes : LogValue K → Intake → LogValue K → Type 0
+  Intakes old Entered new = (m : Msg) × HasLanded means old m new
+  Intakes old Rests new = new ≡ old
+  Intakes old NoMem new = new ≡ old
+
+  -- these messages came in, in order, and nothing else happened
+  abbrev pub TakesIn : LogValue K → List Msg → LogValue K → Type 0
+  TakesIn old [] new = new ≡ old
+  TakesIn old (m ∷ rest) new = (next : LogValue K) × HasLanded means old m next × TakesIn next rest new
+
+  -- some messages came in
+  pub record ComesIn (old new : LogValue K) : Type 0 where
+    pub came : List Msg
+    pub takes : TakesIn old came new
+
+  -- some messages came in, and then the call was made, or it came back
+  pub record CallsAfter (old : LogValue K) (caller : ℕ) (call : Call (Shape K)) (result : Called (Shape K)) (new : LogValue K) : Type 0 where
+    pub before : LogValue K
+    pub comes : ComesIn old before
+    pub calls : CallsBy means before caller call result new

@@ -1,10 +1,11 @@
 //! What queues, calls and scripts cost.
 //!
-//! Without a word it says how much it puts through queues and streams, with `--time` also how long that takes.
+//! Without a word it says how much it puts through queues, rings and streams, with `--time` also how long that takes.
 //! `script FILE WORKERS` says how long the script of a file takes, `moves FILE` how many queues moved after each of its
 //! calls, and at how many places service looked.
 #![tactic(auto)]
 
+mod feed;
 mod queue;
 mod script;
 mod service;
@@ -31,6 +32,7 @@ fn main(rt: HostRuntime) -> anyhow::Result<()> {
         ("moves", 3) => script::moves(&rt, word(words, 2)),
         ("--time", 2) | ("", 1) => {
             queue::measure(&rt, is_timed)?;
+            feed::measure(&rt, is_timed)?;
             service::measure(&rt, is_timed)
         }
         _ => {

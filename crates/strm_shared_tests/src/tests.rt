@@ -16,6 +16,7 @@ use strm_shared::{EndFault, Ended, Ring, Seat, Shared};
 mod callers;
 mod ending;
 mod lines;
+mod many;
 
 /// An echo whose lists are full at 16 bytes.
 const ECHO: Setup = Setup {

@@ -304,7 +304,7 @@ fn messages_that_came_in_are_spelt_as_in_a_feed(rt: HostRuntime) {
     let plan = plan_of(&rt, alloc, FEED);
     let mut log = log(&rt, alloc, &[]);
     log.history = fed(&rt, alloc, &plan);
-    assert!(rt; printed(&rt, alloc, &plan, log) == FED.as_bytes());
+    assert!(rt; printed(&rt, alloc, &plan, log).as_slice() == FED.as_bytes());
 }
 
 /// A plan with a loop `one` and an echo `two`, and one process, `p`.

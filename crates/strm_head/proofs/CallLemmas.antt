@@ -34,7 +34,7 @@ use Rattle.strm_head.proofs.KeptLemmas.{whole_of, quiet_begun, begun_opens}
 -- for kinds of any meaning
 module _ {K : Type 0} (means : Meaning K) where
   -- a call that want of memory can refuse has taken no module out, and was handed none
-  pub none_out : (image : Image K) (e : End) (request : Request (Shape K)) → can_lack_memory request ≡ true → (begun_of means image e request).out ≡ []
+  none_out : (image : Image K) (e : End) (request : Request (Shape K)) → can_lack_memory request ≡ true → (begun_of means image e request).out ≡ []
   none_out image e (Putmsg ctl dat flag) can = refl
   none_out image e (Putpmsg ctl dat band flag) can = refl
   none_out image e (Getmsg maxctl maxdat flag) can = refl
@@ -59,7 +59,7 @@ module _ {K : Type 0} (means : Meaning K) where
   none_out image e (FlushBand band r w) can = refl
   none_out image e Close can = cc
 
-  pub none_pushed : (image : Image K) (e : End) (request : Request (Shape K)) → can_lack_memory request ≡ true → pushed_of request ≡ []
+  none_pushed : (image : Image K) (e : End) (request : Request (Shape K)) → can_lack_memory request ≡ true → pushed_of request ≡ []
   none_pushed image e (Putmsg ctl dat flag) can = refl
   none_pushed image e (Putpmsg ctl dat band flag) can = refl
   none_pushed image e (Getmsg maxctl maxdat flag) can = refl
@@ -224,38 +224,21 @@ module _ {K : Type 0} (means : Meaning K) where
       rw (a, m, i)
       (unrefused, (λ quiet. refl), record { settled = b.image; settles = settles; replies = r ∙ sym (plain_reply b _ quiet.awaits); leaves = ap (λ x. answered_if x e b.image) (sym quiet.awaits); takes = refl })
 
-  -- a call after whose change memory was wanting
-  pub broken_answers : (image : Image K) (e : End) (request : Request (Shape K)) (answer : Answer) (moves : List Place) (after : Image K) → refusal_of image e request ≡ None → changes_no_queue request ≡ false → image.broken ≡ false → Breaks (begun_of means image e request).image after → answer ≡ Broke → moves ≡ [] → Answers means image e request answer moves (out_of means image e request answer) after
-  broken_answers image e request answer moves after unrefused changes whole breaks a m =
-      rw (a, m) (unrefused, changes, whole, record { breaks = breaks; stays = refl; takes = refl })
-
   -- what comes back of a call that was finished
-  pub finished_back : (image : Image K) (e : End) (request : Request (Shape K)) (b : Begun K) (answer : Answer) (moves : List Place) (out : List ℕ) (after : Image K) → Finishes means e b answer moves out after → back_of means image e request answer ≡ handed_out (begun_of means image e request).out
-  finished_back image e request b (Refused refusal) moves out after finishes = absurd finishes
-  finished_back image e request b (Done reply) moves out after finishes = refl
-  finished_back image e request b Broke moves out after finishes = refl
+  pub finished_back : (image : Image K) (e : End) (request : Request (Shape K)) (back : List (Option (Shape K))) (b : Begun K) (answer : Answer) (moves : List Place) (out : List ℕ) (after : Image K) → back ≡ handed_out (begun_of means image e request).out → Finishes means e b answer moves out after → back ≡ back_of means image e request answer
+  finished_back image e request back b (Refused refusal) moves out after is finishes = absurd finishes
+  finished_back image e request back b (Done reply) moves out after is finishes = is
+  finished_back image e request back b Broke moves out after is finishes = is
+
+  -- and of one that want of memory refuses
+  pub refused_back : (image : Image K) (e : End) (request : Request (Shape K)) (back : List (Option (Shape K))) (answer : Answer) (refusal : Refusal) → can_lack_memory request ≡ true → back ≡ handed_out (begun_of means image e request).out → answer ≡ Refused refusal → back ≡ back_of means image e request answer
+  refused_back image e request back answer refusal can is a =
+      rw (a, is, none_out image e request can, none_pushed image e request can) refl
 
   -- an ioctl takes memory
   pub ioctl_memory : (image : Image K) (e : End) (request : Request (Shape K)) (answer : Answer) → awaits_answer request ≡ true → takes_no_memory request ≡ true → wants_memory answer ≡ false
   ioctl_memory image e request answer awaits none =
       absurd (let no : true ≡ false = sym none ∙ ioctl_takes image e request awaits in cc)
-
-  -- service that broke off
-  pub broken_finishes : (e : End) (begun1 : Begun K) (answer : Answer) (moves : List Place) (after : Image K) → begun1.out ≡ [] → Breaks begun1.image after → answer ≡ Broke → moves ≡ [] → Finishes means e begun1 answer moves [] after
-  broken_finishes e begun1 answer moves after o breaks a m =
-      rw (a, m) (record { breaks = breaks; stays = refl; takes = rw o refl })
-
-  -- a call that was done on a broken stream, where nothing moves
-  pub still_finishes : (e : End) (image : Image K) (reply : Reply) (answer : Answer) (moves : List Place) → image.broken ≡ true → answer ≡ Done reply → moves ≡ [] → Finishes means e (begun image reply) answer moves [] image
-  still_finishes e image reply answer moves broken a m =
-      rw (a, m)
-      (record { settled = image; settles = subst (λ (x : Bool). SettlesUnless means x image [] image) (sym broken) (record { stays = refl; unchanged = refl }); replies = refl; leaves = refl; takes = refl })
-
-  -- a call after which what must move has moved
-  pub settled_finishes : (e : End) (image after : Image K) (reply : Reply) (answer : Answer) (moves : List Place) → image.broken ≡ false → Settles means image moves after → answer ≡ Done reply → Finishes means e (begun image reply) answer moves [] after
-  settled_finishes e image after reply answer moves whole settles a =
-      rw a
-      (record { settled = after; settles = subst (λ (x : Bool). SettlesUnless means x image moves after) (sym whole) settles; replies = refl; leaves = refl; takes = refl })
 
 -- a refusal that is not for want of memory, if it is one
 abbrev IsNotMemory : Option Refusal → Type 0
@@ -305,21 +288,3 @@ pub refused_memory : {K : Type 0} (image : Image K) (e : End) (request : Request
 refused_memory image e request refusal none is =
     let other : request ≡ Close → ⊥ = λ same. let no : true ≡ false = sym none ∙ ap (λ r. takes_no_memory r) same in cc in
     or_not_memory (first_that_holds (common_refusals image e)) (first_that_holds (own_refusals image e request)) (common_not_memory image e) (own_not_memory image e request none) refusal (sym (first_of_all image e request other) ∙ is)
-
-abbrev off : {K : Type 0} → Image K → Bool → Image K
-off image b = record image { broken = b }
-
--- a chain that was broken off where service was refused
-pub broken_off : {K : Type 0} (fault : ChainFault) (image mid after : Image K) → Refuses fault image mid → after ≡ record mid { broken = true } → Breaks image after
-broken_off NoMem image mid after refuses is =
-    rw (is, refuses.image)
-    (record { is_broken = refl; driver = refl; on_a = same_end image.a; on_b = same_end image.b; again = λ broken. let no : true ≡ false = sym broken ∙ refuses.was_whole in cc })
-broken_off Broken image mid after refuses is =
-    rw is
-    (record {
-      is_broken = refl;
-      driver = refuses.driver;
-      on_a = refuses.on_a;
-      on_b = refuses.on_b;
-      again = λ broken. ap (λ i. off i true) (refuses.again broken) ∙ ap (off image) (sym broken);
-    })

@@ -79,7 +79,7 @@ whole_if true false errno h = refl
 whole_if true true errno h = cc
 whole_if false broken errno h = cc
 
-none_before : (first later : Option Refusal) → option_or first later ≡ None → first ≡ None
+pub none_before : (first later : Option Refusal) → option_or first later ≡ None → first ≡ None
 none_before None later h = refl
 none_before (Some refusal) later h = cc
 

@@ -1,6 +1,7 @@
 pub mod KeptLemmas
 pub mod OrderLemmas
 pub mod RefusalLemmas
+pub mod BeginLemmas
 pub mod CallLemmas
 pub mod ArriveLemmas
 mod WorkedExamples

@@ -4,3 +4,4 @@ pub mod Fault
 pub mod Inside
 pub mod Step
 pub mod Arrive
+pub mod Begins

@@ -38,9 +38,15 @@ fn send_up<M: ModuleOf>(chain: &mut Chain<M>, m: Message) -> Result<(), Arrived>
         Err(_) => return Err(Arrived::NoMem(m)),
     };
     match deliver(chain, Spot::Up { end: End::A, i }, copy) {
-        Ok(()) => Ok(()),
+        Ok(()) => {
+            drop(m);
+            Ok(())
+        }
         Err(ChainFault::NoMem) => Err(Arrived::NoMem(m)),
-        Err(ChainFault::Broken) => Err(Arrived::Broke),
+        Err(ChainFault::Broken) => {
+            drop(m);
+            Err(Arrived::Broke)
+        }
     }
 }
 

@@ -1,34 +1,30 @@
 //! A call on a chain: the first refusal that holds, what the call does, and the services after it.
-ghost use Rattle.std.specs.Prelude.{◌≡◌, true, false, [], None, IsSome, IfOk, OnOk, OnErr, IfErr};
+ghost use Rattle.std.specs.Prelude.{◌≡◌, true, false, [], None, IfOk};
 ghost use Rattle.strm_call.specs.declared.answer.Answer.TheVariants as Answer;
-ghost use Rattle.strm_call.specs.declared.answer.Reply.TheVariants as Replies;
-ghost use Rattle.strm_call.specs.declared.answer.Acknowledged.TheVariants as Acknowledged;
-ghost use Rattle.strm_chain.specs.declared.fault.ChainFault.TheVariants as ChainFault;
-ghost use Rattle.strm_call.specs.Begun.{Fails, begun, begun_ioctl};
+ghost use Rattle.strm_call.specs.Begun.{begun, begun_ioctl};
 ghost use Rattle.strm_call.specs.Refusal.{first_that_holds};
-ghost use Rattle.strm_call.specs.Reply.{acknowledged, has_bytes};
-ghost use Rattle.strm_head.specs.Begin.{AreRefusalsInOrder, own_refusals, closed_refusals, common_refusals, refusal_of, begun_of, changes_no_queue, awaits_answer, takes_no_memory, can_lack_memory, handed_out, back_of, out_of, wants_memory};
+ghost use Rattle.strm_call.specs.Reply.{acknowledged};
+ghost use Rattle.strm_head.specs.Begin.{AreRefusalsInOrder, own_refusals, closed_refusals, common_refusals, refusal_of, begun_of, changes_no_queue, awaits_answer, takes_no_memory, back_of, out_of, wants_memory};
 ghost use Rattle.strm_module.specs.Calm.{IsCalm};
 ghost use Rattle.strm_head.specs.Answered.{IsLooked, IsBounded};
 ghost use Rattle.strm_head.specs.Inside.{IsKept};
 ghost use Rattle.strm_head.specs.Step.{Finishes, Answers};
 
 use crate::answered::Answered;
+use crate::beginning::begin;
 use crate::outcome::pushed;
 use arrayvec::ArrayVec;
 use std::alloc::Global;
 use strm_call::{Acknowledged, Refusal, Reply, Request, Twins};
 use strm_chain::{Chain, ChainFault, MOST_MODULES, Settled};
 use strm_ioctl::{
-    acknowledged, canput, ckband, close, find, find_refusal, flush, flush_refusal, get_read,
-    getband, getband_refusal, list, look, look_refusal, nread, pop, pop_refusal, push,
-    push_refusal, send_ioctl, set_read, str_refusal,
+    acknowledged, find_refusal, flush_refusal, getband_refusal, look_refusal, pop_refusal,
+    push_refusal, str_refusal,
 };
 use strm_module::{Boxed, ModuleOf};
 use strm_msg::{End, Message, NoMem};
 use strm_msgio::{
-    getmsg, getmsg_refusal, getpmsg, getpmsg_refusal, peek, putmsg, putmsg_refusal, putpmsg,
-    putpmsg_refusal, read, read_refusal, write, write_refusal,
+    getmsg_refusal, getpmsg_refusal, putmsg_refusal, putpmsg_refusal, read_refusal, write_refusal,
 };
 
 /// A law, which nothing is done for: what may refuse a call is looked for in the order of the refusals' numbers.
@@ -141,102 +137,6 @@ fn awaits_answer<P>(request: &Request<P>) -> bool
     matches!(request, Request::Str { .. })
 }
 
-/// A reply without bytes, and an equal one. Takes no memory.
-fn plain(alloc: Global, reply: Reply) -> Twins
-    requires { has_bytes reply ≡ false }
-    ensures { result ≡ reply }
-{
-    Twins::of(alloc, reply).unwrap()
-}
-
-/// What an ioctl answers where nothing answers it, and an equal one.
-fn unanswered() -> Twins
-    ensures { result ≡ Replies.Str Acknowledged.Timeout }
-{
-    Twins::new(
-        Reply::Str {
-            answer: Acknowledged::Timeout,
-        },
-        Reply::Str {
-            answer: Acknowledged::Timeout,
-        },
-    )
-}
-
-/// Does what a call does before any queue moves. The modules that it takes out are handed out, also
-/// where memory is wanting afterwards.
-fn begin<M: ModuleOf>(
-    chain: &mut Chain<M>,
-    end: End,
-    request: Request<Boxed<M>>,
-    back: &mut Back<M>,
-) -> Result<Twins, ChainFault>
-    requires unrefused { refusal_of chain.old.image end request ≡ None }
-    requires kept { IsKept chain.old.image }
-    requires empty { back.old.items ≡ [] }
-    ensures reply { IfOk result (λ reply. reply ≡ (begun_of M.Kind.means chain.old.image end request).reply) }
-    ensures image { OnOk result (chain.new.image ≡ (begun_of M.Kind.means chain.old.image end request).image) }
-    ensures back { back.new.items ≡ handed_out (begun_of M.Kind.means chain.old.image end request).out }
-    ensures failed { IfErr result (λ fault. Fails fault chain.old.image (begun_of M.Kind.means chain.old.image end request).image chain.new.image) }
-    ensures memory { OnErr result (takes_no_memory request ≡ false) }
-    ensures refused { IfErr result (λ fault. fault ≡ ChainFault.NoMem → can_lack_memory request ≡ true) }
-    ensures broken { IfErr result (λ fault. fault ≡ ChainFault.Broken → changes_no_queue request ≡ false) }
-    ensures whole { OnErr result (chain.old.image.broken ≡ false) }
-{
-    let alloc = chain.alloc();
-    match request {
-        Request::Putmsg { ctl, dat, flag } => {
-            Ok(plain(alloc, putmsg(chain, end, ctl, dat, flag)?))
-        }
-        Request::Putpmsg {
-            ctl,
-            dat,
-            band,
-            flag,
-        } => Ok(plain(alloc, putpmsg(chain, end, ctl, dat, band, flag)?)),
-        Request::Getmsg { maxctl, maxdat, .. } => Ok(getmsg(chain, end, maxctl, maxdat)?),
-        Request::Getpmsg { maxctl, maxdat, .. } => Ok(getpmsg(chain, end, maxctl, maxdat)?),
-        Request::Read { max } => Ok(read(chain, end, max)?),
-        Request::Write { dat } => Ok(plain(alloc, write(chain, end, dat)?)),
-        Request::Push { instance } => Ok(plain(alloc, push(chain, end, instance))),
-        Request::Nread => Ok(plain(alloc, nread(chain, end))),
-        Request::Peek {
-            maxctl,
-            maxdat,
-            flag,
-        } => Ok(Twins::of(alloc, peek(chain, end, maxctl, maxdat, flag)?)?),
-        Request::SetRead { mode, prot } => Ok(plain(alloc, set_read(chain, end, mode, prot))),
-        Request::GetRead => Ok(plain(alloc, get_read(chain, end))),
-        Request::Canput { band } => Ok(plain(alloc, canput(chain, end, band))),
-        Request::Ckband { band } => Ok(plain(alloc, ckband(chain, end, band))),
-        Request::Getband => Ok(plain(alloc, getband(chain, end))),
-        Request::Pop => {
-            let (reply, instance) = pop(chain, end);
-            back.push(Some(instance));
-            Ok(plain(alloc, reply))
-        }
-        Request::Look => Ok(plain(alloc, look(chain, end))),
-        Request::List => Ok(plain(alloc, list(chain, end))),
-        Request::Find { name } => Ok(plain(alloc, find(chain, end, &name))),
-        Request::Str { cmd, dat } => {
-            send_ioctl(chain, end, cmd, dat)?;
-            Ok(unanswered())
-        }
-        Request::Flush { r, w } => {
-            flush(chain, end, r, w, None)?;
-            Ok(plain(alloc, Reply::Flush))
-        }
-        Request::FlushBand { band, r, w } => {
-            flush(chain, end, r, w, Some(band))?;
-            Ok(plain(alloc, Reply::FlushBand))
-        }
-        Request::Close => {
-            let reply = close(chain, end, back)?;
-            Ok(plain(alloc, reply))
-        }
-    }
-}
-
 /// Breaks the chain, as memory was wanting after a change.
 fn broken<M: ModuleOf>(chain: &mut Chain<M>) -> Answered
     ensures answer { result.answer ≡ Answer.Broke }
@@ -260,7 +160,10 @@ fn finish<M: ModuleOf>(chain: &mut Chain<M>, end: End, reply: Twins) -> Answered
     }
     match chain.settle() {
         Ok(settled) => Answered::done(reply, settled),
-        Err(_) => broken(chain),
+        Err(_) => {
+            drop(reply);
+            broken(chain)
+        }
     }
 }
 
@@ -317,7 +220,10 @@ pub(crate) fn perform<M: ModuleOf>(
     let awaits = awaits_answer(&request);
     match begin(chain, end, request, back) {
         Ok(reply) if is_quiet => Answered::done(reply, Settled::none(alloc)),
-        Ok(_) if awaits => finish_ioctl(chain, end),
+        Ok(reply) if awaits => {
+            drop(reply);
+            finish_ioctl(chain, end)
+        }
         Ok(reply) => finish(chain, end, reply),
         Err(ChainFault::NoMem) => Answered::refused(alloc, Refusal::NoMemory),
         Err(ChainFault::Broken) => Answered::broke(alloc),

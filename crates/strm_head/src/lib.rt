@@ -6,6 +6,7 @@
 
 mod answered;
 mod arriving;
+mod beginning;
 mod call;
 mod event;
 mod fault;

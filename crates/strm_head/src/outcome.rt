@@ -52,8 +52,11 @@ pub(crate) fn pushed<M: ModuleOf>(request: Request<Boxed<M>>) -> Back<M>
     ensures { result.items ≡ pushed_of request }
 {
     let mut back = ArrayVec::new();
-    if let Request::Push { instance } = request {
-        back.push(Some(instance));
+    match request {
+        Request::Push { instance } => {
+            back.push(Some(instance));
+        }
+        other => drop(other),
     }
     back
 }

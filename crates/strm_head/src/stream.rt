@@ -82,7 +82,10 @@ impl<M: ModuleOf> Stream<M> {
         };
         match Box::new(alloc, chain) {
             Ok(chain) => Ok(Stream { chain }),
-            Err(_) => Err(NewFault::NoMem),
+            Err(chain) => {
+                drop(chain);
+                Err(NewFault::NoMem)
+            }
         }
     }
 

@@ -100,6 +100,7 @@ impl<M: ModuleOf> Log<M> {
         ensures { CallsBy M.Kind.means self.old caller call result self.new }
     {
         let Ok(()) = self.history.reserve(1) else {
+            drop(copy);
             return Called::NoRoom(call);
         };
         let Call { end, request } = call;
@@ -141,6 +142,7 @@ impl<M: ModuleOf> Log<M> {
         ensures { Lands M.Kind.means self.old m result self.new }
     {
         if self.history.reserve(1).is_err() {
+            drop(copy);
             return Landed::NoMem(m);
         }
         match self.stream.arrive(m) {
@@ -155,8 +157,14 @@ impl<M: ModuleOf> Log<M> {
                     .push_reserved(arrival(copy, Answer::Broke, moves, 0));
                 Landed::Entered
             }
-            Arrived::Full(m) => Landed::Full(m),
-            Arrived::NoMem(m) => Landed::NoMem(m),
+            Arrived::Full(m) => {
+                drop(copy);
+                Landed::Full(m)
+            }
+            Arrived::NoMem(m) => {
+                drop(copy);
+                Landed::NoMem(m)
+            }
         }
     }
 

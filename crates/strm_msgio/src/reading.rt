@@ -208,7 +208,7 @@ fn take_away<M: ModuleOf>(chain: &mut Chain<M>, end: End, count: usize)
     ensures room { KeepsHeadRoom chain.old.rooms chain.new.rooms }
 {
     for _i in 0..count {
-        let _ = chain.take_head(end);
+        drop(chain.take_head(end));
     }
 }
 
@@ -256,6 +256,30 @@ fn reply_of(bytes: Vec<u8>) -> Reply
     }
 }
 
+/// What a read of nothing gives, and an equal reply. Takes no memory.
+fn nothing_read(alloc: Global) -> Twins
+    ensures { result ≡ Replies.Read [] }
+{
+    Twins::new(reply_of(Vec::new(alloc)), reply_of(Vec::new(alloc)))
+}
+
+/// Gives what a read has found, takes it away from the head, and puts back what stays.
+fn give<M: ModuleOf>(chain: &mut Chain<M>, end: End, found: Found) -> Result<Twins, NoMem>
+    ensures reply { IfOk result (λ reply. reply ≡ Replies.Read found.bytes.items) }
+    ensures image { OnOk result (chain.new.image ≡ with_head chain.old.image end (put_back_if (drop found.gone (end_of chain.old.image end).head) found.rest)) }
+    ensures err { OnErr result (chain.new.image ≡ chain.old.image) }
+{
+    let Found { bytes, gone, rest } = found;
+    let twins = Twins::of(chain.alloc(), reply_of(bytes))?;
+    match replace_front(chain, end, gone, rest) {
+        Ok(()) => Ok(twins),
+        Err(wanting) => {
+            drop(twins);
+            Err(wanting)
+        }
+    }
+}
+
 /// Takes at most `max` bytes of the messages at a head, by the modes that I_SRDOPT sets (read(2)). A
 /// read of no bytes looks at nothing; else a first message without bytes is taken and gives none.
 ///
@@ -270,12 +294,10 @@ pub fn read<M: ModuleOf>(chain: &mut Chain<M>, end: End, max: u16) -> Result<Twi
 {
     let alloc = chain.alloc();
     if max == 0 || chain.head(end).is_empty() {
-        return Ok(Twins::new(reply_of(Vec::new(alloc)), reply_of(Vec::new(alloc))));
+        return Ok(nothing_read(alloc));
     }
     let mode = chain.state(end).mode;
     let prot = chain.state(end).prot;
-    let Found { bytes, gone, rest } = found_in(alloc, chain.head(end), mode, prot, max)?;
-    let twins = Twins::of(alloc, reply_of(bytes))?;
-    replace_front(chain, end, gone, rest)?;
-    Ok(twins)
+    let found = found_in(alloc, chain.head(end), mode, prot, max)?;
+    give(chain, end, found)
 }

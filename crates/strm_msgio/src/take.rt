@@ -8,7 +8,8 @@ ghost use Rattle.strm_call.specs.declared.answer.Received.TheVariants as Receive
 ghost use Rattle.strm_call.specs.declared.answer.More.TheVariants as Mores;
 ghost use Rattle.strm_call.specs.declared.request.Priority.TheVariants as Priorities;
 ghost use Rattle.strm_call.specs.Refusal.{first_that_holds};
-ghost use Rattle.strm_msgio.specs.Take.{first_of, peeked_of, is_wanted, is_wanted_in, getmsg_refusals, getpmsg_refusals, put_back_if, priority_of, received_of, getmsg_begun, getpmsg_begun, peek_begun};
+ghost use Rattle.strm_msgio.specs.Cut.{cut_of};
+ghost use Rattle.strm_msgio.specs.Take.{first_of, peeked_of, is_wanted, is_wanted_in, getmsg_refusals, getpmsg_refusals, put_back_if, priority_of, received_of, getmsg_reply, getpmsg_reply, getmsg_begun, getpmsg_begun, peek_begun};
 
 use crate::cut::Cut;
 use std::alloc::Global;
@@ -16,6 +17,13 @@ use strm_call::{GetFlag, More, Peeked, Priority, Received, Refusal, Reply, Twins
 use strm_chain::Chain;
 use strm_module::ModuleOf;
 use strm_msg::{Bytes, End, Message, NoMem};
+
+/// What is given of a first message, with an equal reply, and what stays of the message.
+#[derive(Drop)]
+struct Taken {
+    twins: Twins,
+    rest: Option<Message>,
+}
 
 /// Whether a getmsg or a peek wants a message.
 fn is_wanted(flag: Wanted, m: &Message) -> bool
@@ -92,6 +100,60 @@ fn got_nothing_of(alloc: Global) -> Reply
     }
 }
 
+/// What a getmsg takes of a message. Refused for want of memory alone.
+fn taken_of(
+    alloc: Global,
+    first: &Message,
+    maxctl: Option<u16>,
+    maxdat: Option<u16>,
+) -> Result<Taken, NoMem>
+    ensures reply { IfOk result (λ taken. taken.twins ≡ getmsg_reply (Some first.now) maxctl maxdat) }
+    ensures rest { IfOk result (λ taken. taken.rest ≡ (cut_of first.now maxctl maxdat).rest) }
+{
+    let flag = priority_of(first);
+    let Cut {
+        ctl,
+        dat,
+        more,
+        rest,
+    } = Cut::of(alloc, first, maxctl, maxdat)?;
+    let reply = Reply::Getmsg {
+        ctl,
+        dat,
+        flag,
+        more,
+    };
+    let twins = Twins::of(alloc, reply)?;
+    Ok(Taken { twins, rest })
+}
+
+/// What a getpmsg takes of a message. Refused for want of memory alone.
+fn taken_with_band(
+    alloc: Global,
+    first: &Message,
+    maxctl: Option<u16>,
+    maxdat: Option<u16>,
+) -> Result<Taken, NoMem>
+    ensures reply { IfOk result (λ taken. taken.twins ≡ getpmsg_reply (Some first.now) maxctl maxdat) }
+    ensures rest { IfOk result (λ taken. taken.rest ≡ (cut_of first.now maxctl maxdat).rest) }
+{
+    let flag = received_of(first);
+    let Cut {
+        ctl,
+        dat,
+        more,
+        rest,
+    } = Cut::of(alloc, first, maxctl, maxdat)?;
+    let reply = Reply::Getpmsg {
+        ctl,
+        dat,
+        flag,
+        more,
+    };
+    let twins = Twins::of(alloc, reply)?;
+    Ok(Taken { twins, rest })
+}
+
 /// Takes the first message away from a head, and puts back what stays of it.
 fn replace_first<M: ModuleOf>(
     chain: &mut Chain<M>,
@@ -102,13 +164,32 @@ fn replace_first<M: ModuleOf>(
     ensures err { OnErr result (chain.new.image ≡ chain.old.image) }
 {
     let Some(rest) = rest else {
-        let _ = chain.take_head(end);
+        drop(chain.take_head(end));
         return Ok(());
     };
-    chain.head_room(end, rest.rank())?;
-    let _ = chain.take_head(end);
+    if let Err(wanting) = chain.head_room(end, rest.rank()) {
+        drop(rest);
+        return Err(wanting);
+    }
+    drop(chain.take_head(end));
     chain.put_back_head(end, rest).unwrap();
     Ok(())
+}
+
+/// Takes the first message away from a head, puts back what stays of it, and gives what was taken.
+fn take_first<M: ModuleOf>(chain: &mut Chain<M>, end: End, taken: Taken) -> Result<Twins, NoMem>
+    ensures reply { IfOk result (λ reply. reply ≡ taken.twins) }
+    ensures image { OnOk result (chain.new.image ≡ with_head chain.old.image end (put_back_if (drop 1 (end_of chain.old.image end).head) taken.rest)) }
+    ensures err { OnErr result (chain.new.image ≡ chain.old.image) }
+{
+    let Taken { twins, rest } = taken;
+    match replace_first(chain, end, rest) {
+        Ok(()) => Ok(twins),
+        Err(wanting) => {
+            drop(twins);
+            Err(wanting)
+        }
+    }
 }
 
 /// The refusal of a getmsg's own: EAGAIN where no message is there and the end is not hung up, or
@@ -172,24 +253,8 @@ pub fn getmsg<M: ModuleOf>(
     let Some(first) = chain.head(end).first() else {
         return Ok(Twins::new(got_nothing(alloc), got_nothing(alloc)));
     };
-    let flag = priority_of(first);
-    let Cut {
-        ctl,
-        dat,
-        more,
-        rest,
-    } = Cut::of(alloc, first, maxctl, maxdat)?;
-    let twins = Twins::of(
-        alloc,
-        Reply::Getmsg {
-            ctl,
-            dat,
-            flag,
-            more,
-        },
-    )?;
-    replace_first(chain, end, rest)?;
-    Ok(twins)
+    let taken = taken_of(alloc, first, maxctl, maxdat)?;
+    take_first(chain, end, taken)
 }
 
 /// Takes of the first message what a getpmsg asks for, as `getmsg` does, and tells its band
@@ -212,24 +277,8 @@ pub fn getpmsg<M: ModuleOf>(
     let Some(first) = chain.head(end).first() else {
         return Ok(Twins::new(got_nothing_of(alloc), got_nothing_of(alloc)));
     };
-    let flag = received_of(first);
-    let Cut {
-        ctl,
-        dat,
-        more,
-        rest,
-    } = Cut::of(alloc, first, maxctl, maxdat)?;
-    let twins = Twins::of(
-        alloc,
-        Reply::Getpmsg {
-            ctl,
-            dat,
-            flag,
-            more,
-        },
-    )?;
-    replace_first(chain, end, rest)?;
-    Ok(twins)
+    let taken = taken_with_band(alloc, first, maxctl, maxdat)?;
+    take_first(chain, end, taken)
 }
 
 /// Shows of the first message what a getmsg would take of it, if it is the one that is wanted, and

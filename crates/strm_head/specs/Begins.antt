@@ -1,0 +1,49 @@
+-- What a call may count on when it begins, and what it has done before any queue moves, or where memory was wanting.
+use Rattle.std.specs.Prelude.{◌≡◌, true, false, Result, Ok, Err}
+use Rattle.strm_msg.specs.declared.words.End.{End}
+use Rattle.strm_module.specs.Kinds.{Meaning}
+use Rattle.strm_module.specs.declared.shape.Shape.{Shape}
+use Rattle.strm_ends.specs.Image.{Image, end_of}
+use Rattle.strm_chain.specs.Deliver.{is_there}
+use Rattle.strm_chain.specs.declared.spot.Spot.TheVariants.{Down}
+use Rattle.strm_chain.specs.declared.fault.ChainFault.{ChainFault}
+use Rattle.strm_chain.specs.declared.fault.ChainFault.TheVariants.{NoMem, Broken}
+use Rattle.strm_call.specs.declared.request.Request.{Request}
+use Rattle.strm_call.specs.declared.request.Request.TheVariants.{Close}
+use Rattle.strm_call.specs.declared.answer.Reply.{Reply}
+use Rattle.strm_call.specs.Begun.{Fails}
+use Rattle.strm_head.specs.Begin.{begun_of, changes_no_queue, takes_no_memory, can_lack_memory}
+use Rattle.strm_head.specs.Inside.{HasItsEnds, IsIdle}
+
+-- a message can be sent down from a head, which awaits no answer
+pub record IsReady {K : Type 0} (image : Image K) (e : End) : Type 0 where
+  pub there : is_there image (Down e 1) ≡ true
+  pub whole : image.broken ≡ false
+  pub idle : IsIdle (end_of image e).state
+
+-- what a call may count on beside that it is not refused: a close that the ends that are open are the driver's, and each other
+-- call that a message can be sent
+abbrev pub MayBegin : {K : Type 0} → Image K → End → Request (Shape K) → Type 0
+MayBegin image e Close = HasItsEnds image
+MayBegin image e request = IsReady image e
+
+-- for kinds of any meaning
+module _ {K : Type 0} (means : Meaning K) where
+  -- a call has begun: its reply and its image are those of the definition
+  pub record HasBegun (image : Image K) (e : End) (request : Request (Shape K)) (reply : Reply) (after : Image K) : Type 0 where
+    pub reply_is : reply ≡ (begun_of means image e request).reply
+    pub image_is : after ≡ (begun_of means image e request).image
+
+  -- memory was wanting: before a change of a call that this can refuse, or after one of a call that changes queues, on a stream
+  -- that was not broken
+  pub record HasFailed (image : Image K) (e : End) (request : Request (Shape K)) (fault : ChainFault) (after : Image K) : Type 0 where
+    pub fails : Fails fault image (begun_of means image e request).image after
+    pub takes : takes_no_memory request ≡ false
+    pub refused : fault ≡ NoMem → can_lack_memory request ≡ true
+    pub broken : fault ≡ Broken → changes_no_queue request ≡ false
+    pub whole : image.broken ≡ false
+
+  -- what became of a call before any queue moves
+  abbrev pub Begins : Image K → End → Request (Shape K) → Result Reply ChainFault → Image K → Type 0
+  Begins image e request (Ok reply) after = HasBegun image e request reply after
+  Begins image e request (Err fault) after = HasFailed image e request fault after

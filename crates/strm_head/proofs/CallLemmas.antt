@@ -6,10 +6,7 @@ use Rattle.strm_module.specs.Kinds.{Meaning}
 use Rattle.strm_module.specs.declared.shape.Shape.{Shape}
 use Rattle.strm_ends.specs.declared.place.Place.{Place}
 use Rattle.strm_ends.specs.Image.{Image, end_of}
-use Rattle.strm_chain.specs.declared.fault.ChainFault.{ChainFault}
-use Rattle.strm_chain.specs.declared.fault.ChainFault.TheVariants.{NoMem, Broken}
-use Rattle.strm_chain.specs.Fault.{Breaks, Refuses}
-use Rattle.strm_chain.proofs.QuietLemmas.{same_end}
+use Rattle.strm_chain.specs.Fault.{Breaks}
 use Rattle.strm_call.specs.declared.request.Request.{Request}
 use Rattle.strm_call.specs.declared.request.Request.TheVariants.{Putmsg, Putpmsg, Getmsg, Getpmsg, Read, Write, Push, Nread, Peek, SetRead, GetRead, Canput, Ckband, Getband, Pop, Look, Find, Str, Flush, FlushBand, Close}
 use Rattle.strm_call.specs.declared.request.Request.TheVariants as Requests
@@ -27,7 +24,7 @@ use Rattle.strm_head.specs.Begin.{begun_of, refusal_of, changes_no_queue, awaits
 use Rattle.strm_ioctl.specs.Ask.{is_empty}
 use Rattle.strm_module.specs.declared.shape.TheConstants.{LONGEST_NAME}
 use Rattle.strm_head.specs.Inside.{IsKept}
-use Rattle.strm_head.specs.Step.{Answers, Finishes, SettlesUnless, Settles, answered_if}
+use Rattle.strm_head.specs.Step.{Answers, Finishes, SettlesUnless, answered_if}
 use Rattle.strm_head.proofs.RefusalLemmas.{first_of_all}
 use Rattle.strm_head.proofs.KeptLemmas.{whole_of, quiet_begun, begun_opens}
 

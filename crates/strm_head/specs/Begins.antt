@@ -27,6 +27,16 @@ abbrev pub MayBegin : {K : Type 0} → Image K → End → Request (Shape K) →
 MayBegin image e Close = HasItsEnds image
 MayBegin image e request = IsReady image e
 
+-- a reply, unless memory was wanting
+abbrev pub taken_or : {X : Type 0} → Result Reply X → Result Reply ChainFault
+taken_or (Ok reply) = Ok reply
+taken_or (Err wanting) = Err NoMem
+
+-- this reply, unless memory was wanting
+abbrev pub done_or : {X : Type 0} → Result X ChainFault → Reply → Result Reply ChainFault
+done_or (Ok done) reply = Ok reply
+done_or (Err fault) reply = Err fault
+
 -- for kinds of any meaning
 module _ {K : Type 0} (means : Meaning K) where
   -- a call has begun: its reply and its image are those of the definition

@@ -1,24 +1,24 @@
 //! What a call does before any queue moves.
-ghost use Rattle.std.specs.Prelude.{◌≡◌, false, [], None};
+ghost use Rattle.std.specs.Prelude.{◌≡◌, false, [], None, Ok, IfOk};
 ghost use Rattle.strm_call.specs.declared.answer.Reply.TheVariants as Replies;
 ghost use Rattle.strm_call.specs.declared.answer.Acknowledged.TheVariants as Acknowledged;
 ghost use Rattle.strm_call.specs.declared.request.Request.TheVariants as Requests;
 ghost use Rattle.strm_call.specs.Refusal.{first_that_holds};
 ghost use Rattle.strm_call.specs.Reply.{has_bytes};
 ghost use Rattle.strm_head.specs.Begin.{own_refusals, begun_of, handed_out};
-ghost use Rattle.strm_head.specs.Begins.{IsReady, MayBegin, Begins};
+ghost use Rattle.strm_head.specs.Begins.{MayBegin, Begins, taken_or, done_or};
 ghost use Rattle.strm_head.specs.Inside.{HasItsEnds};
 
 use crate::call::Back;
 use std::alloc::Global;
-use strm_call::{Acknowledged, GetFlag, Priority, PutFlag, Reply, Request, Twins, Wanted};
+use strm_call::{Acknowledged, Reply, Request, Twins};
 use strm_chain::{Chain, ChainFault};
 use strm_ioctl::{
     canput, ckband, close, find, flush, get_read, getband, list, look, nread, pop, push,
     send_ioctl, set_read,
 };
 use strm_module::{Boxed, ModuleOf};
-use strm_msg::{Bytes, End};
+use strm_msg::{End, NoMem};
 use strm_msgio::{getmsg, getpmsg, peek, putmsg, putpmsg, read, write};
 
 /// A reply without bytes, and an equal one. Takes no memory.
@@ -43,139 +43,48 @@ fn unanswered() -> Twins
     )
 }
 
-/// Begins a putmsg.
-fn begin_putmsg<M: ModuleOf>(
-    chain: &mut Chain<M>,
-    end: End,
-    ctl: Option<Bytes>,
-    dat: Option<Bytes>,
-    flag: Priority,
-) -> Result<Twins, ChainFault>
-    requires { IsReady chain.old.image end }
-    ensures { Begins M.Kind.means chain.old.image end (Requests.Putmsg ctl dat flag) result chain.new.image }
+/// The reply of a call that sends, and an equal one, unless memory was wanting.
+fn sent(alloc: Global, reply: Result<Reply, ChainFault>) -> Result<Twins, ChainFault>
+    requires { IfOk reply (λ reply. has_bytes reply ≡ false) }
+    ensures { result ≡ reply }
 {
-    let alloc = chain.alloc();
-    Ok(plain(alloc, putmsg(chain, end, ctl, dat, flag)?))
+    match reply {
+        Ok(reply) => Ok(plain(alloc, reply)),
+        Err(fault) => Err(fault),
+    }
 }
 
-/// Begins a putpmsg.
-fn begin_putpmsg<M: ModuleOf>(
-    chain: &mut Chain<M>,
-    end: End,
-    ctl: Option<Bytes>,
-    dat: Option<Bytes>,
-    band: u8,
-    flag: PutFlag,
-) -> Result<Twins, ChainFault>
-    requires { IsReady chain.old.image end }
-    ensures { Begins M.Kind.means chain.old.image end (Requests.Putpmsg ctl dat band flag) result chain.new.image }
+/// The reply of a call that takes, and an equal one, unless memory was wanting.
+fn taken(reply: Result<Twins, NoMem>) -> Result<Twins, ChainFault>
+    ensures { result ≡ taken_or reply }
 {
-    let alloc = chain.alloc();
-    Ok(plain(alloc, putpmsg(chain, end, ctl, dat, band, flag)?))
+    match reply {
+        Ok(reply) => Ok(reply),
+        Err(_) => Err(ChainFault::NoMem),
+    }
 }
 
-/// Begins a write.
-fn begin_write<M: ModuleOf>(chain: &mut Chain<M>, end: End, dat: Bytes) -> Result<Twins, ChainFault>
-    requires { IsReady chain.old.image end }
-    ensures { Begins M.Kind.means chain.old.image end (Requests.Write dat) result chain.new.image }
+/// What a peek shows, and an equal reply, unless memory is wanting.
+fn seen(alloc: Global, reply: Result<Reply, NoMem>) -> Result<Twins, NoMem>
+    ensures { IfOk result (λ twins. reply ≡ Ok twins) }
 {
-    let alloc = chain.alloc();
-    Ok(plain(alloc, write(chain, end, dat)?))
+    match reply {
+        Ok(reply) => Twins::of(alloc, reply),
+        Err(wanting) => Err(wanting),
+    }
 }
 
-/// Begins a getmsg.
-fn begin_getmsg<M: ModuleOf>(
-    chain: &mut Chain<M>,
-    end: End,
-    maxctl: Option<u16>,
-    maxdat: Option<u16>,
-    flag: Wanted,
-) -> Result<Twins, ChainFault>
-    requires { IsReady chain.old.image end }
-    ensures { Begins M.Kind.means chain.old.image end (Requests.Getmsg maxctl maxdat flag) result chain.new.image }
+/// The reply of a call that only sends a message down, unless memory was wanting.
+fn done(sending: Result<(), ChainFault>, reply: Twins) -> Result<Twins, ChainFault>
+    ensures { result ≡ done_or sending reply }
 {
-    Ok(getmsg(chain, end, maxctl, maxdat)?)
-}
-
-/// Begins a getpmsg.
-fn begin_getpmsg<M: ModuleOf>(
-    chain: &mut Chain<M>,
-    end: End,
-    maxctl: Option<u16>,
-    maxdat: Option<u16>,
-    band: u8,
-    flag: GetFlag,
-) -> Result<Twins, ChainFault>
-    requires { IsReady chain.old.image end }
-    ensures { Begins M.Kind.means chain.old.image end (Requests.Getpmsg maxctl maxdat band flag) result chain.new.image }
-{
-    Ok(getpmsg(chain, end, maxctl, maxdat)?)
-}
-
-/// Begins a read.
-fn begin_read<M: ModuleOf>(chain: &mut Chain<M>, end: End, max: u16) -> Result<Twins, ChainFault>
-    requires { IsReady chain.old.image end }
-    ensures { Begins M.Kind.means chain.old.image end (Requests.Read max) result chain.new.image }
-{
-    Ok(read(chain, end, max)?)
-}
-
-/// Begins a peek.
-fn begin_peek<M: ModuleOf>(
-    chain: &Chain<M>,
-    end: End,
-    maxctl: Option<u16>,
-    maxdat: Option<u16>,
-    flag: Wanted,
-) -> Result<Twins, ChainFault>
-    requires { IsReady chain.now.image end }
-    ensures { Begins M.Kind.means chain.now.image end (Requests.Peek maxctl maxdat flag) result chain.now.image }
-{
-    Ok(Twins::of(chain.alloc(), peek(chain, end, maxctl, maxdat, flag)?)?)
-}
-
-/// Begins an ioctl.
-fn begin_ioctl<M: ModuleOf>(
-    chain: &mut Chain<M>,
-    end: End,
-    cmd: u32,
-    dat: Option<Bytes>,
-) -> Result<Twins, ChainFault>
-    requires ready { IsReady chain.old.image end }
-    requires own { first_that_holds (own_refusals chain.old.image end (Requests.Str cmd dat)) ≡ None }
-    ensures { Begins M.Kind.means chain.old.image end (Requests.Str cmd dat) result chain.new.image }
-{
-    send_ioctl(chain, end, cmd, dat)?;
-    Ok(unanswered())
-}
-
-/// Begins a flush of all bands.
-fn begin_flush<M: ModuleOf>(
-    chain: &mut Chain<M>,
-    end: End,
-    r: bool,
-    w: bool,
-) -> Result<Twins, ChainFault>
-    requires { IsReady chain.old.image end }
-    ensures { Begins M.Kind.means chain.old.image end (Requests.Flush r w) result chain.new.image }
-{
-    flush(chain, end, r, w, None)?;
-    Ok(plain(chain.alloc(), Reply::Flush))
-}
-
-/// Begins a flush of one band.
-fn begin_flush_band<M: ModuleOf>(
-    chain: &mut Chain<M>,
-    end: End,
-    band: u8,
-    r: bool,
-    w: bool,
-) -> Result<Twins, ChainFault>
-    requires { IsReady chain.old.image end }
-    ensures { Begins M.Kind.means chain.old.image end (Requests.FlushBand band r w) result chain.new.image }
-{
-    flush(chain, end, r, w, Some(band))?;
-    Ok(plain(chain.alloc(), Reply::FlushBand))
+    match sending {
+        Ok(()) => Ok(reply),
+        Err(fault) => {
+            drop(reply);
+            Err(fault)
+        }
+    }
 }
 
 /// Begins a pop. The module is handed out.
@@ -225,33 +134,24 @@ pub(crate) fn begin<M: ModuleOf>(
 {
     let alloc = chain.alloc();
     match request {
-        Request::Putmsg { ctl, dat, flag } => begin_putmsg(chain, end, ctl, dat, flag),
+        Request::Putmsg { ctl, dat, flag } => sent(alloc, putmsg(chain, end, ctl, dat, flag)),
         Request::Putpmsg {
             ctl,
             dat,
             band,
             flag,
-        } => begin_putpmsg(chain, end, ctl, dat, band, flag),
-        Request::Getmsg {
-            maxctl,
-            maxdat,
-            flag,
-        } => begin_getmsg(chain, end, maxctl, maxdat, flag),
-        Request::Getpmsg {
-            maxctl,
-            maxdat,
-            band,
-            flag,
-        } => begin_getpmsg(chain, end, maxctl, maxdat, band, flag),
-        Request::Read { max } => begin_read(chain, end, max),
-        Request::Write { dat } => begin_write(chain, end, dat),
+        } => sent(alloc, putpmsg(chain, end, ctl, dat, band, flag)),
+        Request::Getmsg { maxctl, maxdat, .. } => taken(getmsg(chain, end, maxctl, maxdat)),
+        Request::Getpmsg { maxctl, maxdat, .. } => taken(getpmsg(chain, end, maxctl, maxdat)),
+        Request::Read { max } => taken(read(chain, end, max)),
+        Request::Write { dat } => sent(alloc, write(chain, end, dat)),
         Request::Push { instance } => Ok(plain(alloc, push(chain, end, instance))),
         Request::Nread => Ok(plain(alloc, nread(chain, end))),
         Request::Peek {
             maxctl,
             maxdat,
             flag,
-        } => begin_peek(chain, end, maxctl, maxdat, flag),
+        } => taken(seen(alloc, peek(chain, end, maxctl, maxdat, flag))),
         Request::SetRead { mode, prot } => Ok(plain(alloc, set_read(chain, end, mode, prot))),
         Request::GetRead => Ok(plain(alloc, get_read(chain, end))),
         Request::Canput { band } => Ok(plain(alloc, canput(chain, end, band))),
@@ -265,9 +165,12 @@ pub(crate) fn begin<M: ModuleOf>(
             drop(name);
             Ok(plain(alloc, reply))
         }
-        Request::Str { cmd, dat } => begin_ioctl(chain, end, cmd, dat),
-        Request::Flush { r, w } => begin_flush(chain, end, r, w),
-        Request::FlushBand { band, r, w } => begin_flush_band(chain, end, band, r, w),
+        Request::Str { cmd, dat } => done(send_ioctl(chain, end, cmd, dat), unanswered()),
+        Request::Flush { r, w } => done(flush(chain, end, r, w, None), plain(alloc, Reply::Flush)),
+        Request::FlushBand { band, r, w } => done(
+            flush(chain, end, r, w, Some(band)),
+            plain(alloc, Reply::FlushBand),
+        ),
         Request::Close => begin_close(chain, end, back),
     }
 }

@@ -1,4 +1,4 @@
-//! Worked examples of a chain, by its public calls alone.
+//! Worked examples of messages, queues, modules and chains, by the public calls alone.
 #![tactic(auto)]
 
 #[cfg(test)]

@@ -1,39 +1,55 @@
-//! Worked examples, by the public calls alone: tables of rows, each with its calls on a new chain and
-//! what they must answer. What is expected is worked out by hand from the rules, beside it.
+//! What no clause says: that calls succeed where memory is ample, what is printed, and whether the rules
+//! that the clauses state are the ones that were meant. Most are tables of rows, each with its calls and
+//! what they must answer; a row of a chain makes its calls on a new one. What is expected is worked out by
+//! hand from the rules, beside it.
+use Sample::{Ack, Data, Error, Flush, Hangup, Ioctl, Nak, Pcproto, Proto};
 use std::alloc::Global;
 use std::process::Abort;
+use std::sync::Arc;
+use std::sync::atomic::{AtomicU64, Ordering};
 use strm_chain::{Chain, ChainFault, Driver, Place, Spot};
-use strm_module::{Boxed, Instance, Kind, ModuleOf, Plain, Shape};
-use strm_msg::{End, Errno, Message, Prot, ReadMode};
+use strm_module::{Boxed, Instance, Kind, Kinds, ModuleOf, Plain, Shape};
+use strm_msg::{Bytes, End, Errno, Message, Prot, ReadMode};
 use strm_queue::Marks;
 
 mod enabled;
 mod faults;
 mod flushes;
 mod ioctls;
+mod kinds;
 mod lists;
+mod messages;
 mod objects;
 mod owners;
+mod places;
+mod queues;
 mod rows;
 mod steps;
+mod texts;
+mod user;
 
-/// A message.
+/// A part of a message that may be missing.
+type Part = Option<&'static [u8]>;
+
+/// A message, written out.
 #[derive(Clone, Copy, Drop)]
-enum Text {
-    /// Data of a band.
+enum Sample {
+    /// A band, and data.
     Data(u8, &'static [u8]),
-    /// A high protocol message without data.
-    High(&'static [u8]),
-    Hangup,
-    /// A flush of the read and of the write side, of all bands or of one.
-    Flush(bool, bool, Option<u8>),
-    Error(Errno),
-    /// An ioctl without data: its id and its command.
-    Ioctl(u64, u32),
-    /// An answer without data: its id and its value.
-    Ack(u64, u64),
-    /// A refusal of the ioctl of an id.
+    /// A band, control and data.
+    Proto(u8, &'static [u8], Part),
+    /// Control and data, of high priority.
+    Pcproto(&'static [u8], Part),
+    /// A number, a command and data.
+    Ioctl(u64, u32, Part),
+    /// A number, a value and data.
+    Ack(u64, u64, Part),
+    /// A number, and an error.
     Nak(u64, Errno),
+    /// The read side, the write side, and the band, if not all of them.
+    Flush(bool, bool, Option<u8>),
+    Hangup,
+    Error(Errno),
 }
 
 /// A call, and what it must answer.
@@ -44,13 +60,13 @@ enum Call {
     /// Data of band 0 is the first message of the head of end A, and is taken.
     Read(&'static [u8]),
     /// A message is written at an end.
-    Send(End, Text),
+    Send(End, Sample),
     /// A message is handed in.
-    Deliver(Spot, Text),
+    Deliver(Spot, Sample),
     /// A message is handed in, and refused.
-    DeliverFails(Spot, Text, ChainFault),
+    DeliverFails(Spot, Sample, ChainFault),
     /// An ordinary message comes in from the line.
-    Comes(Text),
+    Comes(Sample),
     /// A place that may move does.
     Serve(Place),
     /// A place that may move is refused.
@@ -59,10 +75,10 @@ enum Call {
     Settle(&'static [Place], u64),
     SettleFails(ChainFault),
     /// A message is the first of the head of an end, and is taken.
-    Take(End, Text),
+    Take(End, Sample),
     /// Room is made in band 0 of the head of end A and of the list of the line, and a message is put
     /// back to that head.
-    PutBack(Text),
+    PutBack(Sample),
     BreakOff,
     SetMode(End, ReadMode, Prot),
     /// An id is taken at end A, which is this one.
@@ -70,7 +86,7 @@ enum Call {
     /// The id is given back that was taken last at end A.
     Undoes,
     /// The answer that has come at end A is taken.
-    Ends(Option<Text>),
+    Ends(Option<Sample>),
     /// The topmost module of end A is taken out and dropped: its serial.
     Remove(Option<u64>),
     /// Whether a place may move.
@@ -113,7 +129,7 @@ enum Call {
 
 /// A module's kind.
 #[derive(Clone, Copy, Drop)]
-enum Part {
+enum Pushes {
     Pass,
     Count,
     Mute,
@@ -129,7 +145,7 @@ struct Row {
     marks: (u32, u32),
     /// What is put in, one above the other: at which end, its kind, and whether it has a queue for its
     /// read side and for its write side.
-    modules: &'static [(End, Part, bool, bool)],
+    modules: &'static [(End, Pushes, bool, bool)],
     calls: &'static [&'static [Call]],
 }
 
@@ -154,18 +170,59 @@ const RD_1: Place = Place::Rd { end: End::A, i: 1 };
 
 const RD_2: Place = Place::Rd { end: End::A, i: 2 };
 
-fn message(rt: &impl Abort, alloc: Global, text: Text) -> Message {
-    match text {
-        Text::Data(band, bytes) => Message::of_data(alloc, band, bytes),
-        Text::High(bytes) => Message::of_pcproto(alloc, bytes, None),
-        Text::Hangup => Ok(Message::of_hangup()),
-        Text::Flush(r, w, band) => Ok(Message::of_flush(r, w, band)),
-        Text::Error(errno) => Ok(Message::of_error(errno)),
-        Text::Ioctl(id, cmd) => Message::of_ioctl(alloc, id, cmd, None),
-        Text::Ack(id, rval) => Ok(Message::of_ack(id, rval, None)),
-        Text::Nak(id, errno) => Ok(Message::of_nak(id, errno)),
+fn bytes(rt: &impl Abort, alloc: Global, bytes: &[u8]) -> Bytes {
+    Bytes::from_slice(alloc, bytes).expect(rt, "no memory for bytes")
+}
+
+fn part(rt: &impl Abort, alloc: Global, part: Part) -> Option<Bytes> {
+    match part {
+        Some(part) => Some(bytes(rt, alloc, part)),
+        None => None,
+    }
+}
+
+/// The message, by the call that makes one of its kind.
+fn message(rt: &impl Abort, alloc: Global, sample: Sample) -> Message {
+    match sample {
+        Data(band, dat) => Message::of_data(alloc, band, dat),
+        Proto(band, ctl, dat) => Message::of_proto(alloc, band, ctl, dat),
+        Pcproto(ctl, dat) => Message::of_pcproto(alloc, ctl, dat),
+        Ioctl(id, cmd, dat) => Message::of_ioctl(alloc, id, cmd, dat),
+        Ack(id, rval, dat) => Ok(Message::of_ack(id, rval, part(rt, alloc, dat))),
+        Nak(id, errno) => Ok(Message::of_nak(id, errno)),
+        Flush(r, w, band) => Ok(Message::of_flush(r, w, band)),
+        Hangup => Ok(Message::of_hangup()),
+        Error(errno) => Ok(Message::of_error(errno)),
     }
     .expect(rt, "no memory for a message")
+}
+
+/// What objects write on, each by a handle of its own.
+type Log = Arc<AtomicU64, Global>;
+
+fn new_log(rt: &impl Abort, alloc: Global) -> Log {
+    Arc::new(alloc, AtomicU64::new(0)).expect(rt, "no memory for a log")
+}
+
+/// One more handle of a log.
+fn held(rt: &impl Abort, log: &Log) -> Log {
+    Arc::try_clone(log).expect(rt, "the log has few owners")
+}
+
+/// What stands on a log.
+fn logged(log: &Log) -> u64 {
+    log.load(Ordering::SeqCst)
+}
+
+/// A shape that can be made.
+fn shaped<K: Kinds>(
+    rt: &impl Abort,
+    serial: u64,
+    name: &[u8],
+    (rd, wr): (Option<(u32, u32)>, Option<(u32, u32)>),
+    kind: K,
+) -> Shape<K> {
+    Shape::new(serial, name, rd, wr, kind).expect(rt, "a good name and good marks")
 }
 
 /// A chain for modules of some type.
@@ -179,26 +236,26 @@ fn chain_over<M: ModuleOf>(
     Chain::new(alloc, driver, marks, marks).expect(rt, "no memory for a chain")
 }
 
-fn kind(part: Part) -> Kind {
-    match part {
-        Part::Pass => Kind::Pass,
-        Part::Count => Kind::Count { n: 0 },
-        Part::Mute => Kind::Mute,
-        Part::Tee => Kind::Tee,
+fn kind(pushes: Pushes) -> Kind {
+    match pushes {
+        Pushes::Pass => Kind::Pass,
+        Pushes::Count => Kind::Count { n: 0 },
+        Pushes::Mute => Kind::Mute,
+        Pushes::Tee => Kind::Tee,
     }
 }
 
 /// The shape of a module with a queue for each side that is named.
-fn shape_of(rt: &impl Abort, serial: u64, part: Part, (rd, wr): (bool, bool)) -> Shape {
+fn shape_of(rt: &impl Abort, serial: u64, pushes: Pushes, (rd, wr): (bool, bool)) -> Shape {
     let five = Some(FIVE);
     let rd = if rd { five } else { None };
     let wr = if wr { five } else { None };
-    Shape::new(serial, b"m", rd, wr, kind(part)).expect(rt, "a good name and good marks")
+    shaped(rt, serial, b"m", (rd, wr), kind(pushes))
 }
 
 /// Pushes a module with a queue for each side that is named.
-fn push(rt: &impl Abort, chain: &mut Chain<Plain>, end: End, part: Part, queues: (bool, bool)) {
-    let shape = shape_of(rt, 1, part, queues);
+fn push(rt: &impl Abort, chain: &mut Chain<Plain>, end: End, pushes: Pushes, queues: (bool, bool)) {
+    let shape = shape_of(rt, 1, pushes, queues);
     let boxed = Boxed::new(chain.alloc(), Instance::new(shape, Plain));
     assert!(rt;
         chain
@@ -223,8 +280,8 @@ fn play<M: ModuleOf>(
 /// Makes the calls of a row on a new chain, and then these.
 fn play_row(rt: &impl Abort, alloc: Global, row: Row, last: &[Call]) {
     let mut chain = chain_over(rt, alloc, row.driver, row.marks);
-    for (end, part, rd, wr) in row.modules {
-        push(rt, &mut chain, *end, *part, (*rd, *wr));
+    for (end, pushes, rd, wr) in row.modules {
+        push(rt, &mut chain, *end, *pushes, (*rd, *wr));
     }
     for (at, calls) in row.calls.iter().enumerate() {
         play(rt, &mut chain, calls, (row.name, at));

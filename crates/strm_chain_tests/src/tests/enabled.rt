@@ -3,7 +3,7 @@
 use super::Call::{
     Count, Deliver, Enabled, HeadHeld, HeadLen, May, NoneEnabled, Read, Settle, Take, Write,
 };
-use super::{Call, DRV_A, DRV_B, FIVE, Part, RD_1, RD_2, Row, TOP_A, Text, WR_1, WR_2};
+use super::{Call, DRV_A, DRV_B, FIVE, Pushes, RD_1, RD_2, Row, Sample, TOP_A, WR_1, WR_2};
 use strm_chain::{Driver, Spot};
 use strm_msg::End;
 
@@ -49,10 +49,10 @@ const BLOCKED: &[Call] = &[
 ];
 
 /// A module without queues.
-const NO_QUEUE: (End, Part, bool, bool) = (End::A, Part::Pass, false, false);
+const NO_QUEUE: (End, Pushes, bool, bool) = (End::A, Pushes::Pass, false, false);
 
 /// A module with a queue on both sides.
-const TWO_QUEUES: (End, Part, bool, bool) = (End::A, Part::Pass, true, true);
+const TWO_QUEUES: (End, Pushes, bool, bool) = (End::A, Pushes::Pass, true, true);
 
 // Every queue is full at 6 bytes and slack at 2. Three messages of 2 bytes move, and fill the head; the
 // fourth waits. When one is taken the head holds 4 bytes: it is not full, so the place may move, but it is
@@ -103,14 +103,14 @@ const PUT_BETWEEN_THE_MARKS: &[Call] = &[
 // each is found empty. Then both heads are full, and each place is looked at once, in vain.
 const BOTH_ENDS: &[Call] = &[
     Write(b"aaaaa"),
-    Deliver(TOP_B, Text::Data(0, b"bbbbb")),
+    Deliver(TOP_B, Sample::Data(0, b"bbbbb")),
     Enabled(DRV_A, true),
     Enabled(DRV_B, true),
     Settle(&[DRV_A, DRV_B], 4),
     HeadHeld(End::A, 5),
     HeadHeld(End::B, 5),
     Write(b"c"),
-    Deliver(TOP_B, Text::Data(0, b"d")),
+    Deliver(TOP_B, Sample::Data(0, b"d")),
     Settle(&[], 2),
     NoneEnabled,
     Settle(&[], 0),
@@ -127,7 +127,7 @@ const TAKEN_AT_A: &[Call] = &[
 ];
 
 const TAKEN_AT_B: &[Call] = &[
-    Take(End::B, Text::Data(0, b"aaaaa")),
+    Take(End::B, Sample::Data(0, b"aaaaa")),
     Enabled(DRV_A, true),
     Enabled(DRV_B, false),
     Settle(&[DRV_A], 2),
@@ -170,13 +170,13 @@ const HIGH_ENABLES_NOTHING: &[Call] = &[
     Settle(&[DRV_A], 2),
     Write(b"b"),
     Settle(&[], 1),
-    Deliver(TOP_A, Text::High(b"h")),
+    Deliver(TOP_A, Sample::Pcproto(b"h", None)),
     NoneEnabled,
 ];
 
 // The head holds 6 bytes. Taking h leaves 5, which is full, and enables nothing.
 const HIGH_IS_TAKEN: &[Call] = &[
-    Take(End::A, Text::High(b"h")),
+    Take(End::A, Sample::Pcproto(b"h", None)),
     NoneEnabled,
     Read(b"aaaaa"),
     Settle(&[DRV_A], 2),

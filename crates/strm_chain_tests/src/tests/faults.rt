@@ -5,30 +5,30 @@ use super::Call::{
 };
 use super::objects::Ask::{Clear, Counted, Do, Push};
 use super::objects::{Ask, NO_QUEUE, Object, Story};
-use super::{Call, DRV_A, FIVE, Part, Row, TOP_A, Text, WR_1};
+use super::{Call, DRV_A, FIVE, Pushes, Row, Sample, TOP_A, WR_1};
 use strm_chain::ChainFault::{Broken, NoMem};
 use strm_chain::Driver;
 use strm_msg::End;
 
-const X: Text = Text::Data(0, b"x");
+const X: Sample = Sample::Data(0, b"x");
 
 /// Refuses its first put, and counts in its shape.
 const REFUSES_1: Object = Object {
-    part: Part::Count,
+    pushes: Pushes::Count,
     queues: (false, false),
     refuses: (1, 0),
 };
 
 /// Refuses its second put.
 const REFUSES_2: Object = Object {
-    part: Part::Count,
+    pushes: Pushes::Count,
     queues: (false, false),
     refuses: (2, 0),
 };
 
 /// Has a queue on its way down, and refuses its first service.
 const REFUSES_SERVICE: Object = Object {
-    part: Part::Count,
+    pushes: Pushes::Count,
     queues: (false, true),
     refuses: (0, 1),
 };
@@ -38,7 +38,7 @@ const PUT: Ask = Do(DeliverFails(TOP_A, X, Broken));
 
 const SETTLE: Ask = Do(SettleFails(Broken));
 
-const PUT_HIGH: Ask = Do(DeliverFails(TOP_A, Text::High(b"h"), Broken));
+const PUT_HIGH: Ask = Do(DeliverFails(TOP_A, Sample::Pcproto(b"h", None), Broken));
 
 // The first put is refused before anything is changed, and the object is asked again. The driver's place
 // is looked at twice, before its move and when it is empty.
@@ -145,7 +145,7 @@ const BROKEN_OFF: &[Call] = &[
     IsBroken(true),
     DeliverFails(TOP_A, X, Broken),
     SettleFails(Broken),
-    DeliverFails(TOP_A, Text::High(b"h"), Broken),
+    DeliverFails(TOP_A, Sample::Pcproto(b"h", None), Broken),
     ServeFails(WR_1, Broken),
     May(WR_1, true),
     IsDriver(Driver::Loop),
@@ -166,7 +166,7 @@ pub(super) const ROWS: &[Row] = &[
         name: "a chain that is broken off shows what it has",
         driver: Driver::Loop,
         marks: FIVE,
-        modules: &[(End::A, Part::Pass, false, true)],
+        modules: &[(End::A, Pushes::Pass, false, true)],
         calls: &[BROKEN_OFF],
     },
 ];

@@ -1,6 +1,8 @@
 //! Flushes, as they pass modules, drivers and heads.
 use super::Call::{Comes, Deliver, Errs, HeadLen, Holds, May, Send};
-use super::{Call, DRV_A, FIVE, HEAD_A, Part, RD_1, RD_2, Row, TOP_A, Text, WR_1, WR_2, play_row};
+use super::{
+    Call, DRV_A, FIVE, HEAD_A, Pushes, RD_1, RD_2, Row, Sample, TOP_A, WR_1, WR_2, play_row,
+};
 use std::alloc::Global;
 use std::process::Abort;
 use strm_chain::{Driver, Place, Spot};
@@ -17,12 +19,12 @@ const UP_2: Spot = Spot::Up { end: End::A, i: 2 };
 const UP_3: Spot = Spot::Up { end: End::A, i: 3 };
 
 /// A module of end A with a queue on both sides.
-const AT_A: (End, Part, bool, bool) = (End::A, Part::Pass, true, true);
+const AT_A: (End, Pushes, bool, bool) = (End::A, Pushes::Pass, true, true);
 
-const AT_B: (End, Part, bool, bool) = (End::B, Part::Pass, true, true);
+const AT_B: (End, Pushes, bool, bool) = (End::B, Pushes::Pass, true, true);
 
 /// Data of band 1.
-const X: Text = Text::Data(1, b"x");
+const X: Sample = Sample::Data(1, b"x");
 
 const ALL: [bool; 6] = [true; 6];
 
@@ -55,17 +57,17 @@ const FILLED: &[&[Call]] = &[
 
 const LINE_IS_FILLED: &[&[Call]] = &[MODULES_ARE_FILLED, &[Comes(X), Holds(End::A, 1, ALL)]];
 
-const RW: Text = Text::Flush(true, true, None);
+const RW: Sample = Sample::Flush(true, true, None);
 
-const RW_OF_0: Text = Text::Flush(true, true, Some(0));
+const RW_OF_0: Sample = Sample::Flush(true, true, Some(0));
 
-const RW_OF_1: Text = Text::Flush(true, true, Some(1));
+const RW_OF_1: Sample = Sample::Flush(true, true, Some(1));
 
-const W: Text = Text::Flush(false, true, None);
+const W: Sample = Sample::Flush(false, true, None);
 
-const R: Text = Text::Flush(true, false, None);
+const R: Sample = Sample::Flush(true, false, None);
 
-const NEITHER: Text = Text::Flush(false, false, None);
+const NEITHER: Sample = Sample::Flush(false, false, None);
 
 /// Each driver, a flush that is written at end A, and which lists hold their message then, which is of
 /// band 1.
@@ -73,7 +75,7 @@ const NEITHER: Text = Text::Flush(false, false, None);
 /// With FLUSHW it empties the write queues, and the list of an echo or a loop. With FLUSHR it empties the
 /// read queues on its way down, and the list of a line, and is sent up, where it empties the head's
 /// list. One of another band leaves all.
-const WRITTEN: &[(&str, Driver, Text, [bool; 6])] = &[
+const WRITTEN: &[(&str, Driver, Sample, [bool; 6])] = &[
     ("an echo is flushed", Driver::Echo, RW, NONE),
     ("band 1 of an echo", Driver::Echo, RW_OF_1, NONE),
     ("band 0 of an echo", Driver::Echo, RW_OF_0, ALL),
@@ -114,7 +116,7 @@ pub(super) fn play_written(rt: &impl Abort, alloc: Global) {
 }
 
 /// Data of band 0.
-const Y: Text = Text::Data(0, b"x");
+const Y: Sample = Sample::Data(0, b"x");
 
 const BOTH_ENDS_ARE_FILLED: &[Call] = &[
     Deliver(TOP_A, Y),
@@ -138,7 +140,7 @@ const END_B_IS_FLUSHED: &[Call] = &[
 ];
 
 /// Data of band 3.
-const Z: Text = Text::Data(3, b"x");
+const Z: Sample = Sample::Data(3, b"x");
 
 // Below a module without queues, which is the first.
 const LINE_IS_FILLED_BELOW: &[Call] = &[
@@ -152,7 +154,7 @@ const LINE_IS_FILLED_BELOW: &[Call] = &[
 ];
 
 const ERRORS_COME: &[Call] = &[
-    Deliver(UP_3, Text::Error(Errno::EPROTO)),
+    Deliver(UP_3, Sample::Error(Errno::EPROTO)),
     Errs(End::A, Some(Errno::EPROTO)),
     May(WR_1, false),
     May(RD_1, false),
@@ -162,7 +164,7 @@ const ERRORS_COME: &[Call] = &[
     May(Place::Rd { end: End::A, i: 3 }, false),
     May(DRV_A, false),
     HeadLen(End::A, 0),
-    Deliver(UP_3, Text::Error(Errno::EIO)),
+    Deliver(UP_3, Sample::Error(Errno::EIO)),
     Errs(End::A, Some(Errno::EIO)),
 ];
 
@@ -181,7 +183,7 @@ pub(super) const ROWS: &[Row] = &[
         name: "an error flushes all",
         driver: Driver::Line,
         marks: FIVE,
-        modules: &[AT_A, AT_A, (End::A, Part::Mute, false, false)],
+        modules: &[AT_A, AT_A, (End::A, Pushes::Mute, false, false)],
         calls: &[LINE_IS_FILLED_BELOW, ERRORS_COME],
     },
 ];

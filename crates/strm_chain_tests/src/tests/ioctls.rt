@@ -1,6 +1,6 @@
 //! Ioctls and their answers.
 use super::Call::{Begins, Ends, Ids, Read, Send, Settle, Undoes, Write};
-use super::{Call, DRV_A, FIVE, Part, Row, Text, WR_1};
+use super::{Call, DRV_A, FIVE, Pushes, Row, Sample, WR_1};
 use strm_chain::Driver;
 use strm_msg::{End, Errno};
 
@@ -12,11 +12,11 @@ const IDS_GO_UP: &[Call] = &[Begins(1), Undoes, Begins(1), Ends(None), Begins(2)
 const MODULE_OR_DRIVER_ANSWERS: &[Call] = &[
     Write(b"x"),
     Begins(1),
-    Send(End::A, Text::Ioctl(1, 1)),
-    Ends(Some(Text::Ack(1, 1))),
+    Send(End::A, Sample::Ioctl(1, 1, None)),
+    Ends(Some(Sample::Ack(1, 1, None))),
     Begins(2),
-    Send(End::A, Text::Ioctl(2, 9)),
-    Ends(Some(Text::Nak(2, Errno::EINVAL))),
+    Send(End::A, Sample::Ioctl(2, 9, None)),
+    Ends(Some(Sample::Nak(2, Errno::EINVAL))),
 ];
 
 // Both places are looked at to move and when they are empty. The second time the module's place is, and
@@ -28,7 +28,7 @@ const ANSWER_IS_LATE: &[Call] = &[
     Write(b"bbbbb"),
     Settle(&[WR_1], 3),
     Begins(1),
-    Send(End::A, Text::Ioctl(1, 1)),
+    Send(End::A, Sample::Ioctl(1, 1, None)),
     Settle(&[], 1),
     Ends(None),
 ];
@@ -43,7 +43,7 @@ const LATE_ANSWER_IS_DROPPED: &[Call] = &[
     Ends(None),
 ];
 
-const COUNT: (End, Part, bool, bool) = (End::A, Part::Count, false, false);
+const COUNT: (End, Pushes, bool, bool) = (End::A, Pushes::Count, false, false);
 
 pub(super) const ROWS: &[Row] = &[
     Row {
@@ -57,7 +57,7 @@ pub(super) const ROWS: &[Row] = &[
         name: "a module or the driver answers",
         driver: Driver::Echo,
         marks: FIVE,
-        modules: &[COUNT, (End::A, Part::Pass, false, false)],
+        modules: &[COUNT, (End::A, Pushes::Pass, false, false)],
         calls: &[MODULE_OR_DRIVER_ANSWERS],
     },
     // The ioctl waits behind data for a full driver, so no answer has come when it is given up. Its
@@ -66,7 +66,7 @@ pub(super) const ROWS: &[Row] = &[
         name: "a late answer is dropped",
         driver: Driver::Echo,
         marks: FIVE,
-        modules: &[COUNT, (End::A, Part::Pass, false, true)],
+        modules: &[COUNT, (End::A, Pushes::Pass, false, true)],
         calls: &[ANSWER_IS_LATE, LATE_ANSWER_IS_DROPPED],
     },
 ];

@@ -1,6 +1,6 @@
 //! What a chain shows of itself: its spots and its modes.
 use super::Call::{Count, Errs, HasSpot, Hung, Mode, SetMode};
-use super::{Call, FIVE, Part, Row};
+use super::{Call, FIVE, Pushes, Row};
 use strm_chain::{Driver, Spot};
 use strm_msg::{End, Prot, ReadMode};
 
@@ -37,7 +37,7 @@ pub(super) const ROWS: &[Row] = &[
         name: "an end has its spots",
         driver: Driver::Line,
         marks: FIVE,
-        modules: &[(End::A, Part::Pass, false, false)],
+        modules: &[(End::A, Pushes::Pass, false, false)],
         calls: &[END_HAS_ITS_SPOTS],
     },
 ];

@@ -1,22 +1,19 @@
 //! Objects that can be told apart: which of them is asked, and which comes back.
 use super::Call::{Deliver, HeadLen, Serve, Settle, Write};
 use super::{
-    Call, DRV_A, FIVE, Part, RD_1, RD_2, Text, WR_1, WR_2, chain_over, faults, owners, shape_of,
-    steps,
+    Call, DRV_A, FIVE, Log, Pushes, RD_1, RD_2, Sample, WR_1, WR_2, chain_over, faults, held,
+    logged, new_log, owners, shape_of, steps,
 };
 use Ask::{Dismantle, Do, Push, Remove};
 use std::alloc::Global;
 use std::process::Abort;
-use std::sync::Arc;
-use std::sync::atomic::{AtomicU64, Ordering};
+use std::sync::atomic::Ordering;
 use strm_chain::{Chain, Driver, Spot};
 use strm_module::{Boxed, Instance, Kind, Module, Outs, Put, Shape};
 use strm_msg::{End, Message, NoMem, Side};
 
-/// What was asked of the objects 1 to 3, in order, a digit for each call: the object's number where
-/// a message was put to it, 3 more where it served one, and 6 more where it was closed.
-type Log = Arc<AtomicU64, Global>;
-
+// What was asked of the objects 1 to 3 stands on a log, in order, a digit for each call: the object's number
+// where a message was put to it, 3 more where it served one, and 6 more where it was closed.
 const PUT: u64 = 0;
 
 const SERVED: u64 = 3;
@@ -95,7 +92,7 @@ impl Module for Told {
 /// An object, in a module of a kind with these queues on its read side and on its write side.
 #[derive(Clone, Copy, Drop)]
 pub(super) struct Object {
-    pub(super) part: Part,
+    pub(super) pushes: Pushes,
     pub(super) queues: (bool, bool),
     /// The put and the service that it refuses, counted from 1.
     pub(super) refuses: (u32, u32),
@@ -130,15 +127,6 @@ pub(super) struct Story<'a> {
     pub(super) end: Option<u64>,
 }
 
-fn new_log(rt: &impl Abort, alloc: Global) -> Log {
-    Arc::new(alloc, AtomicU64::new(0)).expect(rt, "no memory for a log")
-}
-
-/// What stands on the log.
-fn logged(log: &Log) -> u64 {
-    log.load(Ordering::SeqCst)
-}
-
 /// A module in a box, with the object of a number.
 fn with_object(
     rt: &impl Abort,
@@ -150,12 +138,12 @@ fn with_object(
     let (refused_put, refused_serve) = object.refuses;
     let told = Told {
         number,
-        log: Arc::try_clone(log).expect(rt, "the log has few owners"),
+        log: held(rt, log),
         refused_put,
         refused_serve,
     };
     let boxed: Box<dyn Module> = Box::new(alloc, told).expect(rt, "no memory for a box");
-    let instance = Instance::new(shape_of(rt, serial, object.part, object.queues), boxed);
+    let instance = Instance::new(shape_of(rt, serial, object.pushes, object.queues), boxed);
     Boxed::new(alloc, instance).expect(rt, "no memory for a box")
 }
 
@@ -276,14 +264,14 @@ pub(super) fn tell_stories(rt: &impl Abort, alloc: Global, stories: &[Story<'_>]
 
 /// Passes everything on, without a queue.
 pub(super) const NO_QUEUE: Object = Object {
-    part: Part::Pass,
+    pushes: Pushes::Pass,
     queues: (false, false),
     refuses: (0, 0),
 };
 
 /// Passes everything on, with a queue on both sides.
 const TWO_QUEUES: Object = Object {
-    part: Part::Pass,
+    pushes: Pushes::Pass,
     queues: (true, true),
     refuses: (0, 0),
 };
@@ -309,16 +297,19 @@ const EACH_MESSAGE_IS_PUT_TO_ITS_OBJECTS: &[(Ask, u64)] = &[
     (Push(End::A, 2, 2, NO_QUEUE), 0),
     (Push(End::A, 3, 3, NO_QUEUE), 0),
     (
-        Do(Deliver(Spot::Down { end: End::A, i: 2 }, Text::Data(0, b"x"))),
+        Do(Deliver(Spot::Down { end: End::A, i: 2 }, Sample::Data(0, b"x"))),
         21,
     ),
     (Do(Settle(&[DRV_A], 2)), 21123),
     (
-        Do(Deliver(Spot::Up { end: End::A, i: 2 }, Text::Data(0, b"y"))),
+        Do(Deliver(Spot::Up { end: End::A, i: 2 }, Sample::Data(0, b"y"))),
         2112323,
     ),
     (
-        Do(Deliver(Spot::Down { end: End::A, i: 3 }, Text::High(b"h"))),
+        Do(Deliver(
+            Spot::Down { end: End::A, i: 3 },
+            Sample::Pcproto(b"h", None),
+        )),
         21123231123,
     ),
     (Do(HeadLen(End::A, 3)), 21123231123),

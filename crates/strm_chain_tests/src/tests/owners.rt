@@ -5,13 +5,13 @@ use super::Call::{
 };
 use super::objects::Ask::{Clear, Do, Push, Refused, Remove};
 use super::objects::{Ask, Object, Story};
-use super::{Call, DRV_A, HEAD_A, Part, Text, WR_1};
+use super::{Call, DRV_A, HEAD_A, Pushes, Sample, WR_1};
 use strm_chain::Driver;
 use strm_msg::End;
 
 /// Passes everything on, with a queue on its way down.
 const PASS: Object = Object {
-    part: Part::Pass,
+    pushes: Pushes::Pass,
     queues: (false, true),
     refuses: (0, 0),
 };
@@ -117,7 +117,7 @@ const FAR_END_OF_A_LOOP_IS_CLOSED: &[(Ask, u64)] = &[
     (Do(Settle(&[DRV_A], 2)), 0),
     (Do(FullAhead(End::A, false)), 0),
     (Do(HeadLen(End::B, 0)), 0),
-    (Do(Deliver(HEAD_A, Text::Hangup)), 0),
+    (Do(Deliver(HEAD_A, Sample::Hangup)), 0),
     (Do(Hung(End::A, true)), 0),
 ];
 

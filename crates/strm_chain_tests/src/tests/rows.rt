@@ -3,22 +3,22 @@ use super::Call::{
     Comes, Deliver, FullAhead, HasSpot, HeadHeld, HeadLen, IsOpen, LineFull, May, NoneEnabled,
     PutBack, Read, Send, Settle, Take, Write,
 };
-use super::{Call, DRV_A, FIVE, HEAD_A, Part, RD_1, Row, TOP_A, Text, WR_1, WR_2};
+use super::{Call, DRV_A, FIVE, HEAD_A, Pushes, RD_1, Row, Sample, TOP_A, WR_1, WR_2};
 use strm_chain::{Driver, Place, Spot};
 use strm_msg::End;
 
 // What came in waits in the line's list while the head holds its 5 bytes. A message that is put back
 // comes before those of its rank.
 const LINE_TAKES_WHAT_COMES_IN: &[Call] = &[
-    Comes(Text::Data(0, b"aaaaa")),
+    Comes(Sample::Data(0, b"aaaaa")),
     Settle(&[DRV_A], 2),
-    Comes(Text::Data(0, b"bbbbb")),
+    Comes(Sample::Data(0, b"bbbbb")),
     Settle(&[], 1),
     LineFull(true),
     Read(b"aaaaa"),
     Settle(&[DRV_A], 2),
     LineFull(false),
-    PutBack(Text::Data(0, b"z")),
+    PutBack(Sample::Data(0, b"z")),
     Read(b"z"),
     Read(b"bbbbb"),
 ];
@@ -68,12 +68,12 @@ const BANDS_ARE_HELD_BACK_BY_THEMSELVES: &[Call] = &[
     Write(b"aaaaa"),
     Settle(&[DRV_A], 2),
     Write(b"b"),
-    Deliver(TOP_A, Text::Data(5, b"u")),
+    Deliver(TOP_A, Sample::Data(5, b"u")),
     Settle(&[DRV_A], 2),
-    Take(End::A, Text::Data(5, b"u")),
-    Deliver(TOP_A, Text::High(b"h")),
-    Deliver(TOP_A, Text::High(b"i")),
-    Take(End::A, Text::High(b"h")),
+    Take(End::A, Sample::Data(5, b"u")),
+    Deliver(TOP_A, Sample::Pcproto(b"h", None)),
+    Deliver(TOP_A, Sample::Pcproto(b"i", None)),
+    Take(End::A, Sample::Pcproto(b"h", None)),
     Read(b"aaaaa"),
     HeadLen(End::A, 0),
 ];
@@ -91,13 +91,13 @@ const HIGH_MESSAGES_PASS_WHAT_IS_BLOCKED: &[Call] = &[
     Write(b"bbbbb"),
     Settle(&[WR_1, DRV_A], 5),
     May(RD_1, false),
-    Deliver(HEAD_A, Text::High(b"h")),
+    Deliver(HEAD_A, Sample::Pcproto(b"h", None)),
     HeadLen(End::A, 2),
-    Take(End::A, Text::High(b"h")),
+    Take(End::A, Sample::Pcproto(b"h", None)),
     Write(b"c"),
-    Deliver(TOP_A, Text::High(b"i")),
+    Deliver(TOP_A, Sample::Pcproto(b"i", None)),
     HeadLen(End::A, 2),
-    Take(End::A, Text::High(b"i")),
+    Take(End::A, Sample::Pcproto(b"i", None)),
     May(RD_1, false),
     Read(b"aaaaa"),
     HeadLen(End::A, 0),
@@ -105,7 +105,7 @@ const HIGH_MESSAGES_PASS_WHAT_IS_BLOCKED: &[Call] = &[
 
 // A message for the topmost of two modules goes to `Spot::top`, and waits in that one.
 const TOP_IS_THE_SPOT_OF_THE_TOPMOST: &[Call] = &[
-    Send(End::A, Text::Data(0, b"x")),
+    Send(End::A, Sample::Data(0, b"x")),
     Write(b"x"),
     May(WR_1, true),
     May(WR_2, false),
@@ -113,7 +113,7 @@ const TOP_IS_THE_SPOT_OF_THE_TOPMOST: &[Call] = &[
 ];
 
 /// A module with a queue for its write side.
-const QUEUED: (End, Part, bool, bool) = (End::A, Part::Pass, false, true);
+const QUEUED: (End, Pushes, bool, bool) = (End::A, Pushes::Pass, false, true);
 
 pub(super) const ROWS: &[Row] = &[
     Row {
@@ -127,7 +127,7 @@ pub(super) const ROWS: &[Row] = &[
         name: "a tee stands over a blocked module",
         driver: Driver::Echo,
         marks: FIVE,
-        modules: &[QUEUED, (End::A, Part::Tee, false, false)],
+        modules: &[QUEUED, (End::A, Pushes::Tee, false, false)],
         calls: &[TEE_STANDS_OVER_A_BLOCKED_MODULE],
     },
     Row {
@@ -148,7 +148,7 @@ pub(super) const ROWS: &[Row] = &[
         name: "high messages pass what is blocked",
         driver: Driver::Echo,
         marks: FIVE,
-        modules: &[(End::A, Part::Pass, true, true)],
+        modules: &[(End::A, Pushes::Pass, true, true)],
         calls: &[HIGH_MESSAGES_PASS_WHAT_IS_BLOCKED],
     },
     Row {

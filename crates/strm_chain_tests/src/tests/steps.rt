@@ -1,5 +1,5 @@
 //! What a call of a table does, and whether it answers what it must.
-use super::{Call, TOP_A, Text, message};
+use super::{Call, Sample, TOP_A, message};
 use std::process::Abort;
 use strm_chain::{Chain, ChainFault, Driver, Place, Spot};
 use strm_module::ModuleOf;
@@ -10,10 +10,10 @@ fn puts<M: ModuleOf>(
     rt: &impl Abort,
     chain: &mut Chain<M>,
     spot: Spot,
-    text: Text,
+    sample: Sample,
     want: Result<(), ChainFault>,
 ) -> bool {
-    let m = message(rt, chain.alloc(), text);
+    let m = message(rt, chain.alloc(), sample);
     assert!(rt; chain.has_spot(spot));
     chain.deliver(spot, m) == want
 }
@@ -24,8 +24,8 @@ fn serves<M: ModuleOf>(chain: &mut Chain<M>, place: Place, want: Result<(), Chai
 }
 
 /// Takes the first message of the head of an end, which is to be this.
-fn takes<M: ModuleOf>(rt: &impl Abort, chain: &mut Chain<M>, end: End, text: Text) -> bool {
-    let want = message(rt, chain.alloc(), text);
+fn takes<M: ModuleOf>(rt: &impl Abort, chain: &mut Chain<M>, end: End, sample: Sample) -> bool {
+    let want = message(rt, chain.alloc(), sample);
     chain.take_head(end) == Some(want)
 }
 
@@ -38,8 +38,8 @@ fn settles<M: ModuleOf>(chain: &mut Chain<M>, moves: &[Place], looks: u64) -> bo
 }
 
 /// An ordinary message comes in from the line.
-fn comes<M: ModuleOf>(rt: &impl Abort, chain: &mut Chain<M>, text: Text) -> bool {
-    let m = message(rt, chain.alloc(), text);
+fn comes<M: ModuleOf>(rt: &impl Abort, chain: &mut Chain<M>, sample: Sample) -> bool {
+    let m = message(rt, chain.alloc(), sample);
     if chain.driver() != Driver::Line || m.class() != Class::Ordinary {
         return false;
     }
@@ -49,26 +49,26 @@ fn comes<M: ModuleOf>(rt: &impl Abort, chain: &mut Chain<M>, text: Text) -> bool
 /// A call that hands a message in, moves it or takes it.
 pub(super) fn acts<M: ModuleOf>(rt: &impl Abort, chain: &mut Chain<M>, call: Call) -> bool {
     match call {
-        Call::Write(bytes) => puts(rt, chain, TOP_A, Text::Data(0, bytes), Ok(())),
-        Call::Send(end, text) => puts(rt, chain, Spot::top(end), text, Ok(())),
-        Call::Deliver(spot, text) => puts(rt, chain, spot, text, Ok(())),
-        Call::DeliverFails(spot, text, fault) => puts(rt, chain, spot, text, Err(fault)),
-        Call::Comes(text) => comes(rt, chain, text),
+        Call::Write(bytes) => puts(rt, chain, TOP_A, Sample::Data(0, bytes), Ok(())),
+        Call::Send(end, sample) => puts(rt, chain, Spot::top(end), sample, Ok(())),
+        Call::Deliver(spot, sample) => puts(rt, chain, spot, sample, Ok(())),
+        Call::DeliverFails(spot, sample, fault) => puts(rt, chain, spot, sample, Err(fault)),
+        Call::Comes(sample) => comes(rt, chain, sample),
         Call::Serve(place) => serves(chain, place, Ok(())),
         Call::ServeFails(place, fault) => serves(chain, place, Err(fault)),
         Call::Settle(moves, looks) => settles(chain, moves, looks),
         Call::SettleFails(fault) => chain.settle().err() == Some(fault),
-        Call::Read(bytes) => takes(rt, chain, End::A, Text::Data(0, bytes)),
-        Call::Take(end, text) => takes(rt, chain, end, text),
+        Call::Read(bytes) => takes(rt, chain, End::A, Sample::Data(0, bytes)),
+        Call::Take(end, sample) => takes(rt, chain, end, sample),
         _ => sets(rt, chain, call),
     }
 }
 
 /// Room is made for a message, which is put back.
-fn puts_back<M: ModuleOf>(rt: &impl Abort, chain: &mut Chain<M>, text: Text) -> bool {
+fn puts_back<M: ModuleOf>(rt: &impl Abort, chain: &mut Chain<M>, sample: Sample) -> bool {
     let has_room = chain.head_room(End::A, 0).is_ok();
     let line_has_room = chain.driver() == Driver::Line && chain.line_room(0).is_ok();
-    let m = message(rt, chain.alloc(), text);
+    let m = message(rt, chain.alloc(), sample);
     let is_back = chain.put_back_head(End::A, m).is_ok();
     has_room && line_has_room && is_back
 }
@@ -89,10 +89,10 @@ fn undoes<M: ModuleOf>(chain: &mut Chain<M>) -> bool {
 }
 
 /// Takes the answer that has come.
-fn ends<M: ModuleOf>(rt: &impl Abort, chain: &mut Chain<M>, want: Option<Text>) -> bool {
+fn ends<M: ModuleOf>(rt: &impl Abort, chain: &mut Chain<M>, want: Option<Sample>) -> bool {
     let answer = chain.end_ioctl(End::A);
     match want {
-        Some(text) => answer == Some(message(rt, chain.alloc(), text)),
+        Some(sample) => answer == Some(message(rt, chain.alloc(), sample)),
         None => answer.is_none(),
     }
 }
@@ -108,7 +108,7 @@ fn removes<M: ModuleOf>(chain: &mut Chain<M>) -> Option<u64> {
 /// A call that changes something else.
 fn sets<M: ModuleOf>(rt: &impl Abort, chain: &mut Chain<M>, call: Call) -> bool {
     match call {
-        Call::PutBack(text) => puts_back(rt, chain, text),
+        Call::PutBack(sample) => puts_back(rt, chain, sample),
         Call::BreakOff => {
             chain.break_off();
             true

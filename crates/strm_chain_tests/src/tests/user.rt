@@ -1,19 +1,16 @@
 //! Modules as a user of the crate writes them: an object that tallies what it is asked, one that
 //! leaves both procedures out, and one for a vocabulary of its own.
-use super::Keeps::Counted;
 use super::Sample::{Ack, Ioctl};
-use super::Want::{GoesOn, Sends};
-use super::{Call, X, called, message, play};
+use super::kinds::Keeps::Counted;
+use super::kinds::Want::{GoesOn, Sends};
+use super::kinds::{Call, X, called, play};
+use super::{Log, held, logged, message, new_log, shaped};
 use std::alloc::Global;
 use std::process::Abort;
-use std::sync::Arc;
-use std::sync::atomic::{AtomicU64, Ordering};
+use std::sync::atomic::Ordering;
 use strm_module::{Count, Instance, Kind, Kinds, Module, ModuleOf, Outs, Put, Shape, reply};
 use strm_msg::Side::{Rd, Wr};
 use strm_msg::{Message, NoMem, Side};
-
-/// A sum that others hold too.
-type Tally = Arc<AtomicU64, Global>;
 
 const PUT: u64 = 1;
 
@@ -24,7 +21,7 @@ const CLOSED: u64 = 10000;
 /// Acts by its shape, and adds `PUT`, `SERVED` or `CLOSED` to its tally where it is asked or closed.
 /// It can refuse its first put or its first service.
 struct Watch {
-    tally: Tally,
+    tally: Log,
     refuses_put: bool,
     refuses_serve: bool,
     seen: u64,
@@ -75,18 +72,10 @@ impl Module for Watch {
     }
 }
 
-fn new_tally(rt: &impl Abort, alloc: Global) -> Tally {
-    Arc::new(alloc, AtomicU64::new(0)).expect(rt, "no memory for a tally")
-}
-
-fn read(tally: &Tally) -> u64 {
-    tally.load(Ordering::SeqCst)
-}
-
 /// An object with this tally that refuses its first put or its first service.
-fn watching(rt: &impl Abort, tally: &Tally, (refuses_put, refuses_serve): (bool, bool)) -> Watch {
+fn watching(rt: &impl Abort, tally: &Log, (refuses_put, refuses_serve): (bool, bool)) -> Watch {
     Watch {
-        tally: Arc::try_clone(tally).expect(rt, "the tally has few owners"),
+        tally: held(rt, tally),
         refuses_put,
         refuses_serve,
         seen: 0,
@@ -103,8 +92,7 @@ fn boxed(rt: &impl Abort, alloc: Global, watch: Watch) -> Box<dyn Module> {
 /// A module without queues that has counted three messages.
 fn counting<M: Module>(rt: &impl Abort, object: M) -> Instance<M> {
     let kind = Kind::Count { n: 3 };
-    let shape = Shape::new(3, b"count", None, None, kind).expect(rt, "a good name");
-    Instance::new(shape, object)
+    Instance::new(shaped(rt, 3, b"count", (None, None), kind), object)
 }
 
 /// One message is put to the first module, and one is served by the second.
@@ -112,37 +100,37 @@ fn asks_each<M: Module>(
     rt: &impl Abort,
     alloc: Global,
     (first, second): (M, M),
-    (tally, other): (&Tally, &Tally),
+    (tally, other): (&Log, &Log),
 ) {
     let mut first = counting(rt, first);
     let mut second = counting(rt, second);
     let put = called(alloc, &mut first, Call::Put, Wr, message(rt, alloc, X));
     assert!(rt; put.is_ok());
-    assert_eq!(rt; (read(tally), read(other)), (PUT, 0));
+    assert_eq!(rt; (logged(tally), logged(other)), (PUT, 0));
     let served = called(alloc, &mut second, Call::Serve, Wr, message(rt, alloc, X));
     assert!(rt; served.is_ok());
-    assert_eq!(rt; (read(tally), read(other)), (PUT, SERVED));
+    assert_eq!(rt; (logged(tally), logged(other)), (PUT, SERVED));
     drop(first);
-    assert_eq!(rt; (read(tally), read(other)), (PUT + CLOSED, SERVED));
+    assert_eq!(rt; (logged(tally), logged(other)), (PUT + CLOSED, SERVED));
 }
 
 #[test]
 fn object_of_the_instance_is_called_and_closed_once(rt: HostRuntime) {
     let alloc = rt.alloc();
-    let (one, other) = (new_tally(&rt, alloc), new_tally(&rt, alloc));
+    let (one, other) = (new_log(&rt, alloc), new_log(&rt, alloc));
     let objects = (watching(&rt, &one, NEVER), watching(&rt, &other, NEVER));
     asks_each(&rt, alloc, objects, (&one, &other));
-    assert_eq!(rt; read(&other), SERVED + CLOSED);
+    assert_eq!(rt; logged(&other), SERVED + CLOSED);
 }
 
 #[test]
 fn object_in_the_box_is_called_and_closed_once(rt: HostRuntime) {
     let alloc = rt.alloc();
-    let (one, other) = (new_tally(&rt, alloc), new_tally(&rt, alloc));
+    let (one, other) = (new_log(&rt, alloc), new_log(&rt, alloc));
     let first = boxed(&rt, alloc, watching(&rt, &one, NEVER));
     let second = boxed(&rt, alloc, watching(&rt, &other, NEVER));
     asks_each(&rt, alloc, (first, second), (&one, &other));
-    assert_eq!(rt; read(&other), SERVED + CLOSED);
+    assert_eq!(rt; logged(&other), SERVED + CLOSED);
 }
 
 /// A refused call leaves the shape, and the next one is answered.
@@ -162,27 +150,27 @@ fn object_that_refused_is_asked_again(rt: HostRuntime) {
         (Call::Put, (true, false), PUT),
         (Call::Serve, (false, true), SERVED),
     ] {
-        let tally = new_tally(&rt, alloc);
+        let tally = new_log(&rt, alloc);
         let object = watching(&rt, &tally, refuses);
         answers_the_second_time(&rt, alloc, object, call);
-        assert_eq!(rt; read(&tally), 2 * asked + CLOSED);
+        assert_eq!(rt; logged(&tally), 2 * asked + CLOSED);
         let object = boxed(&rt, alloc, watching(&rt, &tally, refuses));
         answers_the_second_time(&rt, alloc, object, call);
-        assert_eq!(rt; read(&tally), 2 * (2 * asked + CLOSED));
+        assert_eq!(rt; logged(&tally), 2 * (2 * asked + CLOSED));
     }
 }
 
 #[test]
 fn object_comes_back_with_its_private_data(rt: HostRuntime) {
     let alloc = rt.alloc();
-    let tally = new_tally(&rt, alloc);
+    let tally = new_log(&rt, alloc);
     let mut it = counting(&rt, watching(&rt, &tally, NEVER));
     assert!(rt; it.put(alloc, Wr, message(&rt, alloc, X)).is_ok());
     let watch = it.into_object();
     assert_eq!(rt; watch.seen, 1);
-    assert_eq!(rt; read(&tally), PUT);
+    assert_eq!(rt; logged(&tally), PUT);
     drop(watch);
-    assert_eq!(rt; read(&tally), PUT + CLOSED);
+    assert_eq!(rt; logged(&tally), PUT + CLOSED);
 }
 
 #[test]
@@ -192,7 +180,12 @@ fn boxed_count_counts(rt: HostRuntime) {
     let mut it = counting(&rt, object);
     let rows = [
         (Wr, X, GoesOn, Counted(4)),
-        (Wr, Ioctl(2, None), Sends(Rd, Ack(4, None)), Counted(0)),
+        (
+            Wr,
+            Ioctl(7, 2, None),
+            Sends(Rd, Ack(7, 4, None)),
+            Counted(0),
+        ),
     ];
     play(&rt, alloc, &mut it, Call::Put, &rows);
 }
@@ -238,7 +231,7 @@ fn serves_turned(rt: &impl Abort, it: &mut Instance<Turner>, alloc: Global) {
 #[test]
 fn kind_of_another_vocabulary_acts_by_its_meaning(rt: HostRuntime) {
     let alloc = rt.alloc();
-    let shape = Shape::new(4, b"turn", Some((5, 4)), None, Turn).expect(&rt, "a good name");
+    let shape = shaped(&rt, 4, b"turn", (Some((5, 4)), None), Turn);
     let mut it = Instance::new(shape, Turner);
     let before = it.shape().copy(alloc).expect(&rt, "no memory for a shape");
     let turned = Put::Sent(reply(message(&rt, alloc, X)));

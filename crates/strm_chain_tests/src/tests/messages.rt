@@ -1,10 +1,10 @@
 //! Messages: their fields, what is answered of them, and which are equal.
 use super::Sample::{Ack, Data, Error, Flush, Hangup, Ioctl, Nak, Pcproto, Proto};
-use super::{Part, Sample, bytes, message};
+use super::{Part, Sample, bytes, message, part};
 use std::alloc::Global;
 use std::process::Abort;
 use strm_msg::Class::{High, Ordinary};
-use strm_msg::{Bytes, Class, Errno, Message, MsgKind};
+use strm_msg::{Class, Errno, Message, MsgKind};
 
 /// A message, and its kind, band, control part and data part.
 type Fields = (Sample, MsgKind, u8, Part, Part);
@@ -67,19 +67,11 @@ const FIELDS: [Fields; 10] = [
     (Error(Errno::EIO), ERROR, 0, None, None),
 ];
 
-fn is_part(found: &Option<Bytes>, want: Part) -> bool {
-    match found {
-        Some(found) => match want {
-            Some(want) => found.as_slice() == want,
-            None => false,
-        },
-        None => want.is_none(),
-    }
-}
-
-fn has_fields(m: &Message, row: &Fields) -> bool {
+fn has_fields(rt: &impl Abort, alloc: Global, m: &Message, row: &Fields) -> bool {
     let (_, kind, band, ctl, dat) = *row;
-    m.kind == kind && m.band == band && is_part(&m.ctl, ctl) && is_part(&m.dat, dat)
+    let ctl_is_so = m.ctl == part(rt, alloc, ctl);
+    let dat_is_so = m.dat == part(rt, alloc, dat);
+    (m.kind == kind) & (m.band == band) & ctl_is_so & dat_is_so
 }
 
 #[test]
@@ -87,7 +79,7 @@ fn each_call_fills_the_fields_of_its_kind(rt: HostRuntime) {
     let alloc = rt.alloc();
     for (i, row) in FIELDS.iter().enumerate() {
         let m = message(&rt, alloc, row.0);
-        assert!(rt; has_fields(&m, row), "row {i}");
+        assert!(rt; has_fields(&rt, alloc, &m, row), "row {i}");
     }
 }
 
@@ -115,8 +107,9 @@ const FACTS: [Facts; 13] = [
 
 fn has_facts(m: &Message, row: &Facts) -> bool {
     let (_, class, rank, weight) = *row;
-    let is_high = matches!(class, High);
-    m.class() == class && m.is_high() == is_high && m.rank() == rank && m.weight() == weight
+    let is_of_class = m.class() == class;
+    let is_high_if_so = m.is_high() == (class == High);
+    is_of_class & is_high_if_so & (m.rank() == rank) & (m.weight() == weight)
 }
 
 #[test]

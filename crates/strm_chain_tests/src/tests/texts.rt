@@ -6,7 +6,9 @@ use std::process::Abort;
 use strm_msg::{Bytes, Errno, NoMem, Prot, ReadMode};
 
 fn are_kept(made: &Bytes, want: &[u8]) -> bool {
-    made.as_slice() == want && made.len() == want.len() && made.is_empty() == want.is_empty()
+    let has_length = made.len() == want.len();
+    let is_empty_if_so = made.is_empty() == want.is_empty();
+    (made.as_slice() == want) & has_length & is_empty_if_so
 }
 
 /// Bytes that are copied, and bytes that are made of a vector and turned back into it.
@@ -15,11 +17,9 @@ fn all_are_kept(rt: &impl Abort, alloc: Global, want: &[u8]) -> bool {
     let copy = copied.copy(alloc).expect(rt, "no memory for a copy");
     let items = Vec::from_slice(alloc, want).expect(rt, "no memory for a vector");
     let made = Bytes::from(items);
-    copy == copied
-        && made == copied
-        && are_kept(&copied, want)
-        && are_kept(&made, want)
-        && made.into_vec().as_slice() == want
+    let are_equal = (copy == copied) & (made == copied);
+    let are_all_kept = are_kept(&copied, want) & are_kept(&made, want);
+    are_equal & are_all_kept & (made.into_vec().as_slice() == want)
 }
 
 // By hand: the bytes stay as they were put in, in order.

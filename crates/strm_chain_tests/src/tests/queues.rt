@@ -215,20 +215,21 @@ const ROOM: [Example; 5] = [
     ),
 ];
 
-/// Whether that is the message, or there is none where none is wanted.
-fn is(rt: &impl Abort, alloc: Global, found: Option<&Message>, want: Option<Sample>) -> bool {
-    match found {
-        Some(found) => match want {
-            Some(want) => *found == message(rt, alloc, want),
-            None => false,
-        },
-        None => want.is_none(),
+/// The message that is wanted, if any is.
+fn wanted(rt: &impl Abort, alloc: Global, want: Option<Sample>) -> Option<Message> {
+    match want {
+        Some(want) => Some(message(rt, alloc, want)),
+        None => None,
     }
 }
 
+/// Whether that is the message, or there is none where none is wanted.
+fn is(rt: &impl Abort, alloc: Global, found: Option<&Message>, want: Option<Sample>) -> bool {
+    found == wanted(rt, alloc, want).as_ref()
+}
+
 fn gets(rt: &impl Abort, alloc: Global, q: &mut BandQueue, want: Option<Sample>) -> bool {
-    let got = q.get();
-    is(rt, alloc, got.as_ref(), want)
+    q.get() == wanted(rt, alloc, want)
 }
 
 fn holds(rt: &impl Abort, alloc: Global, q: &mut BandQueue, wanted: &[Sample]) -> bool {
@@ -243,7 +244,7 @@ fn holds(rt: &impl Abort, alloc: Global, q: &mut BandQueue, wanted: &[Sample]) -
 /// Whether the call answers that. What changes a queue and answers nothing always does.
 fn answers(rt: &impl Abort, alloc: Global, q: &mut BandQueue, step: Step) -> bool {
     match step {
-        Put(sample) => q.put(message(rt, alloc, sample)).is_ok(),
+        Put(sample) => puts(rt, alloc, q, sample),
         PutBack(sample) => q.put_back(message(rt, alloc, sample)).is_ok(),
         MakeRoom(rank) => q.make_room(rank).is_ok(),
         FlushAll => {
@@ -260,7 +261,7 @@ fn answers(rt: &impl Abort, alloc: Global, q: &mut BandQueue, step: Step) -> boo
         Len(n) => q.len() == n && q.is_empty() == (n == 0),
         Held(band, n) => q.held(band) == n,
         Level(band, n, slack, full) => {
-            q.held(band) == n && q.slack(band) == slack && q.full(band) == full
+            (q.held(band) == n) & (q.slack(band) == slack) & (q.full(band) == full)
         }
         HasPcproto(has) => q.has_pcproto() == has,
         HasBand(band, has) => q.has_band(band) == has,
@@ -278,9 +279,13 @@ fn play(rt: &impl Abort, alloc: Global, name: &str, q: &mut BandQueue, steps: &[
     }
 }
 
+fn puts(rt: &impl Abort, alloc: Global, q: &mut BandQueue, sample: Sample) -> bool {
+    q.put(message(rt, alloc, sample)).is_ok()
+}
+
 fn put_all(rt: &impl Abort, alloc: Global, q: &mut BandQueue, samples: &[Sample]) {
     for (i, sample) in samples.iter().enumerate() {
-        assert!(rt; answers(rt, alloc, q, Put(*sample)), "put {i}");
+        assert!(rt; puts(rt, alloc, q, *sample), "put {i}");
     }
 }
 
@@ -319,7 +324,7 @@ fn marks_are_made_of_a_lower_and_a_higher_one(rt: HostRuntime) {
 
 fn put_in_each_band(rt: &impl Abort, alloc: Global, q: &mut BandQueue) {
     for band in 0..=255_u8 {
-        assert!(rt; answers(rt, alloc, q, Put(Data(band, b"x"))), "band {band}");
+        assert!(rt; puts(rt, alloc, q, Data(band, b"x")), "band {band}");
     }
 }
 

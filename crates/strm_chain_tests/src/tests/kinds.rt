@@ -1,6 +1,8 @@
-//! Worked examples, by the public calls alone: tables of messages with what is answered to each.
+//! The kinds of modules: tables of messages with what is answered to each. Each ioctl and each answer to
+//! one has number 7.
+use super::Sample::{Ack, Data, Flush, Hangup, Ioctl, Proto};
+use super::{Sample, bytes, message, shaped};
 use Keeps::{Counted, Partial, Same};
-use Sample::{Ack, Data, Flush, Hangup, Ioctl, Proto};
 use Want::{GoesOn, Nothing, Sends, Twice, Waits};
 use std::alloc::Global;
 use std::process::Abort;
@@ -9,37 +11,19 @@ use strm_module::{
     Put, Shape, Table, Tee,
 };
 use strm_msg::Side::{Rd, Wr};
-use strm_msg::{Bytes, Message, NoMem, Side};
+use strm_msg::{Message, NoMem, Side};
 use strm_queue::Marks;
-
-mod user;
-
-/// A message, written out. Each ioctl and each answer to one has number 7.
-#[derive(Clone, Copy, Drop)]
-enum Sample<'a> {
-    /// A band, and data.
-    Data(u8, &'a [u8]),
-    /// A band, and control without data.
-    Proto(u8, &'a [u8]),
-    /// A command, and its data.
-    Ioctl(u32, Option<&'a [u8]>),
-    /// A value, and data.
-    Ack(u64, Option<&'a [u8]>),
-    /// The sides, and the band.
-    Flush(bool, bool, Option<u8>),
-    Hangup,
-}
 
 /// Which procedure a message is handed to.
 #[derive(Clone, Copy, Drop)]
-enum Call {
+pub(super) enum Call {
     Put,
     Serve,
 }
 
 /// What is answered.
 #[derive(Clone, Copy, Drop)]
-enum Want<'a> {
+pub(super) enum Want {
     /// The message waits, as it came.
     Waits,
     /// Nothing leaves.
@@ -47,47 +31,24 @@ enum Want<'a> {
     /// The message goes on, as it came.
     GoesOn,
     /// This leaves in its place.
-    Sends(Side, Sample<'a>),
+    Sends(Side, Sample),
     /// A copy goes up, and then the message on.
     Twice,
 }
 
 /// What the module keeps afterwards.
 #[derive(Clone, Copy, Drop)]
-enum Keeps<'a> {
+pub(super) enum Keeps {
     /// What it kept before.
     Same,
     /// This number of messages.
     Counted(u64),
     /// This partial line.
-    Partial(&'a [u8]),
+    Partial(&'static [u8]),
 }
 
 /// A message that comes on a side, what is answered, and what is kept then.
-type Row<'a> = (Side, Sample<'a>, Want<'a>, Keeps<'a>);
-
-fn bytes(rt: &impl Abort, alloc: Global, bytes: &[u8]) -> Bytes {
-    Bytes::from_slice(alloc, bytes).expect(rt, "no memory for bytes")
-}
-
-fn part(rt: &impl Abort, alloc: Global, part: Option<&[u8]>) -> Option<Bytes> {
-    match part {
-        Some(part) => Some(bytes(rt, alloc, part)),
-        None => None,
-    }
-}
-
-fn message(rt: &impl Abort, alloc: Global, sample: Sample<'_>) -> Message {
-    match sample {
-        Data(band, dat) => Message::of_data(alloc, band, dat),
-        Proto(band, ctl) => Message::of_proto(alloc, band, ctl, None),
-        Ioctl(cmd, dat) => Message::of_ioctl(alloc, 7, cmd, dat),
-        Ack(rval, dat) => Ok(Message::of_ack(7, rval, part(rt, alloc, dat))),
-        Flush(r, w, band) => Ok(Message::of_flush(r, w, band)),
-        Hangup => Ok(Message::of_hangup()),
-    }
-    .expect(rt, "no memory for a message")
-}
+type Row = (Side, Sample, Want, Keeps);
 
 fn line(rt: &impl Abort, alloc: Global, partial: &[u8]) -> Kind {
     Kind::Line {
@@ -125,7 +86,7 @@ fn sent_twice(first: Message, second: Message) -> Put {
     Put::Sent(outs)
 }
 
-fn wanted(rt: &impl Abort, alloc: Global, side: Side, came: Sample<'_>, want: Want<'_>) -> Put {
+fn wanted(rt: &impl Abort, alloc: Global, side: Side, came: Sample, want: Want) -> Put {
     match want {
         Waits => Put::Queue(message(rt, alloc, came)),
         Nothing => Put::Sent(Outs::new()),
@@ -136,7 +97,7 @@ fn wanted(rt: &impl Abort, alloc: Global, side: Side, came: Sample<'_>, want: Wa
 }
 
 /// The kind that is to be there, where this one was before.
-fn kept(rt: &impl Abort, alloc: Global, before: &Kind, keeps: Keeps<'_>) -> Kind {
+fn kept(rt: &impl Abort, alloc: Global, before: &Kind, keeps: Keeps) -> Kind {
     match keeps {
         Same => before.copy(alloc).expect(rt, "no memory for a kind"),
         Counted(n) => Kind::Count { n },
@@ -145,7 +106,7 @@ fn kept(rt: &impl Abort, alloc: Global, before: &Kind, keeps: Keeps<'_>) -> Kind
 }
 
 /// What a call answers. A service only sends.
-fn called<M: Module>(
+pub(super) fn called<M: Module>(
     alloc: Global,
     it: &mut Instance<M>,
     call: Call,
@@ -159,12 +120,12 @@ fn called<M: Module>(
 }
 
 /// Hands a module each message of a table in its turn.
-fn play<M: Module>(
+pub(super) fn play<M: Module>(
     rt: &impl Abort,
     alloc: Global,
     it: &mut Instance<M>,
     call: Call,
-    rows: &[Row<'_>],
+    rows: &[Row],
 ) {
     for (i, (side, came, want, keeps)) in rows.iter().enumerate() {
         let kind = kept(rt, alloc, &it.shape().kind, *keeps);
@@ -181,7 +142,7 @@ fn puts<M: Module>(
     rt: &impl Abort,
     alloc: Global,
     new: Result<Instance<M>, MakeFault>,
-    rows: &[Row<'_>],
+    rows: &[Row],
 ) {
     let mut it = made(rt, new);
     play(rt, alloc, &mut it, Call::Put, rows);
@@ -189,21 +150,20 @@ fn puts<M: Module>(
 
 /// A module of a kind, with these marks on both sides.
 fn plain(rt: &impl Abort, kind: Kind, marks: Option<(u32, u32)>) -> Instance<Plain> {
-    let shape = Shape::new(1, b"plain", marks, marks, kind).expect(rt, "a good name and marks");
-    Instance::new(shape, Plain)
+    Instance::new(shaped(rt, 1, b"plain", (marks, marks), kind), Plain)
 }
 
 const MARKS: Option<(u32, u32)> = Some((5, 4));
 
-const X: Sample<'static> = Data(0, b"x");
+pub(super) const X: Sample = Data(0, b"x");
 
 #[test]
 fn count_counts_what_is_put(rt: HostRuntime) {
-    let told = Sends(Rd, Ack(1, None));
+    let told = Sends(Rd, Ack(7, 1, None));
     let rows = [
         (Wr, X, GoesOn, Counted(1)),
-        (Wr, Ioctl(1, None), told, Counted(1)),
-        (Wr, Ioctl(2, None), told, Counted(0)),
+        (Wr, Ioctl(7, 1, None), told, Counted(1)),
+        (Wr, Ioctl(7, 2, None), told, Counted(0)),
     ];
     puts(&rt, rt.alloc(), Count::new(1, b"cnt", None, None), &rows);
 }
@@ -233,13 +193,18 @@ fn line_gathers_lines_of_band_0(rt: HostRuntime) {
     puts(&rt, alloc, Line::new(alloc, 1, b"ln", None, None), &rows);
 }
 
+const A_96: &[u8] = &[b'a'; 96];
+
+const A_4096: &[u8] = &[b'a'; 4096];
+
+const A_4097: &[u8] = &[b'a'; 4097];
+
 #[test]
 fn line_keeps_at_most_4096_bytes(rt: HostRuntime) {
     let alloc = rt.alloc();
-    let more = Data(0, &[b'a'; 96]);
-    let all = Sends(Rd, Data(0, &[b'a'; 4097]));
+    let all = Sends(Rd, Data(0, A_4097));
     let rows = [
-        (Rd, more, Nothing, Partial(&[b'a'; 4096])),
+        (Rd, Data(0, A_96), Nothing, Partial(A_4096)),
         (Rd, Data(0, b"a"), all, Partial(b"")),
     ];
     let mut it = plain(&rt, line(&rt, alloc, &[b'a'; 4000]), None);
@@ -278,14 +243,14 @@ fn crnl_changes_ends_of_lines(rt: HostRuntime) {
 #[test]
 fn table_maps_data_and_answers(rt: HostRuntime) {
     let mapped = Sends(Wr, Data(2, b"CAd"));
-    let told = Sends(Rd, Ack(3, Some(b"CAB")));
+    let told = Sends(Rd, Ack(7, 3, Some(b"CAB")));
     let rows = [
         (Wr, Data(2, b"cad"), mapped, Same),
         (Rd, Data(2, b"cad"), GoesOn, Same),
-        (Wr, Ioctl(3, Some(b"cab")), told, Same),
-        (Wr, Ioctl(3, None), Sends(Rd, Ack(0, None)), Same),
-        (Wr, Ioctl(4, Some(b"cab")), GoesOn, Same),
-        (Wr, Proto(1, b"cab"), GoesOn, Same),
+        (Wr, Ioctl(7, 3, Some(b"cab")), told, Same),
+        (Wr, Ioctl(7, 3, None), Sends(Rd, Ack(7, 0, None)), Same),
+        (Wr, Ioctl(7, 4, Some(b"cab")), GoesOn, Same),
+        (Wr, Proto(1, b"cab", None), GoesOn, Same),
     ];
     let table = Table::new(1, b"up", None, None, capitals());
     puts(&rt, rt.alloc(), table, &rows);
@@ -301,9 +266,14 @@ fn tee_sends_its_copy_first(rt: HostRuntime) {
 fn band_gives_its_band(rt: HostRuntime) {
     let rows = [
         (Wr, Data(2, b"x"), Sends(Wr, Data(7, b"x")), Same),
-        (Wr, Proto(2, b"p"), Sends(Wr, Proto(7, b"p")), Same),
+        (
+            Wr,
+            Proto(2, b"p", None),
+            Sends(Wr, Proto(7, b"p", None)),
+            Same,
+        ),
         (Rd, Data(2, b"x"), GoesOn, Same),
-        (Rd, Proto(2, b"p"), GoesOn, Same),
+        (Rd, Proto(2, b"p", None), GoesOn, Same),
     ];
     puts(&rt, rt.alloc(), Band::new(1, b"v", None, None, 7), &rows);
 }
@@ -336,10 +306,10 @@ fn each_kind_queues_ordinary_messages_alone(rt: HostRuntime) {
     let alloc = rt.alloc();
     let put = [
         (Rd, Data(0, b"x\n"), Waits, Same),
-        (Wr, Ioctl(3, None), Waits, Same),
+        (Wr, Ioctl(7, 3, None), Waits, Same),
         (Rd, Hangup, GoesOn, Same),
     ];
-    let served = [(Wr, Ioctl(99, None), GoesOn, Same)];
+    let served = [(Wr, Ioctl(7, 99, None), GoesOn, Same)];
     for kind in one_of_each(&rt, alloc) {
         let mut it = plain(&rt, kind, MARKS);
         play(&rt, alloc, &mut it, Call::Put, &put);

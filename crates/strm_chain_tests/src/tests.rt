@@ -8,8 +8,8 @@ use std::process::Abort;
 use std::sync::Arc;
 use std::sync::atomic::{AtomicU64, Ordering};
 use strm_chain::{Chain, ChainFault, Driver, Place, Spot};
-use strm_module::{Boxed, Instance, Kind, Kinds, ModuleOf, Plain, Shape};
-use strm_msg::{Bytes, End, Errno, Message, Prot, ReadMode};
+use strm_module::{Boxed, Instance, Kind, Kinds, Module, ModuleOf, Plain, Shape};
+use strm_msg::{Bytes, End, Errno, Message, NoMem, Prot, ReadMode};
 use strm_queue::Marks;
 
 mod enabled;
@@ -197,6 +197,14 @@ fn message(rt: &impl Abort, alloc: Global, sample: Sample) -> Message {
     .expect(rt, "no memory for a message")
 }
 
+/// The message that is wanted, if any is.
+fn wanted(rt: &impl Abort, alloc: Global, want: Option<Sample>) -> Option<Message> {
+    match want {
+        Some(want) => Some(message(rt, alloc, want)),
+        None => None,
+    }
+}
+
 /// What objects write on, each by a handle of its own.
 type Log = Arc<AtomicU64, Global>;
 
@@ -225,15 +233,22 @@ fn shaped<K: Kinds>(
     Shape::new(serial, name, rd, wr, kind).expect(rt, "a good name and good marks")
 }
 
-/// A chain for modules of some type.
+/// What was made, in a box.
+fn in_box<T: Drop>(rt: &impl Abort, alloc: Global, made: Result<T, NoMem>) -> Box<T> {
+    let value = made.expect(rt, "no memory for what a box holds");
+    Box::new(alloc, value).expect(rt, "no memory for a box")
+}
+
+/// A chain for modules of some type. It stands in a box, as a function that holds all of it takes long to
+/// prove.
 fn chain_over<M: ModuleOf>(
     rt: &impl Abort,
     alloc: Global,
     driver: Driver,
     (hi, lo): (u32, u32),
-) -> Chain<M> {
+) -> Box<Chain<M>> {
     let marks = Marks::new(hi, lo).expect(rt, "the low mark is below the high one");
-    Chain::new(alloc, driver, marks, marks).expect(rt, "no memory for a chain")
+    in_box(rt, alloc, Chain::new(alloc, driver, marks, marks))
 }
 
 fn kind(pushes: Pushes) -> Kind {
@@ -253,15 +268,21 @@ fn shape_of(rt: &impl Abort, serial: u64, pushes: Pushes, (rd, wr): (bool, bool)
     shaped(rt, serial, b"m", (rd, wr), kind(pushes))
 }
 
+/// A module, as a chain takes it.
+fn boxed<M: Module>(rt: &impl Abort, alloc: Global, shape: Shape, object: M) -> Boxed<M> {
+    Boxed::new(alloc, Instance::new(shape, object)).expect(rt, "no memory for a box")
+}
+
+/// Puts a module in at an end.
+fn inserts<M: ModuleOf>(chain: &mut Chain<M>, end: End, instance: Boxed<M>) -> bool {
+    chain.insert(end, instance).is_ok()
+}
+
 /// Pushes a module with a queue for each side that is named.
 fn push(rt: &impl Abort, chain: &mut Chain<Plain>, end: End, pushes: Pushes, queues: (bool, bool)) {
     let shape = shape_of(rt, 1, pushes, queues);
-    let boxed = Boxed::new(chain.alloc(), Instance::new(shape, Plain));
-    assert!(rt;
-        chain
-            .insert(end, boxed.expect(rt, "no memory for a box"))
-            .is_ok()
-    );
+    let instance = boxed(rt, chain.alloc(), shape, Plain);
+    assert!(rt; inserts(chain, end, instance));
 }
 
 /// Makes calls in turn, counted from 0.

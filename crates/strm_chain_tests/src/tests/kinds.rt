@@ -48,7 +48,7 @@ pub(super) enum Keeps {
 }
 
 /// A message that comes on a side, what is answered, and what is kept then.
-type Row = (Side, Sample, Want, Keeps);
+pub(super) type Row = (Side, Sample, Want, Keeps);
 
 fn line(rt: &impl Abort, alloc: Global, partial: &[u8]) -> Kind {
     Kind::Line {
@@ -137,6 +137,18 @@ pub(super) fn play<M: Module>(
     }
 }
 
+/// A module is put each message of a table, and serves each of another.
+fn play_both<M: Module>(
+    rt: &impl Abort,
+    alloc: Global,
+    mut it: Instance<M>,
+    put: &[Row],
+    served: &[Row],
+) {
+    play(rt, alloc, &mut it, Call::Put, put);
+    play(rt, alloc, &mut it, Call::Serve, served);
+}
+
 /// A new module is put each message of a table.
 fn puts<M: Module>(
     rt: &impl Abort,
@@ -157,134 +169,174 @@ const MARKS: Option<(u32, u32)> = Some((5, 4));
 
 pub(super) const X: Sample = Data(0, b"x");
 
+const TOLD: Want = Sends(Rd, Ack(7, 1, None));
+
+const COUNTED: &[Row] = &[
+    (Wr, X, GoesOn, Counted(1)),
+    (Wr, Ioctl(7, 1, None), TOLD, Counted(1)),
+    (Wr, Ioctl(7, 2, None), TOLD, Counted(0)),
+];
+
 #[test]
 fn count_counts_what_is_put(rt: HostRuntime) {
-    let told = Sends(Rd, Ack(7, 1, None));
-    let rows = [
-        (Wr, X, GoesOn, Counted(1)),
-        (Wr, Ioctl(7, 1, None), told, Counted(1)),
-        (Wr, Ioctl(7, 2, None), told, Counted(0)),
-    ];
-    puts(&rt, rt.alloc(), Count::new(1, b"cnt", None, None), &rows);
+    puts(&rt, rt.alloc(), Count::new(1, b"cnt", None, None), COUNTED);
 }
+
+const NOT_COUNTED_YET: &[Row] = &[(Wr, X, Waits, Counted(0))];
+
+const COUNTED_WHERE_SERVED: &[Row] = &[(Wr, X, GoesOn, Counted(1))];
 
 #[test]
 fn count_with_a_queue_counts_what_is_served(rt: HostRuntime) {
-    let alloc = rt.alloc();
-    let mut count = made(&rt, Count::new(1, b"cnt", None, MARKS));
-    let put = [(Wr, X, Waits, Counted(0))];
-    play(&rt, alloc, &mut count, Call::Put, &put);
-    let served = [(Wr, X, GoesOn, Counted(1))];
-    play(&rt, alloc, &mut count, Call::Serve, &served);
+    let count = made(&rt, Count::new(1, b"cnt", None, MARKS));
+    play_both(
+        &rt,
+        rt.alloc(),
+        count,
+        NOT_COUNTED_YET,
+        COUNTED_WHERE_SERVED,
+    );
 }
+
+const FIRST: Want = Sends(Rd, Data(0, b"abc\n"));
+
+const THREE: Want = Sends(Rd, Data(0, b"d\n\ne\n"));
+
+const GATHERED: &[Row] = &[
+    (Rd, Data(0, b"ab"), Nothing, Partial(b"ab")),
+    (Rd, Data(0, b"c\nd"), FIRST, Partial(b"d")),
+    (Rd, Data(3, b"e\nf"), GoesOn, Same),
+    (Wr, Data(0, b"e\nf"), GoesOn, Same),
+    (Rd, Data(0, b"\n\ne\n"), THREE, Partial(b"")),
+];
 
 #[test]
 fn line_gathers_lines_of_band_0(rt: HostRuntime) {
     let alloc = rt.alloc();
-    let first = Sends(Rd, Data(0, b"abc\n"));
-    let three = Sends(Rd, Data(0, b"d\n\ne\n"));
-    let rows = [
-        (Rd, Data(0, b"ab"), Nothing, Partial(b"ab")),
-        (Rd, Data(0, b"c\nd"), first, Partial(b"d")),
-        (Rd, Data(3, b"e\nf"), GoesOn, Same),
-        (Wr, Data(0, b"e\nf"), GoesOn, Same),
-        (Rd, Data(0, b"\n\ne\n"), three, Partial(b"")),
-    ];
-    puts(&rt, alloc, Line::new(alloc, 1, b"ln", None, None), &rows);
+    puts(&rt, alloc, Line::new(alloc, 1, b"ln", None, None), GATHERED);
 }
 
 const A_96: &[u8] = &[b'a'; 96];
+
+const A_4000: &[u8] = &[b'a'; 4000];
 
 const A_4096: &[u8] = &[b'a'; 4096];
 
 const A_4097: &[u8] = &[b'a'; 4097];
 
+/// What a gathering module is put that keeps 4000 bytes.
+const MOST: &[Row] = &[
+    (Rd, Data(0, A_96), Nothing, Partial(A_4096)),
+    (Rd, Data(0, b"a"), Sends(Rd, Data(0, A_4097)), Partial(b"")),
+];
+
+/// A gathering module that keeps a partial line is put each message of a table.
+fn gathers(
+    rt: &impl Abort,
+    alloc: Global,
+    partial: &[u8],
+    marks: Option<(u32, u32)>,
+    rows: &[Row],
+) {
+    let mut it = plain(rt, line(rt, alloc, partial), marks);
+    play(rt, alloc, &mut it, Call::Put, rows);
+}
+
 #[test]
 fn line_keeps_at_most_4096_bytes(rt: HostRuntime) {
-    let alloc = rt.alloc();
-    let all = Sends(Rd, Data(0, A_4097));
-    let rows = [
-        (Rd, Data(0, A_96), Nothing, Partial(A_4096)),
-        (Rd, Data(0, b"a"), all, Partial(b"")),
-    ];
-    let mut it = plain(&rt, line(&rt, alloc, &[b'a'; 4000]), None);
-    play(&rt, alloc, &mut it, Call::Put, &rows);
+    gathers(&rt, rt.alloc(), A_4000, None, MOST);
 }
+
+const FLUSHED: &[&[Row]] = &[
+    &[(Wr, Flush(true, false, None), GoesOn, Partial(b""))],
+    &[(Wr, Flush(true, true, Some(0)), GoesOn, Partial(b""))],
+    &[(Wr, Flush(true, true, Some(1)), GoesOn, Same)],
+    &[(Wr, Flush(false, true, None), GoesOn, Same)],
+    &[(Wr, Flush(false, true, Some(0)), GoesOn, Same)],
+];
 
 #[test]
 fn flush_empties_a_partial_line(rt: HostRuntime) {
-    let alloc = rt.alloc();
-    for (flush, keeps) in [
-        (Flush(true, false, None), Partial(b"")),
-        (Flush(true, true, Some(0)), Partial(b"")),
-        (Flush(true, true, Some(1)), Same),
-        (Flush(false, true, None), Same),
-        (Flush(false, true, Some(0)), Same),
-    ] {
-        let mut it = plain(&rt, line(&rt, alloc, b"ab"), MARKS);
-        let rows = [(Wr, flush, GoesOn, keeps)];
-        play(&rt, alloc, &mut it, Call::Put, &rows);
+    for rows in FLUSHED {
+        gathers(&rt, rt.alloc(), b"ab", MARKS, rows);
     }
 }
 
+const TO_LF: Want = Sends(Rd, Data(0, b"a\nb\r"));
+
+const LAST_CR: Want = Sends(Rd, Data(2, b"\r\n\n\ra"));
+
+const ENDS_OF_LINES: &[Row] = &[
+    (Wr, Data(0, b"a\nb"), Sends(Wr, Data(0, b"a\r\nb")), Same),
+    (Wr, Data(2, b"\r\n"), Sends(Wr, Data(2, b"\r\r\n")), Same),
+    (Rd, Data(0, b"a\r\nb\r"), TO_LF, Same),
+    (Rd, Data(2, b"\r\r\n\n\ra"), LAST_CR, Same),
+];
+
 #[test]
 fn crnl_changes_ends_of_lines(rt: HostRuntime) {
-    let to_lf = Sends(Rd, Data(0, b"a\nb\r"));
-    let last_cr = Sends(Rd, Data(2, b"\r\n\n\ra"));
-    let rows = [
-        (Wr, Data(0, b"a\nb"), Sends(Wr, Data(0, b"a\r\nb")), Same),
-        (Wr, Data(2, b"\r\n"), Sends(Wr, Data(2, b"\r\r\n")), Same),
-        (Rd, Data(0, b"a\r\nb\r"), to_lf, Same),
-        (Rd, Data(2, b"\r\r\n\n\ra"), last_cr, Same),
-    ];
-    puts(&rt, rt.alloc(), CrNl::new(1, b"c", None, None), &rows);
+    puts(
+        &rt,
+        rt.alloc(),
+        CrNl::new(1, b"c", None, None),
+        ENDS_OF_LINES,
+    );
 }
+
+const MAPPED: Want = Sends(Wr, Data(2, b"CAd"));
+
+const ANSWERED: Want = Sends(Rd, Ack(7, 3, Some(b"CAB")));
+
+/// What a module is put that makes capitals.
+const CAPITALS: &[Row] = &[
+    (Wr, Data(2, b"cad"), MAPPED, Same),
+    (Rd, Data(2, b"cad"), GoesOn, Same),
+    (Wr, Ioctl(7, 3, Some(b"cab")), ANSWERED, Same),
+    (Wr, Ioctl(7, 3, None), Sends(Rd, Ack(7, 0, None)), Same),
+    (Wr, Ioctl(7, 4, Some(b"cab")), GoesOn, Same),
+    (Wr, Proto(1, b"cab", None), GoesOn, Same),
+];
 
 #[test]
 fn table_maps_data_and_answers(rt: HostRuntime) {
-    let mapped = Sends(Wr, Data(2, b"CAd"));
-    let told = Sends(Rd, Ack(7, 3, Some(b"CAB")));
-    let rows = [
-        (Wr, Data(2, b"cad"), mapped, Same),
-        (Rd, Data(2, b"cad"), GoesOn, Same),
-        (Wr, Ioctl(7, 3, Some(b"cab")), told, Same),
-        (Wr, Ioctl(7, 3, None), Sends(Rd, Ack(7, 0, None)), Same),
-        (Wr, Ioctl(7, 4, Some(b"cab")), GoesOn, Same),
-        (Wr, Proto(1, b"cab", None), GoesOn, Same),
-    ];
     let table = Table::new(1, b"up", None, None, capitals());
-    puts(&rt, rt.alloc(), table, &rows);
+    puts(&rt, rt.alloc(), table, CAPITALS);
 }
+
+const COPIED_UP: &[Row] = &[(Wr, X, Twice, Same), (Rd, X, GoesOn, Same)];
 
 #[test]
 fn tee_sends_its_copy_first(rt: HostRuntime) {
-    let rows = [(Wr, X, Twice, Same), (Rd, X, GoesOn, Same)];
-    puts(&rt, rt.alloc(), Tee::new(1, b"t", None, None), &rows);
+    puts(&rt, rt.alloc(), Tee::new(1, b"t", None, None), COPIED_UP);
 }
+
+const P_OF_7: Want = Sends(Wr, Proto(7, b"p", None));
+
+const OF_BAND_7: &[Row] = &[
+    (Wr, Data(2, b"x"), Sends(Wr, Data(7, b"x")), Same),
+    (Wr, Proto(2, b"p", None), P_OF_7, Same),
+    (Rd, Data(2, b"x"), GoesOn, Same),
+    (Rd, Proto(2, b"p", None), GoesOn, Same),
+];
 
 #[test]
 fn band_gives_its_band(rt: HostRuntime) {
-    let rows = [
-        (Wr, Data(2, b"x"), Sends(Wr, Data(7, b"x")), Same),
-        (
-            Wr,
-            Proto(2, b"p", None),
-            Sends(Wr, Proto(7, b"p", None)),
-            Same,
-        ),
-        (Rd, Data(2, b"x"), GoesOn, Same),
-        (Rd, Proto(2, b"p", None), GoesOn, Same),
-    ];
-    puts(&rt, rt.alloc(), Band::new(1, b"v", None, None, 7), &rows);
+    puts(
+        &rt,
+        rt.alloc(),
+        Band::new(1, b"v", None, None, 7),
+        OF_BAND_7,
+    );
 }
+
+const DROPPED: &[Row] = &[(Wr, X, Nothing, Same), (Rd, X, GoesOn, Same)];
+
+const SENT: &[Row] = &[(Wr, X, GoesOn, Same), (Rd, X, GoesOn, Same)];
 
 #[test]
 fn mute_drops_data_and_pass_sends_it(rt: HostRuntime) {
-    let alloc = rt.alloc();
-    let rows = [(Wr, X, Nothing, Same), (Rd, X, GoesOn, Same)];
-    puts(&rt, alloc, Mute::new(1, b"u", None, None), &rows);
-    let rows = [(Wr, X, GoesOn, Same), (Rd, X, GoesOn, Same)];
-    puts(&rt, alloc, Pass::new(2, b"p", None, None), &rows);
+    puts(&rt, rt.alloc(), Mute::new(1, b"u", None, None), DROPPED);
+    puts(&rt, rt.alloc(), Pass::new(2, b"p", None, None), SENT);
 }
 
 /// One kind of each, with something kept where there is something to keep.
@@ -301,26 +353,27 @@ fn one_of_each(rt: &impl Abort, alloc: Global) -> [Kind; 8] {
     ]
 }
 
+const ORDINARY_WAIT: &[Row] = &[
+    (Rd, Data(0, b"x\n"), Waits, Same),
+    (Wr, Ioctl(7, 3, None), Waits, Same),
+    (Rd, Hangup, GoesOn, Same),
+];
+
+const SERVED: &[Row] = &[(Wr, Ioctl(7, 99, None), GoesOn, Same)];
+
 #[test]
 fn each_kind_queues_ordinary_messages_alone(rt: HostRuntime) {
     let alloc = rt.alloc();
-    let put = [
-        (Rd, Data(0, b"x\n"), Waits, Same),
-        (Wr, Ioctl(7, 3, None), Waits, Same),
-        (Rd, Hangup, GoesOn, Same),
-    ];
-    let served = [(Wr, Ioctl(7, 99, None), GoesOn, Same)];
     for kind in one_of_each(&rt, alloc) {
-        let mut it = plain(&rt, kind, MARKS);
-        play(&rt, alloc, &mut it, Call::Put, &put);
-        play(&rt, alloc, &mut it, Call::Serve, &served);
+        play_both(&rt, alloc, plain(&rt, kind, MARKS), ORDINARY_WAIT, SERVED);
     }
 }
 
+const READ_WAITS: &[Row] = &[(Rd, X, Waits, Same), (Wr, X, GoesOn, Same)];
+
 #[test]
 fn side_without_marks_has_no_queue(rt: HostRuntime) {
-    let rows = [(Rd, X, Waits, Same), (Wr, X, GoesOn, Same)];
-    puts(&rt, rt.alloc(), Pass::new(1, b"p", MARKS, None), &rows);
+    puts(&rt, rt.alloc(), Pass::new(1, b"p", MARKS, None), READ_WAITS);
 }
 
 const EQUAL: Option<(u32, u32)> = Some((4, 4));
@@ -348,19 +401,31 @@ const FAULTS: &[(
 #[test]
 fn faults_are_for_the_name_first(rt: HostRuntime) {
     for (at, (name, rd, wr, fault)) in FAULTS.iter().enumerate() {
-        let made = Pass::new(1, name, *rd, *wr);
-        assert!(rt; made.err() == *fault, "row {at}");
+        let found = Pass::new(1, name, *rd, *wr).err();
+        assert!(rt; found == *fault, "row {at}");
     }
+}
+
+const BAD_NAME: &str = "a module's name must be 1 to 8 letters, digits or `_`";
+
+const BAD_MARKS: &str = "the low mark of a queue must be below its high mark";
+
+/// A fault, its number, and its text.
+const WORDS: &[(MakeFault, u8, &str)] = &[
+    (MakeFault::Name, 1, BAD_NAME),
+    (MakeFault::Marks, 2, BAD_MARKS),
+];
+
+fn is_said(rt: &impl Abort, alloc: Global, fault: MakeFault, words: &str) -> bool {
+    let text = fault.to_string(alloc).expect(rt, "no memory");
+    text.as_str() == words
 }
 
 #[test]
 fn faults_have_numbers_and_words(rt: HostRuntime) {
-    let name = "a module's name must be 1 to 8 letters, digits or `_`";
-    let marks = "the low mark of a queue must be below its high mark";
-    for (fault, number, words) in [(MakeFault::Name, 1, name), (MakeFault::Marks, 2, marks)] {
-        assert_eq!(rt; fault.number(), number);
-        let text = fault.to_string(rt.alloc()).expect(&rt, "no memory");
-        assert_eq!(rt; text.as_str(), words);
+    for (fault, number, words) in WORDS {
+        assert!(rt; fault.number() == *number, "{words}");
+        assert!(rt; is_said(&rt, rt.alloc(), *fault, words), "{words}");
     }
 }
 

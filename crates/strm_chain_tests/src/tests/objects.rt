@@ -1,15 +1,16 @@
 //! Objects that can be told apart: which of them is asked, and which comes back.
 use super::Call::{Deliver, HeadLen, Serve, Settle, Write};
 use super::{
-    Call, DRV_A, FIVE, Log, Pushes, RD_1, RD_2, Sample, WR_1, WR_2, chain_over, faults, held,
-    logged, new_log, owners, shape_of, steps,
+    Call, DRV_A, FIVE, Log, Pushes, RD_1, RD_2, Sample, WR_1, WR_2, boxed, chain_over, faults,
+    held, inserts, logged, new_log, owners, shape_of, steps,
 };
 use Ask::{Dismantle, Do, Push, Remove};
+use arrayvec::ArrayVec;
 use std::alloc::Global;
 use std::process::Abort;
 use std::sync::atomic::Ordering;
-use strm_chain::{Chain, Driver, Spot};
-use strm_module::{Boxed, Instance, Kind, Module, Outs, Put, Shape};
+use strm_chain::{Chain, Driver, MOST_MODULES, Spot};
+use strm_module::{Boxed, Kind, Module, Outs, Put, Shape};
 use strm_msg::{End, Message, NoMem, Side};
 
 // What was asked of the objects 1 to 3 stands on a log, in order, a digit for each call: the object's number
@@ -142,19 +143,34 @@ fn with_object(
         refused_put,
         refused_serve,
     };
-    let boxed: Box<dyn Module> = Box::new(alloc, told).expect(rt, "no memory for a box");
-    let instance = Instance::new(shape_of(rt, serial, object.pushes, object.queues), boxed);
-    Boxed::new(alloc, instance).expect(rt, "no memory for a box")
+    let told: Box<dyn Module> = Box::new(alloc, told).expect(rt, "no memory for a box");
+    let shape = shape_of(rt, serial, object.pushes, object.queues);
+    boxed(rt, alloc, shape, told)
+}
+
+/// Hands a module in that stays.
+fn stays(
+    rt: &impl Abort,
+    chain: &mut Boxes,
+    log: &Log,
+    end: End,
+    numbers: (u64, u64),
+    object: Object,
+) -> bool {
+    let instance = with_object(rt, chain.alloc(), log, numbers, object);
+    inserts(chain, end, instance)
 }
 
 /// Hands a module in that comes back, with nothing closed.
 fn comes_back(
+    rt: &impl Abort,
     chain: &mut Boxes,
     log: &Log,
     end: End,
-    serial: u64,
-    instance: Boxed<Box<dyn Module>>,
+    (serial, number): (u64, u64),
+    object: Object,
 ) -> bool {
+    let instance = with_object(rt, chain.alloc(), log, (serial, number), object);
     let before = logged(log);
     match chain.insert(end, instance) {
         Ok(()) => false,
@@ -188,10 +204,18 @@ fn removes(chain: &mut Boxes, log: &Log, serial: u64) -> bool {
     }
 }
 
+/// All that stood in an end, topmost first.
+fn taken_out(
+    chain: &mut Boxes,
+    end: End,
+) -> ArrayVec<Option<Boxed<Box<dyn Module>>>, MOST_MODULES> {
+    chain.dismantle(end)
+}
+
 /// All come out, and are dropped.
 fn clears(chain: &mut Boxes, log: &Log, end: End, want: usize) -> bool {
     let before = logged(log);
-    let instances = chain.dismantle(end);
+    let instances = taken_out(chain, end);
     instances.len() == want && logged(log) == before
 }
 
@@ -210,7 +234,7 @@ fn closes(log: &Log, instance: Option<Boxed<Box<dyn Module>>>, (serial, want): (
 /// All come out, and are dropped one after the other.
 fn dismantles(rt: &impl Abort, chain: &mut Boxes, log: &Log, wants: &[(u64, u64)]) -> bool {
     let before = logged(log);
-    let instances = chain.dismantle(End::A);
+    let instances = taken_out(chain, End::A);
     let is_so = instances.len() == wants.len() && logged(log) == before;
     for (instance, want) in instances.into_iter().zip(wants.iter()) {
         assert!(rt; closes(log, instance, *want));
@@ -220,16 +244,13 @@ fn dismantles(rt: &impl Abort, chain: &mut Boxes, log: &Log, wants: &[(u64, u64)
 
 /// Does a step, and says whether it came to what it must.
 fn asks(rt: &impl Abort, chain: &mut Boxes, log: &Log, ask: Ask) -> bool {
-    let alloc = chain.alloc();
     match ask {
         Ask::Do(call) => steps::acts(rt, chain, call),
         Ask::Push(end, serial, number, object) => {
-            let instance = with_object(rt, alloc, log, (serial, number), object);
-            chain.insert(end, instance).is_ok()
+            stays(rt, chain, log, end, (serial, number), object)
         }
         Ask::Refused(end, serial, number, object) => {
-            let instance = with_object(rt, alloc, log, (serial, number), object);
-            comes_back(chain, log, end, serial, instance)
+            comes_back(rt, chain, log, end, (serial, number), object)
         }
         Ask::Counted(n) => has_counted(chain, n),
         Ask::Remove(serial) => removes(chain, log, serial),
@@ -249,7 +270,7 @@ fn tell(rt: &impl Abort, chain: &mut Boxes, log: &Log, name: &str, rows: &[(Ask,
 
 fn tell_story(rt: &impl Abort, alloc: Global, story: Story<'_>) {
     let log = new_log(rt, alloc);
-    let mut chain = chain_over(rt, alloc, story.driver, FIVE);
+    let mut chain: Box<Boxes> = chain_over(rt, alloc, story.driver, FIVE);
     tell(rt, &mut chain, &log, story.name, story.asks);
     drop(chain);
     let want = story.end.unwrap_or(logged(&log));
@@ -375,27 +396,32 @@ const TWO_ARE_PUT_IN: &[(Ask, u64)] = &[
     (Push(End::A, 2, 2, NO_QUEUE), 0),
 ];
 
+const ONE_IS_IN_ANOTHER: &[(Ask, u64)] = &[(Do(Write(b"x")), 2)];
+
+const ONE_IS_LEFT: &[(Ask, u64)] = &[(Do(Write(b"x")), 21)];
+
+/// The topmost module of end A goes from one chain to the other.
+fn moves(from: &mut Boxes, to: &mut Boxes) -> bool {
+    match from.remove(End::A) {
+        Some(instance) => inserts(to, End::A, instance),
+        None => false,
+    }
+}
+
 #[test]
 fn object_goes_on_in_another_chain(rt: HostRuntime) {
     let alloc = rt.alloc();
     let log = new_log(&rt, alloc);
-    let mut first: Boxes = chain_over(&rt, alloc, Driver::Echo, FIVE);
-    let mut second: Boxes = chain_over(&rt, alloc, Driver::Echo, FIVE);
+    let mut first: Box<Boxes> = chain_over(&rt, alloc, Driver::Echo, FIVE);
+    let mut second: Box<Boxes> = chain_over(&rt, alloc, Driver::Echo, FIVE);
     tell(&rt, &mut first, &log, "two are put in", TWO_ARE_PUT_IN);
-    let moved = first.remove(End::A).expect(&rt, "a module");
-    assert!(rt; second.insert(End::A, moved).is_ok());
+    assert!(rt; moves(&mut first, &mut second));
     tell(
         &rt,
         &mut second,
         &log,
         "in another chain",
-        &[(Do(Write(b"x")), 2)],
+        ONE_IS_IN_ANOTHER,
     );
-    tell(
-        &rt,
-        &mut first,
-        &log,
-        "in the first chain",
-        &[(Do(Write(b"x")), 21)],
-    );
+    tell(&rt, &mut first, &log, "in the first chain", ONE_IS_LEFT);
 }

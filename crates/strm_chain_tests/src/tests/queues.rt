@@ -1,6 +1,6 @@
 //! Queues of messages, with the marks 16 and 4: examples of calls and what they answer, in order.
 use super::Sample::{Ack, Data, Error, Flush, Hangup, Ioctl, Nak, Pcproto, Proto};
-use super::{Sample, message};
+use super::{Sample, message, wanted};
 use Step::{
     At, First, FlushAll, FlushBand, Get, HasBand, HasPcproto, Held, Holds, Len, Level, MakeRoom,
     Put, PutBack,
@@ -215,14 +215,6 @@ const ROOM: [Example; 5] = [
     ),
 ];
 
-/// The message that is wanted, if any is.
-fn wanted(rt: &impl Abort, alloc: Global, want: Option<Sample>) -> Option<Message> {
-    match want {
-        Some(want) => Some(message(rt, alloc, want)),
-        None => None,
-    }
-}
-
 /// Whether that is the message, or there is none where none is wanted.
 fn is(rt: &impl Abort, alloc: Global, found: Option<&Message>, want: Option<Sample>) -> bool {
     found == wanted(rt, alloc, want).as_ref()
@@ -232,11 +224,16 @@ fn gets(rt: &impl Abort, alloc: Global, q: &mut BandQueue, want: Option<Sample>)
     q.get() == wanted(rt, alloc, want)
 }
 
+/// Whether the message is the first, and is taken.
+fn takes(rt: &impl Abort, alloc: Global, q: &mut BandQueue, want: Sample) -> bool {
+    let is_first = is(rt, alloc, q.first(), Some(want));
+    gets(rt, alloc, q, Some(want)) & is_first
+}
+
 fn holds(rt: &impl Abort, alloc: Global, q: &mut BandQueue, wanted: &[Sample]) -> bool {
     let mut same = q.len() == wanted.len();
     for want in wanted {
-        let first = is(rt, alloc, q.first(), Some(*want));
-        same = gets(rt, alloc, q, Some(*want)) && first && same;
+        same &= takes(rt, alloc, q, *want);
     }
     same && q.is_empty()
 }
@@ -283,15 +280,17 @@ fn puts(rt: &impl Abort, alloc: Global, q: &mut BandQueue, sample: Sample) -> bo
     q.put(message(rt, alloc, sample)).is_ok()
 }
 
-fn put_all(rt: &impl Abort, alloc: Global, q: &mut BandQueue, samples: &[Sample]) {
-    for (i, sample) in samples.iter().enumerate() {
-        assert!(rt; puts(rt, alloc, q, *sample), "put {i}");
+fn puts_all(rt: &impl Abort, alloc: Global, q: &mut BandQueue, samples: &[Sample]) -> bool {
+    let mut are_put = true;
+    for sample in samples {
+        are_put &= puts(rt, alloc, q, *sample);
     }
+    are_put
 }
 
 fn play_one(rt: &impl Abort, alloc: Global, (name, puts, steps): Example) {
     let mut q = new(rt, alloc);
-    put_all(rt, alloc, &mut q, puts);
+    assert!(rt; puts_all(rt, alloc, &mut q, puts), "{name}");
     play(rt, alloc, name, &mut q, steps);
 }
 
@@ -322,17 +321,20 @@ fn marks_are_made_of_a_lower_and_a_higher_one(rt: HostRuntime) {
     }
 }
 
-fn put_in_each_band(rt: &impl Abort, alloc: Global, q: &mut BandQueue) {
+fn puts_in_each_band(rt: &impl Abort, alloc: Global, q: &mut BandQueue) -> bool {
+    let mut are_put = true;
     for band in 0..=255_u8 {
-        assert!(rt; puts(rt, alloc, q, Data(band, b"x")), "band {band}");
+        are_put &= puts(rt, alloc, q, Data(band, b"x"));
     }
+    are_put
 }
 
-fn get_from_each_band_below_255(rt: &impl Abort, alloc: Global, q: &mut BandQueue) {
+fn gets_from_each_band_below_255(rt: &impl Abort, alloc: Global, q: &mut BandQueue) -> bool {
+    let mut are_got = true;
     for band in (0..=254_u8).rev() {
-        let x = Some(Data(band, b"x"));
-        assert!(rt; gets(rt, alloc, q, x), "band {band}");
+        are_got &= gets(rt, alloc, q, Some(Data(band, b"x")));
     }
+    are_got
 }
 
 const BETWEEN: [Step; 7] = [
@@ -351,9 +353,9 @@ const BETWEEN: [Step; 7] = [
 fn a_message_in_each_band(rt: HostRuntime) {
     let alloc = rt.alloc();
     let mut q = new(&rt, alloc);
-    put_in_each_band(&rt, alloc, &mut q);
+    assert!(rt; puts_in_each_band(&rt, alloc, &mut q));
     play(&rt, alloc, "between", &mut q, &BETWEEN);
-    get_from_each_band_below_255(&rt, alloc, &mut q);
+    assert!(rt; gets_from_each_band_below_255(&rt, alloc, &mut q));
     assert!(rt; gets(&rt, alloc, &mut q, None));
 }
 
@@ -372,13 +374,19 @@ const ROUND: [Step; 9] = [
     Len(1),
 ];
 
+const ROUNDS: &[(&str, &[Step])] = &[
+    ("low", &[Put(LOW)]),
+    ("round 0", &ROUND),
+    ("round 1", &ROUND),
+    ("round 2", &ROUND),
+    ("end", &[First(Some(LOW))]),
+];
+
 #[test]
 fn a_band_that_ran_empty_is_used_again(rt: HostRuntime) {
     let alloc = rt.alloc();
     let mut q = new(&rt, alloc);
-    play(&rt, alloc, "low", &mut q, &[Put(LOW)]);
-    for name in ["round 0", "round 1", "round 2"] {
-        play(&rt, alloc, name, &mut q, &ROUND);
+    for (name, steps) in ROUNDS {
+        play(&rt, alloc, name, &mut q, steps);
     }
-    play(&rt, alloc, "end", &mut q, &[First(Some(LOW))]);
 }

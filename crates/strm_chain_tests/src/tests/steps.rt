@@ -1,9 +1,9 @@
 //! What a call of a table does, and whether it answers what it must.
-use super::{Call, Sample, TOP_A, message};
+use super::{Call, Sample, TOP_A, message, wanted};
 use std::process::Abort;
 use strm_chain::{Chain, ChainFault, Driver, Place, Spot};
 use strm_module::ModuleOf;
-use strm_msg::{Class, End};
+use strm_msg::{Class, End, Prot, ReadMode};
 
 /// Hands a message in, and says whether the answer is this.
 fn puts<M: ModuleOf>(
@@ -40,9 +40,8 @@ fn settles<M: ModuleOf>(chain: &mut Chain<M>, moves: &[Place], looks: u64) -> bo
 /// An ordinary message comes in from the line.
 fn comes<M: ModuleOf>(rt: &impl Abort, chain: &mut Chain<M>, sample: Sample) -> bool {
     let m = message(rt, chain.alloc(), sample);
-    if chain.driver() != Driver::Line || m.class() != Class::Ordinary {
-        return false;
-    }
+    assert!(rt; chain.driver() == Driver::Line);
+    assert!(rt; m.class() == Class::Ordinary);
     chain.line_put(m).is_ok()
 }
 
@@ -90,11 +89,8 @@ fn undoes<M: ModuleOf>(chain: &mut Chain<M>) -> bool {
 
 /// Takes the answer that has come.
 fn ends<M: ModuleOf>(rt: &impl Abort, chain: &mut Chain<M>, want: Option<Sample>) -> bool {
-    let answer = chain.end_ioctl(End::A);
-    match want {
-        Some(sample) => answer == Some(message(rt, chain.alloc(), sample)),
-        None => answer.is_none(),
-    }
+    let want = wanted(rt, chain.alloc(), want);
+    chain.end_ioctl(End::A) == want
 }
 
 /// Takes the topmost module out.
@@ -105,18 +101,22 @@ fn removes<M: ModuleOf>(chain: &mut Chain<M>) -> Option<u64> {
     }
 }
 
+fn breaks_off<M: ModuleOf>(chain: &mut Chain<M>) -> bool {
+    chain.break_off();
+    true
+}
+
+fn sets_mode<M: ModuleOf>(chain: &mut Chain<M>, end: End, mode: ReadMode, prot: Prot) -> bool {
+    chain.set_mode(end, mode, prot);
+    true
+}
+
 /// A call that changes something else.
 fn sets<M: ModuleOf>(rt: &impl Abort, chain: &mut Chain<M>, call: Call) -> bool {
     match call {
         Call::PutBack(sample) => puts_back(rt, chain, sample),
-        Call::BreakOff => {
-            chain.break_off();
-            true
-        }
-        Call::SetMode(end, mode, prot) => {
-            chain.set_mode(end, mode, prot);
-            true
-        }
+        Call::BreakOff => breaks_off(chain),
+        Call::SetMode(end, mode, prot) => sets_mode(chain, end, mode, prot),
         Call::Begins(id) => begins(chain, id),
         Call::Undoes => undoes(chain),
         Call::Ends(want) => ends(rt, chain, want),

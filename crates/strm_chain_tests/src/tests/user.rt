@@ -3,7 +3,7 @@
 use super::Sample::{Ack, Ioctl};
 use super::kinds::Keeps::Counted;
 use super::kinds::Want::{GoesOn, Sends};
-use super::kinds::{Call, X, called, play};
+use super::kinds::{Call, Row, Want, X, called, play};
 use super::{Log, held, logged, message, new_log, shaped};
 use std::alloc::Global;
 use std::process::Abort;
@@ -95,23 +95,49 @@ fn counting<M: Module>(rt: &impl Abort, object: M) -> Instance<M> {
     Instance::new(shaped(rt, 3, b"count", (None, None), kind), object)
 }
 
+/// What a call answers at data that go down.
+fn called_at_x<M: Module>(
+    rt: &impl Abort,
+    alloc: Global,
+    it: &mut Instance<M>,
+    call: Call,
+) -> Result<Put, NoMem> {
+    called(alloc, it, call, Wr, message(rt, alloc, X))
+}
+
+fn is_answered<M: Module>(
+    rt: &impl Abort,
+    alloc: Global,
+    it: &mut Instance<M>,
+    call: Call,
+) -> bool {
+    called_at_x(rt, alloc, it, call).is_ok()
+}
+
+fn is_refused<M: Module>(rt: &impl Abort, alloc: Global, it: &mut Instance<M>, call: Call) -> bool {
+    called_at_x(rt, alloc, it, call) == Err(NoMem)
+}
+
+/// Whether these sums stand in the tallies.
+fn have((tally, other): (&Log, &Log), sum: u64, other_sum: u64) -> bool {
+    (logged(tally) == sum) & (logged(other) == other_sum)
+}
+
 /// One message is put to the first module, and one is served by the second.
 fn asks_each<M: Module>(
     rt: &impl Abort,
     alloc: Global,
     (first, second): (M, M),
-    (tally, other): (&Log, &Log),
+    tallies: (&Log, &Log),
 ) {
     let mut first = counting(rt, first);
     let mut second = counting(rt, second);
-    let put = called(alloc, &mut first, Call::Put, Wr, message(rt, alloc, X));
-    assert!(rt; put.is_ok());
-    assert_eq!(rt; (logged(tally), logged(other)), (PUT, 0));
-    let served = called(alloc, &mut second, Call::Serve, Wr, message(rt, alloc, X));
-    assert!(rt; served.is_ok());
-    assert_eq!(rt; (logged(tally), logged(other)), (PUT, SERVED));
+    assert!(rt; is_answered(rt, alloc, &mut first, Call::Put));
+    assert!(rt; have(tallies, PUT, 0));
+    assert!(rt; is_answered(rt, alloc, &mut second, Call::Serve));
+    assert!(rt; have(tallies, PUT, SERVED));
     drop(first);
-    assert_eq!(rt; (logged(tally), logged(other)), (PUT + CLOSED, SERVED));
+    assert!(rt; have(tallies, PUT + CLOSED, SERVED));
 }
 
 #[test]
@@ -120,7 +146,7 @@ fn object_of_the_instance_is_called_and_closed_once(rt: HostRuntime) {
     let (one, other) = (new_log(&rt, alloc), new_log(&rt, alloc));
     let objects = (watching(&rt, &one, NEVER), watching(&rt, &other, NEVER));
     asks_each(&rt, alloc, objects, (&one, &other));
-    assert_eq!(rt; logged(&other), SERVED + CLOSED);
+    assert!(rt; logged(&other) == SERVED + CLOSED);
 }
 
 #[test]
@@ -130,34 +156,50 @@ fn object_in_the_box_is_called_and_closed_once(rt: HostRuntime) {
     let first = boxed(&rt, alloc, watching(&rt, &one, NEVER));
     let second = boxed(&rt, alloc, watching(&rt, &other, NEVER));
     asks_each(&rt, alloc, (first, second), (&one, &other));
-    assert_eq!(rt; logged(&other), SERVED + CLOSED);
+    assert!(rt; logged(&other) == SERVED + CLOSED);
 }
+
+const COUNTED_AS_FOURTH: &[Row] = &[(Wr, X, GoesOn, Counted(4))];
 
 /// A refused call leaves the shape, and the next one is answered.
 fn answers_the_second_time<M: Module>(rt: &impl Abort, alloc: Global, object: M, call: Call) {
     let mut it = counting(rt, object);
     let before = it.shape().copy(alloc).expect(rt, "no memory for a shape");
-    let refused = called(alloc, &mut it, call, Wr, message(rt, alloc, X));
-    assert!(rt; refused == Err(NoMem));
+    assert!(rt; is_refused(rt, alloc, &mut it, call));
     assert!(rt; *it.shape() == before, "a refusal changes nothing");
-    play(rt, alloc, &mut it, call, &[(Wr, X, GoesOn, Counted(4))]);
+    play(rt, alloc, &mut it, call, COUNTED_AS_FOURTH);
 }
+
+const PUT_TWICE: u64 = 2 * PUT + CLOSED;
+
+const SERVED_TWICE: u64 = 2 * SERVED + CLOSED;
+
+/// A call, what is refused, and what stands in the tally when an object was asked twice and closed, and then
+/// another.
+const REFUSED: &[(Call, (bool, bool), u64, u64)] = &[
+    (Call::Put, (true, false), PUT_TWICE, 2 * PUT_TWICE),
+    (Call::Serve, (false, true), SERVED_TWICE, 2 * SERVED_TWICE),
+];
 
 #[test]
 fn object_that_refused_is_asked_again(rt: HostRuntime) {
     let alloc = rt.alloc();
-    for (call, refuses, asked) in [
-        (Call::Put, (true, false), PUT),
-        (Call::Serve, (false, true), SERVED),
-    ] {
+    for (call, refuses, one, both) in REFUSED {
         let tally = new_log(&rt, alloc);
-        let object = watching(&rt, &tally, refuses);
-        answers_the_second_time(&rt, alloc, object, call);
-        assert_eq!(rt; logged(&tally), 2 * asked + CLOSED);
-        let object = boxed(&rt, alloc, watching(&rt, &tally, refuses));
-        answers_the_second_time(&rt, alloc, object, call);
-        assert_eq!(rt; logged(&tally), 2 * (2 * asked + CLOSED));
+        let object = watching(&rt, &tally, *refuses);
+        answers_the_second_time(&rt, alloc, object, *call);
+        assert!(rt; logged(&tally) == *one);
+        let object = boxed(&rt, alloc, watching(&rt, &tally, *refuses));
+        answers_the_second_time(&rt, alloc, object, *call);
+        assert!(rt; logged(&tally) == *both);
     }
+}
+
+/// One message was put to the object, which is closed then.
+fn has_seen_one(tally: &Log, watch: Watch) -> bool {
+    let is_so = (watch.seen == 1) & (logged(tally) == PUT);
+    drop(watch);
+    is_so
 }
 
 #[test]
@@ -165,29 +207,24 @@ fn object_comes_back_with_its_private_data(rt: HostRuntime) {
     let alloc = rt.alloc();
     let tally = new_log(&rt, alloc);
     let mut it = counting(&rt, watching(&rt, &tally, NEVER));
-    assert!(rt; it.put(alloc, Wr, message(&rt, alloc, X)).is_ok());
-    let watch = it.into_object();
-    assert_eq!(rt; watch.seen, 1);
-    assert_eq!(rt; logged(&tally), PUT);
-    drop(watch);
-    assert_eq!(rt; logged(&tally), PUT + CLOSED);
+    assert!(rt; is_answered(&rt, alloc, &mut it, Call::Put));
+    assert!(rt; has_seen_one(&tally, it.into_object()));
+    assert!(rt; logged(&tally) == PUT + CLOSED);
 }
+
+const TOLD: Want = Sends(Rd, Ack(7, 4, None));
+
+const COUNTED_AND_TOLD: &[Row] = &[
+    (Wr, X, GoesOn, Counted(4)),
+    (Wr, Ioctl(7, 2, None), TOLD, Counted(0)),
+];
 
 #[test]
 fn boxed_count_counts(rt: HostRuntime) {
     let alloc = rt.alloc();
     let object: Box<dyn Module> = Box::new(alloc, Count).expect(&rt, "no memory for a box");
     let mut it = counting(&rt, object);
-    let rows = [
-        (Wr, X, GoesOn, Counted(4)),
-        (
-            Wr,
-            Ioctl(7, 2, None),
-            Sends(Rd, Ack(7, 4, None)),
-            Counted(0),
-        ),
-    ];
-    play(&rt, alloc, &mut it, Call::Put, &rows);
+    play(&rt, alloc, &mut it, Call::Put, COUNTED_AND_TOLD);
 }
 
 /// A vocabulary of one kind, which turns each message round.

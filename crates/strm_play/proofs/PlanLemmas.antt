@@ -11,12 +11,13 @@ use Rattle.strm_module.specs.declared.kind.Kind.{Kind}
 use Rattle.strm_module.specs.declared.shape.Shape.{Shape}
 use Rattle.strm_history.specs.Setup.{is_fit, is_ring}
 use Rattle.strm_history.specs.declared.setup.Setup.{Setup}
-use Rattle.strm_run.specs.declared.script.Feed.{Feed}
-use Rattle.strm_run.specs.declared.script.Script.{Script}
-use Rattle.strm_run.specs.declared.script.ScriptCall.{ScriptCall}
-use Rattle.strm_run.specs.declared.transcript.StreamLog.{StreamLog}
-use Rattle.strm_run.specs.Scripts as runs
-use Rattle.strm_run.specs.Transcript.{IsFed}
+use Rattle.strm_crew.specs.declared.script.Feed.{Feed}
+use Rattle.strm_crew.specs.declared.script.Script.{Script}
+use Rattle.strm_crew.specs.declared.script.ScriptCall.{ScriptCall}
+use Rattle.strm_crew.specs.declared.transcript.StreamLog.{StreamLog}
+use Rattle.strm_crew.specs.Scripts as crews
+use Rattle.strm_run.specs.There as runs
+use Rattle.strm_crew.specs.Transcript.{IsFed}
 use Rattle.strm_plan.specs.Plan.{streams_view, feed_view, process_view, call_view}
 use Rattle.strm_plan.specs.Sound as plans
 use Rattle.strm_plan.specs.Sound.{AreSetups, AreFromLine, AreProcessesThere, AreLinesThere, AreOnce}
@@ -67,18 +68,18 @@ few_scripts n scripts processes are many under =
     omega (arith, made, of_plan, same, viewed, many, under)
 
 -- the calls of a caller, by the lists of calls
-pub script_calls : (scripts : List (Script (Shape Kind))) (caller : ℕ) → runs.script_of scripts caller ≡ get_or (calls_of_scripts scripts) caller []
+pub script_calls : (scripts : List (Script (Shape Kind))) (caller : ℕ) → crews.script_of scripts caller ≡ get_or (calls_of_scripts scripts) caller []
 script_calls [] caller = refl
 script_calls (script ∷ scripts) zero = refl
 script_calls (script ∷ scripts) (suc caller) = script_calls scripts caller
 
 -- the messages for a stream, by the lists of messages
-feed_messages : (feeds : List Feed) (number : ℕ) → runs.feed_of feeds number ≡ messages_for (map played_fed feeds) number
+feed_messages : (feeds : List Feed) (number : ℕ) → crews.feed_of feeds number ≡ messages_for (map played_fed feeds) number
 feed_messages [] number = refl
 feed_messages (feed ∷ feeds) number = ap (λ (others : List Msg). cond (feed.stream == number) feed.messages.items others) (feed_messages feeds number)
 
 -- what came in is of the feed that the plan has
-pub fed_of_plan : (log : StreamLog Kind) (feeds : List Feed) (decls : List FeedDecl) (number : ℕ) → map played_fed feeds ≡ map fed decls → IsFed (runs.feed_of feeds number) log → IsFed (messages_for (map fed decls) number) log
+pub fed_of_plan : (log : StreamLog Kind) (feeds : List Feed) (decls : List FeedDecl) (number : ℕ) → map played_fed feeds ≡ map fed decls → IsFed (crews.feed_of feeds number) log → IsFed (messages_for (map fed decls) number) log
 fed_of_plan log feeds decls number same was =
     subst (λ messages. IsFed messages log) (feed_messages feeds number ∙ ap (λ all. messages_for all number) same) was
 

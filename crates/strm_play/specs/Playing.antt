@@ -5,9 +5,9 @@ use Rattle.strm_module.specs.declared.kind.Kind.{Kind}
 use Rattle.strm_module.specs.declared.shape.Shape.{Shape}
 use Rattle.strm_history.specs.declared.setup.Setup.{Setup}
 use Rattle.strm_history.specs.declared.call.Call.{Call}
-use Rattle.strm_run.specs.declared.script.ScriptCall.{ScriptCall}
-use Rattle.strm_run.specs.declared.script.Script.{Script}
-use Rattle.strm_run.specs.declared.script.Feed.{Feed}
+use Rattle.strm_crew.specs.declared.script.ScriptCall.{ScriptCall}
+use Rattle.strm_crew.specs.declared.script.Script.{Script}
+use Rattle.strm_crew.specs.declared.script.Feed.{Feed}
 use Rattle.strm_plan.specs.declared.call.CallDecl.{CallDecl}
 use Rattle.strm_plan.specs.declared.plan.CallLine.{CallLine}
 use Rattle.strm_plan.specs.declared.plan.ProcessDecl.{ProcessDecl}

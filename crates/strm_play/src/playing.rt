@@ -1,6 +1,6 @@
 //! A script is read and run.
 ghost use Rattle.std.specs.Prelude.{◌≡◌, true, IfOk, IfErr};
-ghost use Rattle.strm_run.specs.Scripts.{is_crew};
+ghost use Rattle.strm_run.specs.There.{is_crew};
 ghost use Rattle.strm_play.specs.Played.{IsPlayed, IsFaultOf};
 
 use crate::fault::PlayFault;

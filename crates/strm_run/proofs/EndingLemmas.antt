@@ -20,12 +20,12 @@ use Rattle.strm_shared.specs.Turns.{AreFirstOf}
 use Rattle.strm_ring.specs.Feed.{FeedValue, accepted_of}
 use Rattle.strm_shared.specs.Ending.{SharedValue, AreSeats, CountsAgree, is_fed}
 use Rattle.strm_run.specs.declared.fault.RunFault.{RunFault}
-use Rattle.strm_run.specs.declared.script.Script.{Script}
-use Rattle.strm_run.specs.declared.transcript.StreamLog.{StreamLog}
-use Rattle.strm_run.specs.Scripts.{calls_on, script_of, feed_of}
-use Rattle.strm_run.specs.Run.{RunValue}
-use Rattle.strm_run.specs.Transcript.{AreLogs, IsFed, IsLog, IsPartOf}
-use Rattle.strm_run.specs.Inside.Run.{ArePlayed, AreStreams, HasPlayed}
+use Rattle.strm_crew.specs.declared.script.Script.{Script}
+use Rattle.strm_crew.specs.declared.transcript.StreamLog.{StreamLog}
+use Rattle.strm_crew.specs.Scripts.{calls_on, script_of, feed_of}
+use Rattle.strm_crew.specs.Run.{RunValue}
+use Rattle.strm_crew.specs.Transcript.{AreLogs, IsFed, IsLog, IsPartOf}
+use Rattle.strm_crew.specs.Play.{ArePlayed, AreStreams, HasPlayed}
 use Rattle.strm_run.specs.Inside.Table.{IsTransposed}
 use Rattle.strm_run.specs.Inside.Ending.{fault_of, AreLinesFed, AreSeatsPlayed, IsLogOf, IsOffered, IsStream}
 use Rattle.strm_run.proofs.TableLemmas.{row_there}

@@ -8,12 +8,14 @@ use Rattle.strm_msg.specs.Message.{Msg}
 use Rattle.strm_head.specs.Step.{is_line}
 use Rattle.strm_history.specs.declared.setup.Setup.{Setup}
 use Rattle.strm_ring.specs.Feed.{fresh_feeder, FeederValue}
-use Rattle.strm_run.specs.declared.script.Feed.{Feed}
-use Rattle.strm_run.specs.Scripts.{feed_of, line_is_there}
-use Rattle.strm_run.specs.Run.{RunValue}
-use Rattle.strm_run.specs.Inside.Run.{IsFeeding}
-use Rattle.strm_run.specs.Inside.Opening.{callers_of, lines_below, AreFeeders, AreFeeds}
-use Rattle.strm_run.proofs.ReachedLemmas.{fails_more, passes_more, reached_is, reached_there}
+use Rattle.strm_crew.specs.declared.script.Feed.{Feed}
+use Rattle.strm_crew.specs.Scripts.{feed_of}
+use Rattle.strm_run.specs.There.{line_is_there}
+use Rattle.strm_crew.specs.Run.{RunValue}
+use Rattle.strm_crew.specs.Play.{IsFeeding}
+use Rattle.strm_crew.specs.Dealing.{callers_of}
+use Rattle.strm_run.specs.Inside.Opening.{lines_below, AreFeeders, AreFeeds}
+use Rattle.strm_crew.proofs.ReachedLemmas.{fails_more, passes_more, reached_is, reached_there}
 use Rattle.strm_run.proofs.TableLemmas.{first}
 use Rattle.strm_run.proofs.ThereLemmas.{line_at}
 

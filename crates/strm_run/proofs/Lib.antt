@@ -1,15 +1,7 @@
-pub mod ArrivalLemmas
-pub mod DealLemmas
-pub mod EachLemmas
 pub mod EndingLemmas
-pub mod FeedLemmas
 pub mod FeedsLemmas
 pub mod OnceLemmas
 pub mod OpeningLemmas
-pub mod PartLemmas
-pub mod PlayLemmas
-pub mod ReachedLemmas
 pub mod RunLemmas
 pub mod TableLemmas
 pub mod ThereLemmas
-pub mod ToldLemmas

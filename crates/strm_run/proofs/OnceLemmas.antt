@@ -2,7 +2,7 @@
 use Rattle.std.proofs.Common.{◌≡◌, ℕ, ◌+◌, ◌-◌, ◌<◌, List, length, get_or, drop, sym, ◌∙◌, ap, arith, below_more, length-drop, All}
 use Rattle.std.specs.Prelude.{AllPairs}
 use Rattle.std.proofs.lemmas.List.{get_or-drop, get_or_read}
-use Rattle.strm_run.specs.declared.script.Feed.{Feed}
+use Rattle.strm_crew.specs.declared.script.Feed.{Feed}
 
 -- what stands behind one stands in the list, that much further on
 behind : (feeds : List Feed) (i j : ℕ) (d : Feed) → i < j → get_or (drop (i + 1) feeds) (j - (i + 1)) d ≡ get_or feeds j d

@@ -6,11 +6,12 @@ use Rattle.strm_ring.specs.declared.fault.SharedFault.{SharedFault}
 use Rattle.strm_shared.specs.Seat.{SeatValue}
 use Rattle.strm_ring.specs.Feed.{fresh_feeder, FeederValue, RingValue}
 use Rattle.strm_shared.specs.Ending.{fresh_seats, SharedValue}
-use Rattle.strm_run.specs.Run.{RunValue}
-use Rattle.strm_run.specs.Scripts.{ring_of}
-use Rattle.strm_run.specs.Inside.Opening.{AreOpened, AreSeated, AreSeatsOn}
+use Rattle.strm_crew.specs.Run.{RunValue}
+use Rattle.strm_crew.specs.Scripts.{ring_of}
+use Rattle.strm_crew.specs.Dealing.{AreSeated}
+use Rattle.strm_run.specs.Inside.Opening.{AreOpened, AreSeatsOn}
 use Rattle.strm_run.specs.Inside.Table.{IsTransposed}
-use Rattle.strm_run.proofs.ReachedLemmas.{reached_is, reached_there}
+use Rattle.strm_crew.proofs.ReachedLemmas.{reached_is, reached_there}
 
 -- what holds of each, as of one more behind them
 each_push : {X : Type 0} (P : ℕ → X → Type 0) (xs : List X) (x : X) (at : ℕ) → length xs ≡ at → ((k : ℕ) (d : X) → k < at → P k (get_or xs k d)) → P at x → (k : ℕ) (d : X) → k < at + 1 → P k (get_or (xs ++ x ∷ []) k d)

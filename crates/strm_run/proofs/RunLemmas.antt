@@ -6,8 +6,8 @@ use Rattle.strm_qpair.specs.declared.driver.Driver.TheVariants.{Echo}
 use Rattle.strm_history.specs.declared.setup.Setup.{Setup}
 use Rattle.strm_run.specs.declared.fault.RunFault.{RunFault}
 use Rattle.strm_run.specs.declared.fault.RunFault.TheVariants.{Workers, NoSuch, NoMem, Unlike, Unfinished}
-use Rattle.strm_run.specs.Run.{RunValue}
-use Rattle.strm_run.specs.Transcript.{HaveEnded}
+use Rattle.strm_crew.specs.Run.{RunValue}
+use Rattle.strm_crew.specs.Transcript.{HaveEnded}
 use Rattle.strm_run.specs.Inside.Ending.{IsLate}
 
 -- what follows from a fact about a value follows where there is one

@@ -8,10 +8,11 @@ use Rattle.strm_msg.specs.Kind.{is_from_line}
 use Rattle.strm_msg.specs.declared.words.End.{End}
 use Rattle.strm_head.specs.Step.{is_line}
 use Rattle.strm_history.specs.declared.setup.Setup.{Setup}
-use Rattle.strm_run.specs.declared.script.Script.{Script}
-use Rattle.strm_run.specs.declared.script.Feed.{Feed}
-use Rattle.strm_run.specs.Scripts.{end_is_there, feed_of, line_is_there, AreThere}
-use Rattle.strm_run.specs.Run.{RunValue}
+use Rattle.strm_crew.specs.declared.script.Script.{Script}
+use Rattle.strm_crew.specs.declared.script.Feed.{Feed}
+use Rattle.strm_crew.specs.Scripts.{feed_of}
+use Rattle.strm_run.specs.There.{end_is_there, line_is_there, AreThere}
+use Rattle.strm_crew.specs.Run.{RunValue}
 use Rattle.strm_run.specs.Inside.Opening.{AreFeeds}
 use Rattle.strm_run.specs.Inside.Ending.{AreLinesFed}
 

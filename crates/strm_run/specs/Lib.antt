@@ -1,6 +1,3 @@
-pub mod Scripts
+pub mod There
 pub mod Fault
-pub mod Run
-pub mod Transcript
-pub mod Told
 pub mod Inside

@@ -1,23 +1,18 @@
 //! The streams of a run, as they end.
 ghost use Rattle.std.specs.Prelude.{◌≡◌, true, false, [], length, option_map, All, Err, IfErr, IfOk, IsOkAnd, MatchResult};
 ghost use Rattle.strm_head.specs.Step.{is_line};
-ghost use Rattle.strm_run.specs.Transcript.{AreLogs, IsLog};
-ghost use Rattle.strm_run.specs.Inside.Run.{ArePlayed, HasPlayed};
+ghost use Rattle.strm_crew.specs.Transcript.{AreLogs, IsLog};
+ghost use Rattle.strm_crew.specs.Play.{ArePlayed, HasPlayed};
 ghost use Rattle.strm_run.specs.Inside.Ending.{fault_of, is_end_refused, overrun_of, AreLinesFed, AreSeatsPlayed, IsLate, IsLogOf, IsOffered, IsStream};
-ghost use Rattle.strm_run.specs.Scripts.{feed_of};
+ghost use Rattle.strm_crew.specs.Scripts.{feed_of};
 
-use crate::about::{Of, Plays};
 use crate::fault::RunFault;
-use crate::feeding::Offered;
 use crate::feeds::offered_on;
-use crate::player::Played;
-use crate::streams::Streams;
 use crate::table::transposed;
-use crate::told::are_all_told;
-use crate::transcript::{StreamLog, Transcript, log_of};
 use std::alloc::Global;
 use std::collections::VecDeque;
 use std::mem;
+use strm_crew::{Of, Offered, Played, Plays, StreamLog, Streams, Transcript, are_all_told, log_of};
 use strm_head::Answer;
 use strm_module::ModuleOf;
 use strm_msg::NoMem;

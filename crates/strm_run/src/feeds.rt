@@ -3,12 +3,10 @@ ghost use Rattle.std.specs.Prelude.{◌≡◌, ◌<◌, true, [], length, All, A
 ghost use Rattle.strm_msg.specs.Kind.{is_from_line};
 ghost use Rattle.strm_run.specs.Inside.Opening.{lines_of, AreFeeders, AreFeeds};
 
-use crate::about::{Of, Plays};
-use crate::feeding::{Feeding, Offered};
-use crate::script::Feed;
 use crate::table::empty_rows;
 use std::alloc::Global;
 use std::mem;
+use strm_crew::{Feed, Feeding, Of, Offered, Plays};
 use strm_msg::{Message, NoMem};
 use strm_ring::Feeder;
 

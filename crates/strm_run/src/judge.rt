@@ -1,9 +1,9 @@
 //! Whether a run can be played: how many workers, and whether all is there that scripts and feeds name.
 ghost use Rattle.std.specs.Prelude.{◌≡◌, ◌↔◌, true, All, AllPairs, slice_get};
-ghost use Rattle.strm_run.specs.Scripts.{end_is_there, line_is_there, is_crew, is_setup, AreCallsThere, AreFromLine, AreThere, IsFromLine};
+ghost use Rattle.strm_run.specs.There.{end_is_there, line_is_there, is_crew, is_setup, AreCallsThere, AreFromLine, AreThere, IsFromLine};
 
-use crate::script::{Feed, Script, ScriptCall};
 use strm_chain::has_end;
+use strm_crew::{Feed, Script, ScriptCall};
 use strm_history::Setup;
 use strm_msg::End;
 

@@ -5,26 +5,16 @@
 //! sequential stream could have given, and has each caller's calls on it, in order.
 #![tactic(auto)]
 
-mod about;
-mod dealing;
 mod ending;
 mod fault;
-mod feeding;
 mod feeds;
 mod judge;
 mod opening;
-mod player;
 mod running;
-mod script;
-mod streams;
 mod table;
 mod threads;
-mod told;
-mod transcript;
 
 pub use fault::RunFault;
 pub use judge::{MOST_WORKERS, are_from_line, are_setups};
 pub use running::run;
-pub use script::{Feed, Gate, Script, ScriptCall};
-pub use told::are_all_told;
-pub use transcript::{StreamLog, Transcript};
+pub use strm_crew::{Feed, Gate, Script, ScriptCall, StreamLog, Transcript, are_all_told};

@@ -3,8 +3,8 @@ ghost use Rattle.std.specs.Prelude.{◌≡◌, ◌<◌, ◌^◌, ◌∷◌, ◌+
 ghost use Rattle.strm_history.specs.Setup.{is_fit, is_ring};
 ghost use Rattle.strm_run.specs.Inside.Opening.{AreOpened};
 
-use crate::about::{Of, Plays};
 use std::alloc::Global;
+use strm_crew::{Of, Plays};
 use strm_history::Setup;
 use strm_module::ModuleOf;
 use strm_msg::NoMem;

@@ -1,16 +1,12 @@
 //! The threads of a run.
 ghost use Rattle.std.specs.Thread.{IsSend, IsSync};
-ghost use Rattle.strm_run.specs.Inside.Run.{CallsDoFit};
+ghost use Rattle.strm_crew.specs.Play.{CallsDoFit};
 
-use crate::about::Plays;
-use crate::feeding::{Feeding, Offered};
-use crate::player::{Played, Player};
-use crate::script::Gate;
-use crate::streams::Streams;
 use std::alloc::Global;
 use std::sync::Wait;
 use std::thread;
 use std::thread::Threads;
+use strm_crew::{Feeding, Gate, Offered, Played, Player, Plays, Streams};
 use strm_module::ModuleOf;
 use strm_msg::NoMem;
 

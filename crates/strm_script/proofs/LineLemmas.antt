@@ -5,7 +5,7 @@ use Rattle.std.proofs.lemmas.List.{append-nil}
 use native.Mathlib.Numerals.{unary_clauses}
 use Rattle.strm_text.proofs.WriteLemmas.{appends_then}
 use Rattle.strm_module.specs.declared.kind.Kind.{Kind}
-use Rattle.strm_run.specs.declared.transcript.StreamLog.{StreamLog}
+use Rattle.strm_crew.specs.declared.transcript.StreamLog.{StreamLog}
 use Rattle.strm_plan.specs.Plan.{Streams, Process}
 use Rattle.strm_script.specs.Lines.{stream_text, streams_text, found_text}
 

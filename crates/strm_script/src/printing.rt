@@ -6,9 +6,9 @@ ghost use Rattle.strm_script.specs.Lines.{numbered_text, transcript_text};
 
 use crate::stream::put_stream;
 use std::io::{self, Write};
+use strm_crew::{StreamLog, Transcript};
 use strm_module::Kind;
 use strm_plan::Plan;
-use strm_run::{StreamLog, Transcript};
 
 /// Writes the lines of the stream of this number; nothing where the plan has none.
 fn put_numbered<W: Write>(

@@ -11,12 +11,12 @@ use crate::field::{put_names, put_number, put_word};
 use arrayvec::ArrayVec;
 use std::io::{self, Write};
 use strm_call::Name;
+use strm_crew::StreamLog;
 use strm_head::{Driver, MOST_MODULES};
 use strm_history::Setup;
 use strm_module::Kind;
 use strm_msg::End;
 use strm_plan::ProcessDecl;
-use strm_run::StreamLog;
 
 /// Writes an end: open, with the names of its modules, topmost first, or closed.
 #[tactic(auto, using(strm_text::proofs::WriteLemmas::appends_then), unfolding(crate::specs::Lines::end_text))]

@@ -6,8 +6,6 @@ use Rattle.strm_msg.specs.declared.words.End.TheVariants.{A, B}
 use Rattle.strm_module.specs.Kinds.{Meaning}
 use Rattle.strm_ends.specs.Image.{Image, end_of}
 use Rattle.strm_head.specs.Step.{is_line}
-use Rattle.strm_head.specs.declared.event.Event.{Event}
-use Rattle.strm_head.specs.declared.event.Event.TheVariants.{Asked, Arrived}
 use Rattle.strm_history.specs.declared.setup.Setup.{Setup}
 use Rattle.strm_history.specs.declared.entry.Entry.{Entry}
 use Rattle.strm_shared.specs.declared.fault.EndFault.{EndFault}
@@ -18,11 +16,11 @@ use Rattle.strm_ring.specs.Feed.{FeedValue}
 use Rattle.strm_shared.specs.Ending.{SharedValue}
 use Rattle.strm_run.specs.declared.fault.RunFault.{RunFault}
 use Rattle.strm_run.specs.declared.fault.RunFault.TheVariants as RunFaults
-use Rattle.strm_run.specs.declared.transcript.StreamLog.{StreamLog}
-use Rattle.strm_run.specs.Scripts.{feed_of}
-use Rattle.strm_run.specs.Run.{RunValue}
-use Rattle.strm_run.specs.Inside.Run.{OfferedValue, HasOffered, HasPlayed}
-use Rattle.strm_run.specs.Transcript.{names_at, HaveEnded}
+use Rattle.strm_crew.specs.declared.transcript.StreamLog.{StreamLog}
+use Rattle.strm_crew.specs.Scripts.{feed_of}
+use Rattle.strm_crew.specs.Run.{RunValue}
+use Rattle.strm_crew.specs.Play.{OfferedValue, HasOffered, HasPlayed}
+use Rattle.strm_crew.specs.Transcript.{names_at, HaveEnded}
 
 -- the seats of callers that have played their scripts, in order of the streams
 pub record AreSeatsPlayed {K : Type 0} (run : RunValue K) (seats : List (Vec SeatValue Global)) : Type 0 where
@@ -62,11 +60,6 @@ abbrev pub fault_of : EndFault → RunFault
 fault_of EndFaults.Seats = RunFaults.Unfinished
 fault_of EndFaults.Unfinished = RunFaults.Unfinished
 fault_of EndFaults.NoMem = RunFaults.NoMem
-
--- a message came in
-abbrev pub has_come_in : {P : Type 0} → Event P → Bool
-has_come_in (Asked request) = false
-has_come_in (Arrived m) = true
 
 -- what is left of a stream that ended with this history, and with these messages not come in
 pub record IsLogOf {K : Type 0} (history : List (Entry K)) (stream : Image K) (left : List Msg) (overrun : ℕ) (log : StreamLog K) : Type 0 where

@@ -1,15 +1,17 @@
--- The streams of a run as they are made, who sits there, and who plays what.
-use Rattle.std.specs.Prelude.{◌≡◌, ℕ, zero, suc, ◌<◌, ◌==◌, ◌%◌, Option, List, [], ◌∷◌, ◌++◌, filter, get_or, length, slice_get, Vec}
+-- The streams of a run as they are made, with their seats and feeders, and what each line is fed.
+use Rattle.std.specs.Prelude.{◌≡◌, ℕ, ◌<◌, Option, List, filter, get_or, length, slice_get, Vec}
 use Rattle.std.specs.Global.{Global}
 use Rattle.strm_msg.specs.Message.{Msg}
 use Rattle.strm_history.specs.declared.setup.Setup.{Setup}
 use Rattle.strm_shared.specs.Seat.{SeatValue}
 use Rattle.strm_ring.specs.Feed.{fresh_feeder, FeederValue}
 use Rattle.strm_shared.specs.Ending.{fresh_seats, SharedValue}
-use Rattle.strm_run.specs.declared.script.Feed.{Feed}
-use Rattle.strm_run.specs.Scripts.{feed_of, line_is_there}
-use Rattle.strm_run.specs.Run.{RunValue}
-use Rattle.strm_run.specs.Inside.Run.{AreStreams}
+use Rattle.strm_crew.specs.declared.script.Feed.{Feed}
+use Rattle.strm_crew.specs.Scripts.{feed_of}
+use Rattle.strm_run.specs.There.{line_is_there}
+use Rattle.strm_crew.specs.Run.{RunValue}
+use Rattle.strm_crew.specs.Dealing.{callers_of}
+use Rattle.strm_crew.specs.Play.{AreStreams}
 
 -- the seats on each stream, in order of the streams: one for each caller, that has made no call
 pub record AreSeatsOn {K : Type 0} (run : RunValue K) (seats : List (Vec SeatValue Global)) : Type 0 where
@@ -26,22 +28,6 @@ pub record AreOpened {K : Type 0} (run : RunValue K) (streams : List SharedValue
   pub streams_are : AreStreams run streams
   pub seats_are : AreSeatsOn run seats
   pub feeders_are : AreFeeders run feeders
-
--- the seats of each caller, in order of the streams, that have made no call
-pub record AreSeated {K : Type 0} (run : RunValue K) (seats : List (Vec SeatValue Global)) : Type 0 where
-  pub many : length seats ≡ length run.scripts
-  pub long : (caller : ℕ) (d : Vec SeatValue Global) → caller < length run.scripts → length (get_or seats caller d).items ≡ length run.setups
-  pub each : (caller k : ℕ) (d : Vec SeatValue Global) (x : SeatValue) → caller < length run.scripts → k < length run.setups → get_or (get_or seats caller d).items k x ≡ record { number = k; caller = caller; calls = 0 }
-
--- so many callers, in order
-abbrev pub callers_of : ℕ → List ℕ
-callers_of zero = []
-callers_of (suc n) = callers_of n ++ n ∷ []
-
--- each worker has the callers whose number modulo the workers is its own, in order
-pub record AreDealt (callers : List ℕ) (workers : ℕ) (crews : List (Vec ℕ Global)) : Type 0 where
-  pub many : length crews ≡ workers
-  pub each : (worker : ℕ) (d : Vec ℕ Global) → worker < workers → (get_or crews worker d).items ≡ filter (λ caller. caller % workers == worker) callers
 
 -- what each stream is fed, in order of the streams
 pub record AreFeeds (feeds : List Feed) (streams : ℕ) (all : List (Vec Msg Global)) : Type 0 where

@@ -1,5 +1,6 @@
 use Rattle.std.proofs.Common.{[], length, get_or, rules, arith, refl, ap, ◌∙◌}
-use Rattle.strm_run.specs.Scripts.{calls_on, is_crew}
+use Rattle.strm_crew.specs.Scripts.{calls_on}
+use Rattle.strm_run.specs.There.{is_crew}
 use Rattle.strm_run.specs.declared.fault.RunFault.TheVariants as runs
 use Rattle.strm_play.specs.Played.{IsFaultOfRun}
 use Rattle.strm_play.proofs.FaultLemmas.{may_be, unless_false}

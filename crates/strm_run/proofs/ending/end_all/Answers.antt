@@ -2,8 +2,8 @@ use Rattle.std.proofs.Common.{rules, ◌+◌, ◌++◌, List, length, append_ass
 use Rattle.std.proofs.lemmas.List.{length_push, length-set, nil_from_length}
 use Rattle.std.specs.Vec.Iter.{into_iter_items}
 use Rattle.strm_shared.specs.Ending.{SharedValue}
-use Rattle.strm_run.specs.Inside.Run.{AreStreams}
-use Rattle.strm_run.proofs.PlayLemmas.{iterated_len}
+use Rattle.strm_crew.specs.Play.{AreStreams}
+use Rattle.strm_crew.proofs.PlayLemmas.{iterated_len}
 use Rattle.strm_run.proofs.EndingLemmas.{place_there, stream_next, next_unfed, next_played, ended_more, ended_all}
 use Rattle.strm_run.proofs.ending.end_all.Goals as goal
 

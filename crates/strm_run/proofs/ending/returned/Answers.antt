@@ -1,6 +1,6 @@
 use Rattle.std.proofs.Common.{◌≡◌, length, subst}
-use Rattle.strm_run.specs.Inside.Run.{ArePlayed}
-use Rattle.strm_run.proofs.EachLemmas.{each_pushed}
+use Rattle.strm_crew.specs.Play.{ArePlayed}
+use Rattle.strm_crew.proofs.EachLemmas.{each_pushed}
 use Rattle.strm_run.proofs.ending.returned.Goals as goal
 
 pub loop-one-preserved : goal.loop-one-preserved

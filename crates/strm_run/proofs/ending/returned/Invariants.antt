@@ -1,5 +1,5 @@
 use Rattle.std.proofs.Common.{◌≡◌, length, All}
-use Rattle.strm_run.specs.Inside.Run.{ArePlayed}
+use Rattle.strm_crew.specs.Play.{ArePlayed}
 use Rattle.strm_run.proofs.ending.returned.Given as goal
 
 -- the callers so far have played their scripts

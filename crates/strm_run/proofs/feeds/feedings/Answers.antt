@@ -1,8 +1,8 @@
 use Rattle.std.proofs.Common.{◌≡◌, ◌+◌, ◌∷◌, ◌++◌, append_assoc, ap, arith, sym, ◌∙◌}
 use Rattle.std.proofs.lemmas.List.{length-set, length_push}
 use Rattle.std.specs.Vec.Iter.{into_iter_items}
-use Rattle.strm_run.proofs.PlayLemmas.{iterated_len}
-use Rattle.strm_run.proofs.ReachedLemmas.{behind_more}
+use Rattle.strm_crew.proofs.PlayLemmas.{iterated_len}
+use Rattle.strm_crew.proofs.ReachedLemmas.{behind_more}
 use Rattle.strm_run.proofs.FeedsLemmas.{feeding_found, lines_found, lines_none}
 use Rattle.strm_run.proofs.feeds.feedings.Goals as goal
 use Rattle.strm_run.proofs.feeds.feedings.Goals.{in-Some-feeder+in_ok-push, in_default}

@@ -1,8 +1,8 @@
 use Rattle.std.proofs.Common.{◌≡◌, true}
 use Rattle.std.specs.Prelude.{slice_get}
-use Rattle.strm_run.specs.declared.script.ScriptCall.{ScriptCall}
-use Rattle.strm_run.specs.Scripts.{end_is_there}
-use Rattle.strm_run.proofs.EachLemmas.{each_more, of_this}
+use Rattle.strm_crew.specs.declared.script.ScriptCall.{ScriptCall}
+use Rattle.strm_run.specs.There.{end_is_there}
+use Rattle.strm_crew.proofs.EachLemmas.{each_more, of_this}
 use Rattle.strm_run.proofs.judge.are_calls_there.Goals as goal
 
 pub returns-then-not-end_is_there : goal.returns-then-not-end_is_there

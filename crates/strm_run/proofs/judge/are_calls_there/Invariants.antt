@@ -1,7 +1,7 @@
 use Rattle.std.proofs.Common.{◌≡◌, ℕ, ◌<◌, true, get_or}
 use Rattle.std.specs.Prelude.{slice_get}
-use Rattle.strm_run.specs.declared.script.ScriptCall.{ScriptCall}
-use Rattle.strm_run.specs.Scripts.{end_is_there}
+use Rattle.strm_crew.specs.declared.script.ScriptCall.{ScriptCall}
+use Rattle.strm_run.specs.There.{end_is_there}
 use Rattle.strm_run.proofs.judge.are_calls_there.Given as goal
 
 -- the stream and the end of each call so far are there

@@ -1,6 +1,6 @@
-use Rattle.strm_run.specs.declared.script.Feed.{Feed}
-use Rattle.strm_run.specs.Scripts.{IsFromLine}
-use Rattle.strm_run.proofs.EachLemmas.{each_more, of_this}
+use Rattle.strm_crew.specs.declared.script.Feed.{Feed}
+use Rattle.strm_run.specs.There.{IsFromLine}
+use Rattle.strm_crew.proofs.EachLemmas.{each_more, of_this}
 use Rattle.strm_run.proofs.judge.are_from_line.Goals as goal
 
 pub returns-then-not-is_from_line : goal.returns-then-not-is_from_line

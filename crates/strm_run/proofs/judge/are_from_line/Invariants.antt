@@ -1,6 +1,6 @@
 use Rattle.std.proofs.Common.{ℕ, ◌<◌, get_or}
-use Rattle.strm_run.specs.declared.script.Feed.{Feed}
-use Rattle.strm_run.specs.Scripts.{IsFromLine}
+use Rattle.strm_crew.specs.declared.script.Feed.{Feed}
+use Rattle.strm_run.specs.There.{IsFromLine}
 use Rattle.strm_run.proofs.judge.are_from_line.Given as goal
 
 -- each feed so far is of messages that come from a line

@@ -1,8 +1,8 @@
 use Rattle.std.proofs.Common.{◌≡◌, true}
 use Rattle.std.specs.Prelude.{slice_get}
-use Rattle.strm_run.specs.declared.script.Feed.{Feed}
-use Rattle.strm_run.specs.Scripts.{line_is_there}
-use Rattle.strm_run.proofs.EachLemmas.{each_more, of_this}
+use Rattle.strm_crew.specs.declared.script.Feed.{Feed}
+use Rattle.strm_run.specs.There.{line_is_there}
+use Rattle.strm_crew.proofs.EachLemmas.{each_more, of_this}
 use Rattle.strm_run.proofs.judge.are_lines_there.Goals as goal
 
 pub returns-then-not-line_is_there : goal.returns-then-not-line_is_there

@@ -1,7 +1,7 @@
 use Rattle.std.proofs.Common.{◌≡◌, ℕ, ◌<◌, true, get_or}
 use Rattle.std.specs.Prelude.{slice_get}
-use Rattle.strm_run.specs.declared.script.Feed.{Feed}
-use Rattle.strm_run.specs.Scripts.{line_is_there}
+use Rattle.strm_crew.specs.declared.script.Feed.{Feed}
+use Rattle.strm_run.specs.There.{line_is_there}
 use Rattle.strm_run.proofs.judge.are_lines_there.Given as goal
 
 -- each feed so far is for a line

@@ -1,5 +1,5 @@
 use Rattle.std.proofs.Common.{◌≡◌, ℕ, ◌<◌, length, get_or}
-use Rattle.strm_run.specs.declared.script.Feed.{Feed}
+use Rattle.strm_crew.specs.declared.script.Feed.{Feed}
 use Rattle.strm_run.proofs.judge.are_once.Given as goal
 
 -- no later feed is for the stream of one so far

@@ -1,6 +1,6 @@
-use Rattle.strm_run.specs.declared.script.Script.{Script}
-use Rattle.strm_run.specs.Scripts.{AreCallsThere}
-use Rattle.strm_run.proofs.EachLemmas.{each_more, of_this}
+use Rattle.strm_crew.specs.declared.script.Script.{Script}
+use Rattle.strm_run.specs.There.{AreCallsThere}
+use Rattle.strm_crew.proofs.EachLemmas.{each_more, of_this}
 use Rattle.strm_run.proofs.judge.are_scripts_there.Goals as goal
 
 pub returns-then-not-are_calls_there : goal.returns-then-not-are_calls_there

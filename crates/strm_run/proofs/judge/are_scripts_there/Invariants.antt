@@ -1,6 +1,6 @@
 use Rattle.std.proofs.Common.{ℕ, ◌<◌, get_or}
-use Rattle.strm_run.specs.declared.script.Script.{Script}
-use Rattle.strm_run.specs.Scripts.{AreCallsThere}
+use Rattle.strm_crew.specs.declared.script.Script.{Script}
+use Rattle.strm_run.specs.There.{AreCallsThere}
 use Rattle.strm_run.proofs.judge.are_scripts_there.Given as goal
 
 -- what the calls of each script so far name is there

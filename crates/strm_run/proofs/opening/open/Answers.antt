@@ -3,8 +3,8 @@ use Rattle.std.proofs.lemmas.List.{length_push, length-map, nil_from_length}
 use Rattle.std.specs.Vec.Iter.{into_iter_items}
 use Rattle.strm_history.specs.Setup.{is_fit}
 use Rattle.strm_ring.specs.Feed.{RingValue}
-use Rattle.strm_run.specs.Scripts.{ring_of}
-use Rattle.strm_run.proofs.PlayLemmas.{iterated_len}
+use Rattle.strm_crew.specs.Scripts.{ring_of}
+use Rattle.strm_crew.proofs.PlayLemmas.{iterated_len}
 use Rattle.strm_run.proofs.OpeningLemmas.{kept_more, opened_all, ring_there, ring_setup, ring_named}
 use Rattle.strm_run.proofs.opening.open.Goals as goal
 

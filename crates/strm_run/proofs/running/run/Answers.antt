@@ -1,5 +1,5 @@
 use Rattle.std.proofs.Common.{◌∙◌, refl, sym}
-use Rattle.strm_run.specs.Inside.Run.{Fits}
+use Rattle.strm_crew.specs.Play.{Fits}
 use Rattle.strm_run.proofs.RunLemmas.{any_setup, ended_where_unlike, if_ok, none_such}
 use Rattle.strm_run.proofs.running.run.Goals as goal
 

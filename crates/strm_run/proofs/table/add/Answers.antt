@@ -1,7 +1,7 @@
 use Rattle.std.proofs.Common.{◌≡◌, ◌+◌, ◌∷◌, ◌++◌, append_assoc, ap, sym, ◌∙◌}
 use Rattle.std.proofs.lemmas.List.{length_push}
 use Rattle.std.specs.Vec.Iter.{into_iter_items}
-use Rattle.strm_run.proofs.PlayLemmas.{iterated_len}
+use Rattle.strm_crew.proofs.PlayLemmas.{iterated_len}
 use Rattle.strm_run.proofs.TableLemmas.{row_there, added_more}
 use Rattle.strm_run.proofs.table.add.Goals as goal
 

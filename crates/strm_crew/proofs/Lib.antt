@@ -1,0 +1,8 @@
+pub mod ArrivalLemmas
+pub mod DealLemmas
+pub mod EachLemmas
+pub mod FeedLemmas
+pub mod PartLemmas
+pub mod PlayLemmas
+pub mod ReachedLemmas
+pub mod ToldLemmas

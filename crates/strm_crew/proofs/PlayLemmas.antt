@@ -1,0 +1,143 @@
+-- A player, call by call.
+use Rattle.std.proofs.Common.{◌≡◌, ℕ, zero, suc, ◌+◌, ◌<◌, ◌==◌, Bool, true, false, Some, List, [], ◌∷◌, All, drop, get_or, length, set, slice_get, if◌then◌else◌, refl, sym, ◌∙◌, ap, subst, arith, Result, Ok, Err, OnOk}
+use Rattle.std.proofs.lemmas.List.{length-set, get_or-set_same, get_or-set_other}
+use Rattle.std.proofs.lemmas.Bool.{eqb-true, eqb-false, eq-eqb}
+use Rattle.strm_module.specs.declared.shape.Shape.{Shape}
+use Rattle.strm_head.specs.declared.event.Event.TheVariants.{Asked}
+use Rattle.strm_history.specs.declared.call.Call.{Call}
+use Rattle.strm_history.specs.declared.call.Called.{Called}
+use Rattle.strm_history.specs.declared.call.Called.TheVariants.{Done, NoRoom}
+use Rattle.strm_history.specs.Log.{is_done}
+use Rattle.strm_shared.specs.Seat.{SeatValue}
+use Rattle.strm_shared.specs.Ending.{SharedValue, Counted}
+use Rattle.strm_crew.specs.declared.script.ScriptCall.{ScriptCall}
+use Rattle.strm_crew.specs.Scripts.{calls_on, script_of}
+use Rattle.strm_crew.specs.Run.{RunValue}
+use Rattle.strm_crew.specs.Play.{ArePlayed, AreStreams, IsPlayer, IsSeated}
+
+-- a call that was made is counted
+pub done_counts : {P : Type 0} (call : Call P) (seat after : SeatValue) (called : Called P) → is_done called ≡ true → Counted call seat called after → after ≡ record seat { calls = seat.calls + 1 }
+done_counts call seat after (Done answer back) done counts = counts
+done_counts call seat after (NoRoom same) done counts = absurd cc
+
+-- what follows from what holds where a call went well
+pub on_ok : {T E P Q : Type 0} (r : Result T E) → (P → Q) → OnOk r P → OnOk r Q
+on_ok (Ok x) follows p = follows p
+on_ok (Err e) follows p = tt
+
+-- what a loop over a vector has left is as long as it says
+pub iterated_len : {A : Type 0} (left rest : List A) (one : A) (n m : ℕ) → n ≡ length left → left ≡ one ∷ rest → m + 1 ≡ n → m ≡ length rest
+iterated_len left rest one n m len is more =
+    let all : m + 1 ≡ suc (length rest) = more ∙ len ∙ ap (λ l. length l) is in
+    omega arith
+
+-- an element by what is left of the list from it on
+get_from : {A : Type 0} (all : List A) (n : ℕ) (first : A) (rest : List A) → drop n all ≡ first ∷ rest → slice_get all n ≡ Some first
+get_from [] zero first rest is = absurd cc
+get_from [] (suc n) first rest is = absurd cc
+get_from (x ∷ xs) zero first rest is = ap (λ l. slice_get l 0) is
+get_from (x ∷ xs) (suc n) first rest is = get_from xs n first rest is
+
+drop_next : {A : Type 0} (all : List A) (n : ℕ) (first : A) (rest : List A) → drop n all ≡ first ∷ rest → drop (suc n) all ≡ rest
+drop_next [] zero first rest is = absurd cc
+drop_next [] (suc n) first rest is = absurd cc
+drop_next (x ∷ xs) zero first rest is = ap (λ l. drop 1 l) is
+drop_next (x ∷ xs) (suc n) first rest is = drop_next xs n first rest is
+
+-- the stream of a number has it
+pub number_at : {K : Type 0} (run : RunValue K) (streams : List SharedValue) (number : ℕ) (found : SharedValue) → AreStreams run streams → number < length run.setups → found ≡ get_or streams number found → found.number ≡ number
+number_at run streams number found are below is =
+    ap (λ s. s.number) is ∙ ap (λ s. s.number) (are.each number found found.setup (subst (λ n. number < n) (sym are.many) below))
+
+-- for kinds of any meaning: a caller with one call and the rest left
+module _ {K : Type 0} (run : RunValue K) (caller : ℕ) (left : List (ScriptCall (Shape K))) (one : ScriptCall (Shape K)) (rest : List (ScriptCall (Shape K))) (seats : List SeatValue) (answers : ℕ) (is : left ≡ one ∷ rest) (was : IsPlayer run caller left seats answers) where
+  there : All (λ call. call.stream < length run.setups) (one ∷ rest)
+  there = subst (λ l. All (λ call. call.stream < length run.setups) l) is was.there
+
+  -- its stream is there
+  pub stream_there : one.stream < length run.setups
+  stream_there = there 0 one (omega arith)
+
+  pub answer_there : one.stream < answers
+  answer_there = subst (λ n. one.stream < n) (sym was.told) stream_there
+
+  pub seat_there : one.stream < length seats
+  seat_there = subst (λ n. one.stream < n) (sym was.many) stream_there
+
+  seated : (k : ℕ) (d : SeatValue) → k < length seats → IsSeated run caller k (one ∷ rest) (get_or seats k d)
+  seated k d below = subst (λ l. IsSeated run caller k l (get_or seats k d)) is (was.seated k d below)
+
+  -- the calls on its stream
+  calls_here : (k : ℕ) → one.stream ≡ k → calls_on k (one ∷ rest) ≡ (one.call.end, Asked one.call.request) ∷ calls_on k rest
+  calls_here k at = ap (λ b. if b then (one.call.end, Asked one.call.request) ∷ calls_on k rest else calls_on k rest) (eq-eqb one.stream k at)
+
+  -- and on the others
+  calls_there : (k : ℕ) → (one.stream == k) ≡ false → calls_on k (one ∷ rest) ≡ calls_on k rest
+  calls_there k at = ap (λ b. if b then (one.call.end, Asked one.call.request) ∷ calls_on k rest else calls_on k rest) at
+
+  -- the seat is on that stream, and the call is its next one
+  pub seat_number : (seat : SeatValue) → seat ≡ get_or seats one.stream seat → seat.number ≡ one.stream
+  seat_number seat at = ap (λ s. s.number) at ∙ (seated one.stream seat seat_there).number
+
+  pub seat_next : (seat : SeatValue) → seat ≡ get_or seats one.stream seat → slice_get (calls_on seat.number (script_of run.scripts seat.caller)) seat.calls ≡ Some (one.call.end, Asked one.call.request)
+  seat_next seat at =
+      let sits = subst (λ s. IsSeated run caller one.stream (one ∷ rest) s) (sym at) (seated one.stream seat seat_there) in
+      let here = get_from (calls_on one.stream (script_of run.scripts caller)) seat.calls _ (calls_on one.stream rest) (sits.next ∙ calls_here one.stream refl) in
+      subst (λ n. slice_get (calls_on n (script_of run.scripts seat.caller)) seat.calls ≡ Some (one.call.end, Asked one.call.request)) (sym sits.number)
+      (subst (λ n. slice_get (calls_on one.stream (script_of run.scripts n)) seat.calls ≡ Some (one.call.end, Asked one.call.request)) (sym sits.caller_is) here)
+
+  -- the seat after it
+  module _ (seat : SeatValue) (at : seat ≡ get_or seats one.stream seat) where
+    abbrev after : SeatValue
+    after = record seat { calls = seat.calls + 1 }
+
+    seat_after : IsSeated run caller one.stream rest after
+    seat_after =
+        let sits = subst (λ s. IsSeated run caller one.stream (one ∷ rest) s) (sym at) (seated one.stream seat seat_there) in
+        let here = calls_here one.stream refl in
+        let n : seat.calls + 1 ≡ suc seat.calls = omega arith in
+        let len : length (calls_on one.stream (one ∷ rest)) ≡ suc (length (calls_on one.stream rest)) = ap (λ l. length l) here in
+        let all = sits.many in
+        record {
+          number = sits.number;
+          caller_is = sits.caller_is;
+          next = ap (λ m. drop m (calls_on one.stream (script_of run.scripts caller))) n ∙ drop_next _ seat.calls _ _ (sits.next ∙ here);
+          many = (let m : seat.calls + 1 + length (calls_on one.stream rest) ≡ seat.calls + suc (length (calls_on one.stream rest)) = omega arith in m) ∙ ap (λ m. seat.calls + m) (sym len) ∙ all;
+        }
+
+    seats_after : (k : ℕ) (d : SeatValue) (b : Bool) → (one.stream == k) ≡ b → k < length seats → IsSeated run caller k rest (get_or (set seats one.stream after) k d)
+    seats_after k d true same below =
+        let here : one.stream ≡ k = eqb-true one.stream k same in
+        subst (λ n. IsSeated run caller n rest (get_or (set seats one.stream after) n d)) here
+        (subst (λ s. IsSeated run caller one.stream rest s) (sym (get_or-set_same seats one.stream after d seat_there)) seat_after)
+    seats_after k d false other below =
+        let sits = seated k d below in
+        let apart = calls_there k other in
+        subst (λ s. IsSeated run caller k rest s) (sym (get_or-set_other seats one.stream k after d (λ same. eqb-false one.stream k other (sym same))))
+        (record {
+          number = sits.number;
+          caller_is = sits.caller_is;
+          next = sits.next ∙ apart;
+          many = ap (λ l. (get_or seats k d).calls + length l) (sym apart) ∙ sits.many;
+        })
+
+    pub player_after : (now : SeatValue) → now ≡ after → IsPlayer run caller rest (set seats one.stream now) answers
+    player_after now is_now = subst (λ s. IsPlayer run caller rest (set seats one.stream s) answers) (sym is_now) (record {
+      many = length-set seats one.stream after ∙ was.many;
+      told = was.told;
+      there = λ k d below. there (suc k) d (omega arith);
+      seated = λ k d below. seats_after k d (one.stream == k) refl (subst (λ n. k < n) (length-set seats one.stream after) below);
+    })
+
+-- a caller that has no call left has played its script
+pub all_played : {K : Type 0} (run : RunValue K) (caller : ℕ) (left : List (ScriptCall (Shape K))) (seats : List SeatValue) (answers : ℕ) → left ≡ [] → IsPlayer run caller left seats answers → ArePlayed run seats answers
+all_played run caller left seats answers none was = record {
+  many = was.many;
+  told = was.told;
+  each = λ k d below.
+      let sits = subst (λ l. IsSeated run caller k l (get_or seats k d)) none (was.seated k d below) in
+      record {
+        number = sits.number;
+        calls = (let n : (get_or seats k d).calls ≡ (get_or seats k d).calls + 0 = omega arith in n) ∙ sits.many ∙ ap (λ c. length (calls_on k (script_of run.scripts c))) (sym sits.caller_is);
+      };
+}

@@ -1,0 +1,84 @@
+-- What the streams, callers and feeders of a run have to do with it, while it goes on.
+use Rattle.std.specs.Prelude.{◌≡◌, ℕ, ◌+◌, ◌<◌, ◌^◌, List, [], ◌∷◌, All, drop, get_or, length}
+use prog.Memory.{size}
+use mir.Syntax.{Ty}
+use denote.RattleType.{RattleType}
+use denote.Param.{layout}
+use Rattle.strm_msg.specs.Message.{Msg}
+use Rattle.strm_module.specs.declared.shape.Shape.{Shape}
+use Rattle.strm_module.specs.declared.vocabulary.Kinds.{Ghosts}
+use Rattle.strm_module.specs.contracts.boxed.Boxed as boxed
+use Rattle.strm_history.specs.contracts.call.Called as called
+use Rattle.strm_history.specs.declared.call.Called.{Called}
+use Rattle.strm_history.specs.declared.call.Called.TheVariants.{Done, NoRoom}
+use Rattle.strm_call.specs.declared.answer.Answer.{Answer}
+use Rattle.strm_history.specs.declared.setup.Setup.{Setup}
+use Rattle.strm_shared.specs.Seat.{SeatValue}
+use Rattle.strm_ring.specs.Feed.{FeedValue}
+use Rattle.strm_shared.specs.Ending.{SharedValue}
+use Rattle.strm_crew.specs.declared.script.ScriptCall.{ScriptCall}
+use Rattle.strm_crew.specs.Scripts.{calls_on, script_of, feed_of}
+use Rattle.strm_crew.specs.Run.{RunValue}
+use Rattle.strm_crew.specs.Transcript.{IsPartOf}
+
+-- a value of this layout fits into memory; a fact that a proof passes on as it is
+unfoldable pub Fits : Ty → Type 0
+Fits of = size of < 2 ^ 63
+
+-- what becomes of a call does (`CallsFit`), passed on
+abbrev pub CallsDoFit : (M K : RattleType) → Ghosts K.Denot → Type 0
+CallsDoFit M K kinds = Fits (layout (called.the_row (boxed.the_row M K kinds)))
+
+-- what a call that was made tells: its answer
+abbrev pub told_of : {P : Type 0} → Called P → List Answer
+told_of (Done answer back) = answer ∷ []
+told_of (NoRoom same) = []
+
+-- the streams of a run, in order, shared by its callers
+pub record AreStreams {K : Type 0} (run : RunValue K) (streams : List SharedValue) : Type 0 where
+  pub many : length streams ≡ length run.setups
+  pub each : (k : ℕ) (d : SharedValue) (s : Setup) → k < length streams → get_or streams k d ≡ record { number = k; setup = get_or run.setups k s; seats = length run.scripts }
+
+-- a caller's seat on a stream, when these calls are left of its script
+pub record IsSeated {K : Type 0} (run : RunValue K) (caller k : ℕ) (left : List (ScriptCall (Shape K))) (seat : SeatValue) : Type 0 where
+  pub number : seat.number ≡ k
+  pub caller_is : seat.caller ≡ caller
+  pub next : drop seat.calls (calls_on k (script_of run.scripts caller)) ≡ calls_on k left
+  pub many : seat.calls + length (calls_on k left) ≡ length (calls_on k (script_of run.scripts caller))
+
+-- a caller that has these calls left, each on a stream that is there, with a seat on each stream and as many lists of answers
+pub record IsPlayer {K : Type 0} (run : RunValue K) (caller : ℕ) (left : List (ScriptCall (Shape K))) (seats : List SeatValue) (answers : ℕ) : Type 0 where
+  pub many : length seats ≡ length run.setups
+  pub told : answers ≡ length run.setups
+  pub there : All (λ one. one.stream < length run.setups) left
+  pub seated : (k : ℕ) (d : SeatValue) → k < length seats → IsSeated run caller k left (get_or seats k d)
+
+-- a seat of a caller that has played its script on a stream
+pub record HasPlayed {K : Type 0} (run : RunValue K) (k : ℕ) (seat : SeatValue) : Type 0 where
+  pub number : seat.number ≡ k
+  pub calls : seat.calls ≡ length (calls_on k (script_of run.scripts seat.caller))
+
+-- a caller that has played its script, with a seat on each stream and as many lists of answers
+pub record ArePlayed {K : Type 0} (run : RunValue K) (seats : List SeatValue) (answers : ℕ) : Type 0 where
+  pub many : length seats ≡ length run.setups
+  pub told : answers ≡ length run.setups
+  pub each : (k : ℕ) (d : SeatValue) → k < length seats → HasPlayed run k (get_or seats k d)
+
+-- a feeder that has offered none of its feed
+pub record IsFeeding {K : Type 0} (run : RunValue K) (feeder : FeedValue) (messages : List Msg) : Type 0 where
+  pub there : feeder.number < length run.setups
+  pub begins : feeder.offers ≡ 0
+  pub none : feeder.accepted ≡ []
+  pub feed : messages ≡ feed_of run.feeds feeder.number
+
+-- a feeder that has offered as many messages as its feed has: each once, in order, since each offer is of the feed's next one
+pub record HasOffered {K : Type 0} (run : RunValue K) (feed : FeedValue) (overrun : ℕ) : Type 0 where
+  pub there : feed.number < length run.setups
+  pub offered : feed.offers ≡ length (feed_of run.feeds feed.number)
+  pub part : IsPartOf feed.accepted (feed_of run.feeds feed.number)
+  pub all : length feed.accepted + overrun ≡ length (feed_of run.feeds feed.number)
+
+-- what a feeder leaves, and how many of its messages came back
+pub record OfferedValue : Type 0 where
+  pub feed : FeedValue
+  pub overrun : ℕ

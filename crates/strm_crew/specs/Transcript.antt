@@ -1,0 +1,69 @@
+-- What a run leaves of its streams.
+use Rattle.std.specs.Prelude.{◌≡◌, ℕ, ◌+◌, ◌<◌, ◌⊎◌, Bool, true, false, Option, Some, None, List, [], ◌∷◌, ◌++◌, get_or, length, map, if◌then◌else◌}
+use Rattle.arrayvec.specs.ArrayVec.{ArrayVec}
+use Rattle.strm_msg.specs.Message.{Msg}
+use Rattle.strm_msg.specs.declared.words.End.TheVariants.{A, B}
+use Rattle.strm_module.specs.Kinds.{Meaning}
+use Rattle.strm_qpair.specs.End.{EndState}
+use Rattle.strm_ends.specs.Image.{Image, end_of}
+use Rattle.strm_ioctl.specs.Names.{names_of}
+use Rattle.strm_head.specs.declared.event.Event.{Event}
+use Rattle.strm_head.specs.declared.event.Event.TheVariants.{Asked, Arrived}
+use Rattle.strm_history.specs.declared.setup.Setup.{Setup}
+use Rattle.strm_history.specs.Setup.{opened}
+use Rattle.strm_history.specs.Entry.{asked_of}
+use Rattle.strm_history.specs.History.{arrivals, own, Legal}
+use Rattle.strm_history.specs.Serials.{AreAccounted}
+use Rattle.strm_crew.specs.declared.transcript.StreamLog.{StreamLog}
+use Rattle.strm_crew.specs.Scripts.{calls_on, script_of, feed_of}
+use Rattle.strm_crew.specs.Run.{RunValue}
+
+-- a message came in
+abbrev pub has_come_in : {P : Type 0} → Event P → Bool
+has_come_in (Asked request) = false
+has_come_in (Arrived m) = true
+
+-- the names of the modules on an end that is open, topmost first
+abbrev pub names_at : {K : Type 0} → EndState K → Option (ArrayVec (ArrayVec ℕ))
+names_at e = if e.is_open then Some (record { items = names_of e }) else None
+
+-- the first are the others, but for some that were left out
+abbrev pub IsPartOf : List Msg → List Msg → Type 0
+IsPartOf part [] = part ≡ []
+IsPartOf part (m ∷ rest) = IsPartOf part rest ⊎ ((others : List Msg) × (part ≡ m ∷ others) × IsPartOf others rest)
+
+-- what came in is the beginning of what was accepted, which is a part of the feed; the numbers are those of these lists
+pub record IsFed {K : Type 0} (feed : List Msg) (log : StreamLog K) : Type 0 where
+  pub accepted : List Msg
+  pub left : List Msg
+  pub came_in : arrivals log.history.items ++ left ≡ accepted
+  pub part : IsPartOf accepted feed
+  pub many : log.accepted ≡ length accepted
+  pub arrived : log.arrived ≡ length (arrivals log.history.items)
+  pub all : log.accepted + log.overrun ≡ length feed
+
+-- for kinds of any meaning
+module _ {K : Type 0} (means : Meaning K) where
+  -- the history leads by steps from a stream that was just made to one whose ends the log shows, and each module is accounted for
+  pub record IsLegal (setup : Setup) (log : StreamLog K) : Type 0 where
+    pub after : Image K
+    pub legal : Legal means (opened setup) log.history.items after
+    pub accounts : AreAccounted (opened setup) log.history.items after
+    pub a : log.a ≡ names_at (end_of after A)
+    pub b : log.b ≡ names_at (end_of after B)
+
+  -- what a run leaves of a stream: a legal history, in which each caller's calls are those of its script for the stream, in order
+  -- and no others, and whose arrivals are of its feed
+  pub record IsLog (run : RunValue K) (number : ℕ) (setup : Setup) (log : StreamLog K) : Type 0 where
+    pub legal : IsLegal setup log
+    pub calls : (caller : ℕ) → map asked_of (own caller log.history.items) ≡ calls_on number (script_of run.scripts caller)
+    pub fed : IsFed (feed_of run.feeds number) log
+
+  -- what it leaves of all, in order
+  pub record AreLogs (run : RunValue K) (logs : List (StreamLog K)) : Type 0 where
+    pub many : length logs ≡ length run.setups
+    pub each : (k : ℕ) (s : Setup) (d : StreamLog K) → k < length run.setups → IsLog run k (get_or run.setups k s) (get_or logs k d)
+
+  -- each stream of a run has ended, and left a log
+  abbrev pub HaveEnded : RunValue K → Type 0
+  HaveEnded run = (logs : List (StreamLog K)) × AreLogs run logs

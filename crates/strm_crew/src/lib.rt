@@ -1,0 +1,24 @@
+//! The crew of a run: callers that play their scripts, feeders that offer their feeds, the streams that they share, and
+//! what is left of them.
+//!
+//! Each is a plain value, proved without a thread. What `strm_run` does is to give each caller and each feeder a thread,
+//! and to judge what is given before and what is left afterwards.
+#![tactic(auto)]
+
+mod about;
+mod dealing;
+mod feeding;
+mod player;
+mod script;
+mod streams;
+mod told;
+mod transcript;
+
+pub use about::{Of, Plays};
+pub use dealing::{deal, seated};
+pub use feeding::{Feeding, Offered};
+pub use player::{Played, Player};
+pub use script::{Feed, Gate, Script, ScriptCall};
+pub use streams::Streams;
+pub use told::are_all_told;
+pub use transcript::{StreamLog, Transcript, log_of};

@@ -1,0 +1,97 @@
+//! What a run leaves.
+ghost use Rattle.std.specs.Prelude.{◌≡◌, ◌+◌, length, count_by};
+ghost use Rattle.strm_msg.specs.declared.words.End.TheVariants.{A, B};
+ghost use Rattle.strm_ends.specs.Image.{end_of};
+ghost use Rattle.strm_history.specs.History.{arrivals};
+ghost use Rattle.strm_crew.specs.Transcript.{names_at};
+ghost use Rattle.strm_crew.specs.Transcript.{has_come_in};
+
+use arrayvec::ArrayVec;
+use strm_head::{Event, MOST_MODULES, Name, Stream};
+use strm_history::Entry;
+use strm_module::ModuleOf;
+use strm_msg::End;
+use strm_shared::Ended;
+
+/// What a run leaves of a stream.
+#[derive(Drop)]
+pub struct StreamLog<K> {
+    /// Every step, in order.
+    pub history: Vec<Entry<K>>,
+    /// The names of the modules on end A, topmost first; `None` where it is closed.
+    pub a: Option<ArrayVec<Name, MOST_MODULES>>,
+    /// The names of the modules on end B, topmost first; `None` where it is closed or not there.
+    pub b: Option<ArrayVec<Name, MOST_MODULES>>,
+    /// How many messages of its feed were accepted.
+    pub accepted: u64,
+    /// How many messages came in, as the history has them.
+    pub arrived: u64,
+    /// How many messages of its feed were handed back.
+    pub overrun: u64,
+}
+
+/// What a run leaves: each stream, in order of their numbers.
+#[derive(Drop)]
+pub struct Transcript<K> {
+    /// The streams.
+    pub streams: Vec<StreamLog<K>>,
+}
+
+/// The names of the modules on an end, topmost first; `None` where it is closed or not there.
+fn names_at<M: ModuleOf>(stream: &Stream<M>, end: End) -> Option<ArrayVec<Name, MOST_MODULES>>
+    ensures { result ≡ names_at (end_of stream.now end) }
+{
+    if stream.is_open(end) {
+        return Some(stream.names(end));
+    }
+    None
+}
+
+/// Whether a message came in.
+fn has_come_in<P>(event: &Event<P>) -> bool
+    ensures { result ≡ has_come_in event.now }
+{
+    match event {
+        Event::Asked(_) => false,
+        Event::Arrived(_) => true,
+    }
+}
+
+/// How many steps are of a message that came in.
+fn count_landed<K>(history: &[Entry<K>]) -> usize
+    ensures { result ≡ count_by (λ entry. has_come_in entry.event) history.now }
+{
+    history.iter().filter(|e| has_come_in(&e.event)).count()
+}
+
+/// How many messages came in.
+fn count_arrivals<K>(history: &[Entry<K>]) -> u64
+    ensures { result ≡ length (arrivals history.now) }
+{
+    count_landed(history) as u64
+}
+
+/// What is left of a stream that has ended, with how many messages of its feed were handed back.
+pub fn log_of<M: ModuleOf>(ended: Ended<M>, overrun: u64) -> StreamLog<M::Kind>
+    ensures history { result.history.items ≡ ended.history.items }
+    ensures a { result.a ≡ names_at (end_of ended.stream A) }
+    ensures b { result.b ≡ names_at (end_of ended.stream B) }
+    ensures accepted { result.accepted ≡ length (arrivals ended.history.items) + length ended.left.items }
+    ensures arrived { result.arrived ≡ length (arrivals ended.history.items) }
+    ensures overrun { result.overrun ≡ overrun }
+{
+    let Ended {
+        history,
+        stream,
+        left,
+    } = ended;
+    let arrived = count_arrivals(history.as_slice());
+    StreamLog {
+        history,
+        a: names_at(&stream, End::A),
+        b: names_at(&stream, End::B),
+        accepted: arrived + left.len() as u64,
+        arrived,
+        overrun,
+    }
+}

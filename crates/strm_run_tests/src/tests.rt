@@ -1,33 +1,15 @@
-//! Worked examples, by the public calls alone. What is expected is worked out by hand from the rules:
-//! what each stream's history has, whatever the threads do, and when a run is refused.
-ghost use Rattle.std.specs.Prelude.{◌≡◌, ◌<◌, ◌^◌, length};
-
+//! Worked examples of what no script can say, by the public calls alone. What is expected is worked out by hand from the
+//! rules.
 use std::alloc::Global;
 use std::process::Abort;
-use std::sync::{OnceLock, Wait};
-use std::thread;
-use std::thread::Threads;
-use strm_head::{Answer, Driver, Event, Reply, Request};
-use strm_history::{Call, Entry, Setup, Who};
-use strm_module::{Boxed, Kind, ModuleOf, Plain};
-use strm_msg::{Bytes, End, Message};
-use strm_run::{
-    Feed, Gate, RunFault, Script, ScriptCall, StreamLog, Transcript, are_from_line, are_setups, run,
-};
+use strm_head::{Answer, Driver, Event, MOST_MODULES, Reply, Request};
+use strm_history::{Called, Entry, Setup, Who};
+use strm_module::{Boxed, Instance, Kind, Module, ModuleOf, Plain, Shape};
+use strm_msg::{Bytes, Message};
 
-mod crews;
-mod faults;
-mod feeds;
-mod gates;
-mod long;
-mod order;
-mod streams;
-mod together;
-mod told;
-mod want;
-
-/// How often a gate or a module looks whether what it waits for has come.
-const TURNS: u32 = 10_000_000;
+mod head;
+mod runs;
+mod shared;
 
 /// An echo whose lists are full at 16 bytes.
 const ECHO: Setup = Setup {
@@ -37,78 +19,72 @@ const ECHO: Setup = Setup {
     ring: 1,
 };
 
-/// A gate that does nothing.
-struct Open;
-
-impl Gate for Open {
-    fn before(&self, _: u32, _: u64) {}
-
-    fn after(&self, _: u32, _: u64) {}
-}
-
-/// Waits until something was done, but not for ever: then it is noted that it came too late.
-fn wait_for(done: &OnceLock<()>, late: &OnceLock<()>) {
-    for _ in 0..TURNS {
-        if done.get().is_some() {
-            return;
-        }
-        thread::yield_now();
+/// A line with these marks, and a ring for so many messages.
+const fn line(marks: (u32, u32), ring: u16) -> Setup {
+    Setup {
+        driver: Driver::Line,
+        head: marks,
+        drv: marks,
+        ring,
     }
-    let _ = late.try_set(());
 }
+
+/// The serials of modules, topmost first, and nothing behind them.
+type Serials = [Option<u64>; MOST_MODULES];
 
 fn bytes(rt: &impl Abort, alloc: Global, bytes: &[u8]) -> Bytes {
     Bytes::from_slice(alloc, bytes).expect(rt, "no memory")
 }
 
-/// A call by which a caller writes these bytes at an end.
-fn write<M: ModuleOf>(
-    rt: &impl Abort,
-    alloc: Global,
-    stream: u32,
-    end: End,
-    dat: &[u8],
-) -> ScriptCall<Boxed<M>> {
-    let request = Request::Write {
+/// A call that writes these bytes.
+fn write<M: ModuleOf>(rt: &impl Abort, alloc: Global, dat: &[u8]) -> Request<Boxed<M>> {
+    Request::Write {
         dat: bytes(rt, alloc, dat),
-    };
-    ScriptCall {
-        stream,
-        call: Call { end, request },
     }
 }
 
-/// A call by which a caller asks this at end A.
-fn ask<M: ModuleOf>(stream: u32, request: Request<Boxed<M>>) -> ScriptCall<Boxed<M>> {
-    let end = End::A;
-    ScriptCall {
-        stream,
-        call: Call { end, request },
-    }
-}
-
-/// A run on streams that can be made, of feeds that come from lines.
-fn run_of<G: Gate, R: Abort + Threads + Wait + Sync>(
-    rt: &R,
-    alloc: Global,
-    setups: Vec<Setup>,
-    scripts: Vec<Script<Boxed<Plain>>>,
-    feeds: Vec<Feed>,
-    workers: u32,
-    gate: &G,
-) -> Result<Transcript<Kind>, RunFault> {
-    assert!(rt; are_setups(setups.as_slice()) && are_from_line(feeds.as_slice()));
-    assert!(rt; setups.len() < 1000 && scripts.len() < 1000);
-    run(rt, alloc, setups, scripts, feeds, workers, gate)
-}
-
-/// What is left of the stream of this number.
-fn log<'a>(
+/// A module of this serial, name and kind, without queues of its own.
+fn boxed<M: Module>(
     rt: &impl Abort,
-    transcript: &'a Transcript<Kind>,
-    number: usize,
-) -> &'a StreamLog<Kind> {
-    transcript.streams.get(number).expect(rt, "a stream")
+    alloc: Global,
+    (serial, name, kind): (u64, &[u8], Kind),
+    object: M,
+) -> Boxed<M> {
+    let shape = Shape::new(serial, name, None, None, kind).expect(rt, "a good name");
+    Boxed::new(alloc, Instance::new(shape, object)).expect(rt, "no memory")
+}
+
+/// A call that puts a module in, of this serial, name and kind.
+fn push(rt: &impl Abort, alloc: Global, made: (u64, &[u8], Kind)) -> Request<Boxed<Plain>> {
+    Request::Push {
+        instance: boxed(rt, alloc, made, Plain),
+    }
+}
+
+/// The serial of a module that came back.
+fn serial_at<M: ModuleOf>(back: &[Option<Boxed<M>>], i: usize) -> Option<u64> {
+    match back.get(i) {
+        Some(Some(instance)) => Some(instance.shape().serial),
+        _ => None,
+    }
+}
+
+/// The serials of the modules that came back.
+fn came_back<M: ModuleOf>(back: &[Option<Boxed<M>>]) -> Serials {
+    [0, 1, 2, 3, 4, 5, 6, 7].map(|i| serial_at(back, i))
+}
+
+/// These serials, and nothing behind them.
+fn padded(serials: &[u64]) -> Serials {
+    [0, 1, 2, 3, 4, 5, 6, 7].map(|i| serials.get(i).copied())
+}
+
+/// What a call answered, and the serials of the modules that came back; of a call that found no room nothing.
+fn told(called: Called<Boxed<Plain>>) -> Option<(Answer, Serials)> {
+    match called {
+        Called::Done { answer, back } => Some((answer, came_back(back.as_slice()))),
+        Called::NoRoom(_) => None,
+    }
 }
 
 /// Who wrote an entry, and the first byte and the length of what was written; an entry of something else
@@ -121,5 +97,21 @@ fn wrote(entry: &Entry<Kind>) -> Option<(u32, u8, u64)> {
             Answer::Done(Reply::Write { len }),
         ) => Some((caller, *dat.as_slice().first()?, *len)),
         _ => None,
+    }
+}
+
+/// The data of a message that came in with an entry; of a call nothing.
+fn came(entry: &Entry<Kind>) -> Option<&[u8]> {
+    match (&entry.who, &entry.event) {
+        (Who::Line, Event::Arrived(m)) => Some(data_of(m)),
+        _ => None,
+    }
+}
+
+/// The data of a message, or no bytes.
+fn data_of(m: &Message) -> &[u8] {
+    match &m.dat {
+        Some(dat) => dat.as_slice(),
+        None => b"",
     }
 }

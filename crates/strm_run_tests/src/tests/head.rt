@@ -1,0 +1,204 @@
+//! A stream that is called by one: messages that come in at a known point between the calls, the histories
+//! that they leave, and the serials of modules that come back.
+use super::{bytes, push, write};
+use arrayvec::ArrayVec;
+use std::alloc::Global;
+use std::process::Abort;
+use strm_head::{Answer, GetFlag, More, Name, Priority, Received, Refusal, Reply, Request, Wanted};
+use strm_module::{Boxed, Kind, Plain};
+use strm_msg::{End, Errno, Message};
+
+mod histories;
+mod owners;
+mod tables;
+
+/// Names of modules, topmost first, and maybe of the driver.
+type Names = &'static [&'static [u8]];
+
+/// A kind of module.
+#[derive(Clone, Copy, Drop)]
+enum Pushes {
+    Pass,
+    CrNl,
+    Tee,
+    Mute,
+}
+
+/// A message that comes in from a line.
+#[derive(Clone, Copy, Drop)]
+enum Comes {
+    /// Data of a band.
+    Data(u8, &'static [u8]),
+    /// Control of high priority.
+    High(&'static [u8]),
+    Hangup,
+    Error(Errno),
+}
+
+/// A call.
+#[derive(Clone, Copy, Drop)]
+enum Call {
+    /// Takes whatever is first.
+    Get,
+    /// Takes whatever is first, of some band.
+    GetOf,
+    Read(u16),
+    Write(&'static [u8]),
+    Nread,
+    /// A module of this kind and name.
+    Push(Pushes, &'static [u8]),
+    Pop,
+    Look,
+    List,
+    Close,
+}
+
+/// What a call is to answer.
+#[derive(Clone, Copy, Drop)]
+enum Want {
+    /// Control of high priority was taken.
+    Control(&'static [u8]),
+    /// Data of a band was taken.
+    DataOf(u8, &'static [u8]),
+    Bytes(&'static [u8]),
+    Waiting(u64, u64),
+    Pushed,
+    Popped(&'static [u8]),
+    Listed(Names),
+    /// A close took out the modules of these names.
+    Closed(Names),
+    Refused(Refusal),
+}
+
+/// What happens at an end, and what becomes of it.
+#[derive(Clone, Copy, Drop)]
+enum Happens {
+    /// A call answers so, so many queues move, and modules of these serials come back. A push has the
+    /// number of its row as serial.
+    Asked(Call, Want, usize, &'static [u64]),
+    /// A message is taken, so many queues move, and service looks at so many places.
+    ///
+    /// A place is looked at when a message has come to it, or when the queue that it waits for has drained.
+    /// One that may move moves, and is looked at again.
+    Taken(Comes, usize, u64),
+    /// A message is left, and nothing is changed.
+    Left(Comes),
+}
+
+type Row = (End, Happens);
+
+fn message(rt: &impl Abort, alloc: Global, comes: Comes) -> Message {
+    match comes {
+        Comes::Data(band, dat) => Message::of_data(alloc, band, dat).expect(rt, "no memory"),
+        Comes::High(ctl) => Message::of_pcproto(alloc, ctl, None).expect(rt, "no memory"),
+        Comes::Hangup => Message::of_hangup(),
+        Comes::Error(errno) => Message::of_error(errno),
+    }
+}
+
+fn kind_of(pushes: Pushes) -> Kind {
+    match pushes {
+        Pushes::Pass => Kind::Pass,
+        Pushes::CrNl => Kind::CrNl,
+        Pushes::Tee => Kind::Tee,
+        Pushes::Mute => Kind::Mute,
+    }
+}
+
+/// The request of a call. A push carries a module of this serial.
+fn request_of(rt: &impl Abort, alloc: Global, serial: u64, call: Call) -> Request<Boxed<Plain>> {
+    match call {
+        Call::Get => Request::Getmsg {
+            maxctl: Some(64),
+            maxdat: Some(64),
+            flag: Wanted::Any,
+        },
+        Call::GetOf => Request::Getpmsg {
+            maxctl: Some(64),
+            maxdat: Some(64),
+            band: 0,
+            flag: GetFlag::Any,
+        },
+        Call::Read(max) => Request::Read { max },
+        Call::Write(dat) => write(rt, alloc, dat),
+        Call::Nread => Request::Nread,
+        Call::Push(pushes, name) => push(rt, alloc, (serial, name, kind_of(pushes))),
+        Call::Pop => Request::Pop,
+        Call::Look => Request::Look,
+        Call::List => Request::List,
+        Call::Close => Request::Close,
+    }
+}
+
+fn name_of(rt: &impl Abort, name: &[u8]) -> Name {
+    ArrayVec::try_from(name).ok().expect(rt, "a short name")
+}
+
+fn names_of<const N: usize>(rt: &impl Abort, names: &[&[u8]]) -> ArrayVec<Name, N> {
+    let mut all = ArrayVec::new();
+    for name in names {
+        let pushed = all.try_push(name_of(rt, name));
+        pushed.ok().expect(rt, "few names");
+    }
+    all
+}
+
+/// A reply with control of high priority.
+fn control(rt: &impl Abort, alloc: Global, ctl: &[u8]) -> Reply {
+    Reply::Getmsg {
+        ctl: Some(bytes(rt, alloc, ctl)),
+        dat: None,
+        flag: Priority::Hipri,
+        more: More::Nothing,
+    }
+}
+
+/// A reply with data of a band.
+fn data_of_band(rt: &impl Abort, alloc: Global, band: u8, dat: &[u8]) -> Reply {
+    Reply::Getpmsg {
+        ctl: None,
+        dat: Some(bytes(rt, alloc, dat)),
+        flag: Received::Band {
+            band: u64::from(band),
+        },
+        more: More::Nothing,
+    }
+}
+
+fn read(rt: &impl Abort, alloc: Global, dat: &[u8]) -> Reply {
+    Reply::Read {
+        dat: bytes(rt, alloc, dat),
+    }
+}
+
+fn popped(rt: &impl Abort, name: &[u8]) -> Reply {
+    Reply::Pop {
+        name: name_of(rt, name),
+    }
+}
+
+fn listed(rt: &impl Abort, names: Names) -> Reply {
+    Reply::List {
+        names: names_of(rt, names),
+    }
+}
+
+fn closed(rt: &impl Abort, names: Names) -> Reply {
+    Reply::Close {
+        names: names_of(rt, names),
+    }
+}
+
+fn answer_of(rt: &impl Abort, alloc: Global, want: Want) -> Answer {
+    match want {
+        Want::Refused(refusal) => Answer::Refused(refusal),
+        Want::Control(ctl) => Answer::Done(control(rt, alloc, ctl)),
+        Want::DataOf(band, dat) => Answer::Done(data_of_band(rt, alloc, band, dat)),
+        Want::Bytes(dat) => Answer::Done(read(rt, alloc, dat)),
+        Want::Waiting(messages, bytes) => Answer::Done(Reply::Nread { messages, bytes }),
+        Want::Pushed => Answer::Done(Reply::Push),
+        Want::Popped(name) => Answer::Done(popped(rt, name)),
+        Want::Listed(names) => Answer::Done(listed(rt, names)),
+        Want::Closed(names) => Answer::Done(closed(rt, names)),
+    }
+}

@@ -1,0 +1,65 @@
+//! Runs that are refused before a thread starts.
+use super::{Ask, Fed, Open, Row, feeds_of, run_of, scripts_of};
+use crate::tests::{ECHO, line};
+use std::alloc::Global;
+use std::process::Abort;
+use std::sync::Wait;
+use std::thread::Threads;
+use strm_module::{Boxed, Plain};
+use strm_msg::End;
+use strm_msg::End::{A, B};
+use strm_run::{RunFault, Script};
+
+/// The fault of a run of one script with one write, on an echo and a line whose lists are full at 5 bytes, with feeds for these
+/// streams.
+fn fault<R: Abort + Threads + Wait + Sync>(
+    rt: &R,
+    alloc: Global,
+    workers: u32,
+    (stream, end): (u32, End),
+    fed: &[Fed],
+) -> Option<RunFault> {
+    let row: Row = (stream, end, Ask::Write(b"x"));
+    let setups = vec![in alloc; ECHO, line((5, 4), 2)].expect(rt, "no memory");
+    let scripts: Vec<Script<Boxed<Plain>>> = scripts_of(rt, alloc, &[&[row]]);
+    let feeds = feeds_of(rt, alloc, fed);
+    run_of(rt, alloc, setups, scripts, feeds, workers, &Open).err()
+}
+
+/// Runs with so many workers, with a write at an end of a stream and with feeds, and how each is refused: the number of
+/// workers is looked at first, and then whether all that is named is there.
+const RUNS: [(u32, (u32, End), &[Fed], Option<RunFault>); 13] = [
+    (0, (0, A), &[], Some(RunFault::Workers)),
+    (1, (0, A), &[], None),
+    (64, (0, A), &[], None),
+    (65, (0, A), &[], Some(RunFault::Workers)),
+    (4_294_967_295, (0, A), &[], Some(RunFault::Workers)),
+    (1, (2, A), &[], Some(RunFault::NoSuch)),
+    (1, (0, B), &[], Some(RunFault::NoSuch)),
+    (1, (1, B), &[], Some(RunFault::NoSuch)),
+    (1, (1, A), &[(0, &[])], Some(RunFault::NoSuch)),
+    (1, (1, A), &[(2, &[])], Some(RunFault::NoSuch)),
+    (1, (1, A), &[(1, &[]), (1, &[])], Some(RunFault::NoSuch)),
+    (1, (1, A), &[(1, &[])], None),
+    (0, (9, A), &[(0, &[])], Some(RunFault::Workers)),
+];
+
+#[test]
+fn a_run_has_1_to_64_workers_and_all_that_is_named(rt: HostRuntime) {
+    for (workers, at, fed, refused) in RUNS {
+        assert!(rt; fault(&rt, rt.alloc(), workers, at, fed) == refused);
+    }
+}
+
+#[test]
+fn faults_have_numbers_and_words(rt: HostRuntime) {
+    for (fault, number, text) in [
+        (RunFault::Workers, 1, "workers"),
+        (RunFault::NoSuch, 2, "no such stream or end"),
+        (RunFault::NoMem, 3, "no memory"),
+        (RunFault::Unlike, 4, "unlike"),
+        (RunFault::Unfinished, 5, "unfinished"),
+    ] {
+        assert!(rt; fault.number() == number && fault.text() == text);
+    }
+}

@@ -1,0 +1,79 @@
+//! When a gate is called.
+use super::{log, run_of, script_call};
+use crate::tests::{ECHO, boxed, write};
+use std::alloc::Global;
+use std::sync::atomic::{AtomicU64, Ordering};
+use strm_head::Request;
+use strm_module::{Kind, Module};
+use strm_msg::End;
+use strm_run::{Gate, Script};
+
+/// Writes digits behind those that stand there, where `shift` is the power of ten that makes room for them.
+fn note(done: &AtomicU64, shift: u64, digits: u64) {
+    let before = done.load(Ordering::SeqCst).saturating_mul(shift);
+    done.store(before.saturating_add(digits), Ordering::SeqCst);
+}
+
+/// A gate that notes 1, the caller and the number before a call, and 2 and both after it.
+#[derive(Drop)]
+struct Noting<'a> {
+    done: &'a AtomicU64,
+}
+
+impl Noting<'_> {
+    fn notes(&self, what: u64, caller: u32, number: u64) {
+        let tens = (caller as u64).saturating_mul(10);
+        let digits = what.saturating_add(tens).saturating_add(number);
+        note(self.done, 1000, digits);
+    }
+}
+
+impl Gate for Noting<'_> {
+    fn before(&self, caller: u32, number: u64) {
+        self.notes(100, caller, number);
+    }
+
+    fn after(&self, caller: u32, number: u64) {
+        self.notes(200, caller, number);
+    }
+}
+
+/// A module that notes 4 when it is closed.
+struct Watched<'a> {
+    done: &'a AtomicU64,
+}
+
+impl Drop for Watched<'_> {
+    fn drop(self) {
+        note(self.done, 10, 4);
+        let Watched { done: _ } = self;
+    }
+}
+
+impl Module for Watched<'_> {}
+
+/// Caller 0 pushes the module; caller 1 writes on another stream, and pops it.
+#[test]
+fn a_gate_is_called_round_each_call_and_what_comes_back_is_dropped_within(rt: HostRuntime) {
+    let alloc: Global = rt.alloc();
+    let done = AtomicU64::new(0);
+    let object = Watched { done: &done };
+    let instance = boxed(&rt, alloc, (1, b"note", Kind::Pass), object);
+    let push = script_call(0, End::A, Request::Push { instance });
+    let p = vec![in alloc; push].expect(&rt, "no memory");
+    let q = vec![in alloc;
+        script_call(1, End::A, write(&rt, alloc, b"q")),
+        script_call(0, End::A, Request::Pop),
+    ]
+    .expect(&rt, "no memory");
+    let scripts = vec![in alloc; Script { calls: p }, Script { calls: q }].expect(&rt, "no memory");
+    let setups = vec![in alloc; ECHO, ECHO].expect(&rt, "no memory");
+    let feeds = vec![in alloc].expect(&rt, "no memory");
+    let gate = Noting { done: &done };
+    let transcript = run_of(&rt, alloc, setups, scripts, feeds, 1, &gate).expect(
+        &rt,
+        "a transcript",
+    );
+    assert_eq!(rt; done.load(Ordering::SeqCst), 1_012_011_112_111_124_212);
+    assert_eq!(rt; log(&rt, &transcript, 0).history.len(), 2);
+}

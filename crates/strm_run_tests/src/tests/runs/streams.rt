@@ -1,0 +1,88 @@
+//! Each stream has a lock of its own.
+use super::{Ask, Row, log, run_of, script_call, script_of, wait_for};
+use crate::tests::{ECHO, boxed, write};
+use std::alloc::Global;
+use std::process::Abort;
+use std::sync::{OnceLock, Wait};
+use std::thread::Threads;
+use strm_head::Request;
+use strm_module::{Kind, Module, Put, Shape};
+use strm_msg::{End, Message, NoMem, Side};
+use strm_run::{Gate, Script};
+
+/// What was done in a run of two callers: the first stands in its module, the second has its answer, and
+/// one that waited for either did so in vain.
+#[derive(Drop)]
+struct Done {
+    inside: OnceLock<()>,
+    answered: OnceLock<()>,
+    late: OnceLock<()>,
+}
+
+/// A module that waits, when a message comes, until the call on the other stream is answered.
+#[derive(Drop)]
+struct Waiting<'a> {
+    done: &'a Done,
+}
+
+impl Module for Waiting<'_> {
+    fn put(
+        &mut self,
+        alloc: Global,
+        shape: &mut Shape,
+        side: Side,
+        m: Message,
+    ) -> Result<Put, NoMem> {
+        let _ = self.done.inside.try_set(());
+        wait_for(&self.done.answered, &self.done.late);
+        shape.put(alloc, side, m)
+    }
+}
+
+/// A gate that lets caller 1 begin when caller 0 stands in its module.
+impl Gate for Done {
+    fn before(&self, caller: u32, _: u64) {
+        if caller == 1 {
+            wait_for(&self.inside, &self.late);
+        }
+    }
+
+    fn after(&self, caller: u32, _: u64) {
+        if caller == 1 {
+            let _ = self.answered.try_set(());
+        }
+    }
+}
+
+/// A call on one stream is answered while another stands under its lock.
+fn is_apart<R: Abort + Threads + Wait + Sync>(rt: &R, alloc: Global, one: u32, other: u32) {
+    let done = Done {
+        inside: OnceLock::new(),
+        answered: OnceLock::new(),
+        late: OnceLock::new(),
+    };
+    let object = Waiting { done: &done };
+    let instance = boxed(rt, alloc, (1, b"wait", Kind::Pass), object);
+    let push = script_call(one, End::A, Request::Push { instance });
+    let calls = vec![in alloc; push, script_call(one, End::A, write(rt, alloc, b"x"))].expect(
+        rt,
+        "no memory",
+    );
+    let row: Row = (other, End::A, Ask::Write(b"y"));
+    let second = script_of(rt, alloc, &[row]);
+    let scripts = vec![in alloc; Script { calls }, second].expect(rt, "no memory");
+    let setups = vec![in alloc; ECHO, ECHO, ECHO].expect(rt, "no memory");
+    let feeds = vec![in alloc].expect(rt, "no memory");
+    let transcript = run_of(rt, alloc, setups, scripts, feeds, 2, &done).expect(rt, "a transcript");
+    assert!(rt; done.answered.get().is_some() && done.late.get().is_none());
+    assert_eq!(rt; log(rt, &transcript, one as usize).history.len(), 2);
+    assert_eq!(rt; log(rt, &transcript, other as usize).history.len(), 1);
+}
+
+#[test]
+fn a_stream_does_not_wait_for_another(rt: HostRuntime) {
+    let alloc: Global = rt.alloc();
+    for (one, other) in [(0, 1), (0, 2), (1, 0), (1, 2), (2, 0), (2, 1)] {
+        is_apart(&rt, alloc, one, other);
+    }
+}

@@ -1,0 +1,52 @@
+//! All workers run at once.
+use super::{Ask, Row, log, played, wait_for};
+use crate::tests::ECHO;
+use std::alloc::Global;
+use std::sync::OnceLock;
+use strm_msg::End::A;
+use strm_run::Gate;
+
+/// How many workers a run has at most.
+const MOST: u32 = 64;
+
+/// A script for each of them.
+const SCRIPTS: [&[Row]; 64] = [&[(0, A, Ask::Write(b"x"))]; 64];
+
+/// A gate that lets callers go on when all have come to it.
+#[derive(Drop)]
+struct Together<'a> {
+    come: &'a [OnceLock<()>],
+    late: &'a OnceLock<()>,
+}
+
+impl Gate for Together<'_> {
+    fn before(&self, caller: u32, _: u64) {
+        if let Some(own) = self.come.get(caller as usize) {
+            let _ = own.try_set(());
+        }
+        for one in self.come {
+            if self.late.get().is_none() {
+                wait_for(one, self.late);
+            }
+        }
+    }
+
+    fn after(&self, _: u32, _: u64) {}
+}
+
+#[test]
+fn as_many_workers_as_there_may_be_run_at_once(rt: HostRuntime) {
+    let alloc: Global = rt.alloc();
+    let mut come = vec![in alloc].expect(&rt, "no memory");
+    for _ in 0..MOST {
+        come.push(OnceLock::new()).expect(&rt, "no memory");
+    }
+    let late = OnceLock::new();
+    let gate = Together {
+        come: come.as_slice(),
+        late: &late,
+    };
+    let transcript = played(&rt, alloc, &[ECHO], (&SCRIPTS, &[]), MOST, &gate);
+    assert!(rt; late.get().is_none());
+    assert_eq!(rt; log(&rt, &transcript, 0).history.len(), 64);
+}

@@ -1,0 +1,97 @@
+//! Streams that several callers share: what each call answers, what the history has of it, and when a shared stream ends.
+ghost use Rattle.std.specs.Prelude.{◌≡◌, ℕ, true, None};
+ghost use Rattle.strm_history.specs.Setup.{is_fit};
+
+use super::{ECHO, Serials, told};
+use std::alloc::Global;
+use std::process::Abort;
+use std::sync::Wait;
+use strm_head::{Answer, Request};
+use strm_history::{Call, Called};
+use strm_module::{Boxed, Kind, ModuleOf, Plain};
+use strm_msg::End;
+use strm_shared::{AnyCalls, EndFault, Ended, FeedEnd, Feeder, Ring, Runs, Seat, Shared};
+
+mod callers;
+mod ending;
+mod lines;
+mod many;
+
+/// A shared stream, its seats, and for a line its feeder.
+type Made<M, N> = (
+    Shared<M, N>,
+    Vec<Seat>,
+    Option<Feeder<<M as ModuleOf>::Kind, N>>,
+);
+
+/// A shared stream of this number with this ring, which the run names.
+fn made<M: ModuleOf, N: Runs<M::Kind>>(
+    rt: &impl Abort,
+    alloc: Global,
+    number: u32,
+    seats: u32,
+    ring: Ring,
+) -> Made<M, N>
+    requires marks { is_fit ring.setup ≡ true }
+    requires name { ring.name ≡ N.ring number }
+{
+    match Shared::new(alloc, number, seats, ring) {
+        Ok(made) => made,
+        Err(_) => panic!(rt; "no memory"),
+    }
+}
+
+/// A shared echo of this number, and its seats.
+fn echo(rt: &impl Abort, alloc: Global, number: u32, seats: u32) -> (Shared<Plain>, Vec<Seat>) {
+    let ring = Ring::new(alloc, ECHO).ok().expect(rt, "a ring");
+    let (shared, seats, _) = made::<Plain, AnyCalls>(rt, alloc, number, seats, ring);
+    (shared, seats)
+}
+
+/// The end of a shared stream.
+fn ended<M: ModuleOf, N: Runs<M::Kind>>(
+    shared: Shared<M, N>,
+    seats: Vec<Seat>,
+    feed: Option<FeedEnd<M::Kind, N>>,
+) -> Result<Ended<M>, EndFault> {
+    shared.end(seats, feed)
+}
+
+/// What becomes of a call on an end.
+fn call<M: ModuleOf, N: Runs<M::Kind>, R: Abort + Wait>(
+    rt: &R,
+    shared: &Shared<M, N>,
+    seat: &mut Seat,
+    end: End,
+    request: Request<Boxed<M>>,
+) -> Called<Boxed<M>>
+    requires { (number caller : ℕ) → N.calls number caller ≡ None }
+{
+    assert!(rt; seat.number() == shared.number());
+    shared.call(rt, seat, Call { end, request })
+}
+
+/// What a call on an end answers, and the serials of the modules that come back.
+fn called<N: Runs<Kind>, R: Abort + Wait>(
+    rt: &R,
+    shared: &Shared<Plain, N>,
+    seat: &mut Seat,
+    end: End,
+    request: Request<Boxed<Plain>>,
+) -> (Answer, Serials)
+    requires { (number caller : ℕ) → N.calls number caller ≡ None }
+{
+    told(call(rt, shared, seat, end, request)).expect(rt, "room")
+}
+
+/// What a call on end A answers.
+fn answer<N: Runs<Kind>, R: Abort + Wait>(
+    rt: &R,
+    shared: &Shared<Plain, N>,
+    seat: &mut Seat,
+    request: Request<Boxed<Plain>>,
+) -> Answer
+    requires { (number caller : ℕ) → N.calls number caller ≡ None }
+{
+    called(rt, shared, seat, End::A, request).0
+}

@@ -1,0 +1,305 @@
+//! Lines, which are fed through a ring: what is offered, what is asked, and what the history has of both.
+ghost use Rattle.std.specs.Prelude.{◌≡◌, ℕ, true, None};
+ghost use Rattle.strm_history.specs.Setup.{is_fit};
+
+use super::{answer, ended, made};
+use crate::tests::{came, data_of, line};
+use std::alloc::Global;
+use std::marker::Brand;
+use std::process::Abort;
+use std::sync::Wait;
+use strm_head::{Answer, Refusal, Reply, Request, Wanted};
+use strm_history::Entry;
+use strm_module::{Boxed, Kind, Plain};
+use strm_msg::{Errno, Message};
+use strm_shared::{EndFault, Feeder, Ring, Runs, Seat, Shared};
+
+/// What is done, in order, and what comes of it.
+#[derive(Clone, Copy, Drop)]
+enum Step {
+    /// Data are offered: whether they are accepted.
+    Data(&'static [u8], bool),
+    /// A hangup is offered, and accepted.
+    Hangup,
+    /// An error is offered, and accepted.
+    Error,
+    /// The data of a message are taken.
+    Getmsg(&'static [u8]),
+    /// At most so many bytes are read.
+    Read(u16, &'static [u8]),
+    /// How many messages there are, and how many bytes the first has.
+    Nread(u64, u64),
+    /// The end is closed.
+    Close,
+    /// A read is refused.
+    NoRead(Refusal),
+    /// A look is refused.
+    NoLook(Refusal),
+}
+
+/// A line with its marks and its ring, what is done there, what its history has then, and what is left: of a message that
+/// came in its data, and of a call nothing.
+#[derive(Clone, Copy, Drop)]
+struct Row {
+    marks: (u32, u32),
+    ring: u16,
+    steps: &'static [Step],
+    history: &'static [Option<&'static [u8]>],
+    left: &'static [&'static [u8]],
+}
+
+const EIO: Refusal = Refusal::Error { errno: Errno::EIO };
+
+/// What does not fit the ring comes back, what came in is taken in order, and a hangup is the end.
+const FULL_RING: Row = Row {
+    marks: (16, 4),
+    ring: 2,
+    steps: &[
+        Step::Data(b"a1", true),
+        Step::Data(b"a2", true),
+        Step::Data(b"a3", false),
+        Step::Getmsg(b"a1"),
+        Step::Getmsg(b"a2"),
+        Step::Hangup,
+        Step::Read(8, b""),
+    ],
+    history: &[Some(b"a1"), Some(b"a2"), None, None, Some(b""), None],
+    left: &[],
+};
+
+/// After an error from the line all calls but a close are refused.
+const ERROR: Row = Row {
+    marks: (16, 4),
+    ring: 2,
+    steps: &[
+        Step::Data(b"x", true),
+        Step::Error,
+        Step::NoRead(EIO),
+        Step::NoLook(EIO),
+        Step::Close,
+        Step::NoLook(Refusal::Closed),
+    ],
+    history: &[Some(b"x"), Some(b""), None, None, None, None],
+    left: &[],
+};
+
+/// A message that finds the line's list full is held back, and none comes in before it.
+const HELD_BACK: Row = Row {
+    marks: (5, 4),
+    ring: 4,
+    steps: &[
+        Step::Data(b"aaaaa", true),
+        Step::Data(b"bbbbb", true),
+        Step::Data(b"ccccc", true),
+        Step::Data(b"d", true),
+        Step::Nread(1, 5),
+        Step::Read(8, b"aaaaa"),
+        Step::Read(8, b"bbbbb"),
+    ],
+    history: &[
+        Some(b"aaaaa"),
+        Some(b"bbbbb"),
+        None,
+        None,
+        Some(b"ccccc"),
+        None,
+    ],
+    left: &[b"d"],
+};
+
+/// Without a call nothing comes in.
+const NO_CALL: Row = Row {
+    marks: (16, 4),
+    ring: 2,
+    steps: &[Step::Data(b"a1", true)],
+    history: &[],
+    left: &[b"a1"],
+};
+
+/// The message that is held back is left before those in the ring.
+const ALL_LEFT: Row = Row {
+    marks: (5, 4),
+    ring: 4,
+    steps: &[
+        Step::Data(b"aaaaa", true),
+        Step::Data(b"bbbbb", true),
+        Step::Data(b"ccccc", true),
+        Step::Data(b"d", true),
+        Step::Nread(1, 5),
+        Step::Data(b"e", true),
+    ],
+    history: &[Some(b"aaaaa"), Some(b"bbbbb"), None],
+    left: &[b"ccccc", b"d", b"e"],
+};
+
+const ROWS: [Row; 5] = [FULL_RING, ERROR, HELD_BACK, NO_CALL, ALL_LEFT];
+
+/// Whether a message is accepted.
+fn offers<N: Runs<Kind>>(rt: &impl Abort, feeder: &mut Feeder<Kind, N>, m: Message) -> bool
+    requires { (number : ℕ) → N.feed number ≡ None }
+{
+    assert!(rt; m.from_line());
+    feeder.arrive(m).is_ok()
+}
+
+/// What a step asks, if it asks something.
+fn request_of(step: Step) -> Option<Request<Boxed<Plain>>> {
+    match step {
+        Step::Data(_, _) | Step::Hangup | Step::Error => None,
+        Step::Getmsg(_) => Some(Request::Getmsg {
+            maxctl: Some(64),
+            maxdat: Some(64),
+            flag: Wanted::Any,
+        }),
+        Step::Read(max, _) => Some(Request::Read { max }),
+        Step::NoRead(_) => Some(Request::Read { max: 8 }),
+        Step::Nread(_, _) => Some(Request::Nread),
+        Step::Close => Some(Request::Close),
+        Step::NoLook(_) => Some(Request::Look),
+    }
+}
+
+/// Whether this is what a step is answered.
+fn is_answer(step: Step, answer: &Answer) -> bool {
+    match (step, answer) {
+        (Step::Getmsg(wanted), Answer::Done(Reply::Getmsg { dat: Some(dat), .. })) => {
+            dat.as_slice() == wanted
+        }
+        (Step::Read(_, wanted), Answer::Done(Reply::Read { dat })) => dat.as_slice() == wanted,
+        (Step::Nread(many, size), Answer::Done(Reply::Nread { messages, bytes })) => {
+            *messages == many && *bytes == size
+        }
+        (Step::Close, Answer::Done(Reply::Close { .. })) => true,
+        (Step::NoRead(wanted) | Step::NoLook(wanted), Answer::Refused(refusal)) => {
+            *refusal == wanted
+        }
+        _ => false,
+    }
+}
+
+/// The message that a step offers, if it offers one, and whether it is accepted.
+fn message_of(rt: &impl Abort, alloc: Global, step: Step) -> Option<(Message, bool)> {
+    match step {
+        Step::Data(dat, is_accepted) => {
+            let m = Message::of_data(alloc, 0, dat).expect(rt, "no memory");
+            Some((m, is_accepted))
+        }
+        Step::Hangup => Some((Message::of_hangup(), true)),
+        Step::Error => Some((Message::of_error(Errno::EIO), true)),
+        _ => None,
+    }
+}
+
+/// Whether a step goes as it should.
+fn goes<N: Runs<Kind>, R: Abort + Wait>(
+    rt: &R,
+    alloc: Global,
+    shared: &Shared<Plain, N>,
+    seat: &mut Seat,
+    feeder: &mut Feeder<Kind, N>,
+    step: Step,
+) -> bool
+    requires calls { (number caller : ℕ) → N.calls number caller ≡ None }
+    requires feed { (number : ℕ) → N.feed number ≡ None }
+{
+    if let Some((m, is_accepted)) = message_of(rt, alloc, step) {
+        return offers(rt, feeder, m) == is_accepted;
+    }
+    match request_of(step) {
+        Some(request) => is_answer(step, &answer(rt, shared, seat, request)),
+        None => false,
+    }
+}
+
+/// Whether this is the history that is wanted.
+fn is_history(history: &[Entry<Kind>], wanted: &[Option<&'static [u8]>]) -> bool {
+    if history.len() != wanted.len() {
+        return false;
+    }
+    for (at, entry) in history.iter().enumerate() {
+        if wanted.get(at) != Some(&came(entry)) {
+            return false;
+        }
+    }
+    true
+}
+
+/// Whether this is what is left.
+fn is_left(left: &[Message], wanted: &[&'static [u8]]) -> bool {
+    if left.len() != wanted.len() {
+        return false;
+    }
+    for (m, one) in left.iter().zip(wanted) {
+        if data_of(m) != *one {
+            return false;
+        }
+    }
+    true
+}
+
+/// Whether all goes as it should on a line with this ring, which the run names.
+fn plays<N: Runs<Kind>, R: Abort + Wait>(rt: &R, alloc: Global, ring: Ring, row: Row) -> bool
+    requires marks { is_fit ring.setup ≡ true }
+    requires name { ring.name ≡ N.ring 0 }
+    requires calls { (number caller : ℕ) → N.calls number caller ≡ None }
+    requires feed { (number : ℕ) → N.feed number ≡ None }
+{
+    let (shared, mut seats, feeder) = made::<Plain, N>(rt, alloc, 0, 1, ring);
+    let mut feeder = feeder.expect(rt, "a feeder");
+    let mut seat = seats.pop().expect(rt, "a seat");
+    for step in row.steps {
+        assert!(rt; goes(rt, alloc, &shared, &mut seat, &mut feeder, *step));
+    }
+    seats.push(seat).expect(rt, "no memory");
+    match ended(shared, seats, feeder.finish()) {
+        Ok(ended) => {
+            is_history(ended.history.as_slice(), row.history)
+                && is_left(ended.left.as_slice(), row.left)
+        }
+        Err(_) => false,
+    }
+}
+
+/// Whether all goes as it should.
+fn holds<R: Abort + Wait>(rt: &R, alloc: Global, row: Row) -> bool {
+    let setup = line(row.marks, row.ring);
+    let ring = Ring::new(alloc, setup).ok().expect(rt, "a ring");
+    setup.is_fit() && plays::<Brand, R>(rt, alloc, ring, row)
+}
+
+#[test]
+fn messages_come_in_before_a_call(rt: HostRuntime) {
+    for row in ROWS {
+        assert!(rt; holds(&rt, rt.alloc(), row));
+    }
+}
+
+/// Why a line does not end whose feeder was dropped, with its seat or without.
+fn fault_of<N: Runs<Kind>>(
+    rt: &impl Abort,
+    alloc: Global,
+    ring: Ring,
+    has_seat: bool,
+) -> Option<EndFault>
+    requires marks { is_fit ring.setup ≡ true }
+    requires name { ring.name ≡ N.ring 0 }
+{
+    let (shared, seats, feeder) = made::<Plain, N>(rt, alloc, 0, 1, ring);
+    drop(feeder);
+    let seats = if has_seat { seats } else { Vec::new(alloc) };
+    ended(shared, seats, None).err()
+}
+
+/// The same, of a line of its own.
+fn fault(rt: &impl Abort, alloc: Global, has_seat: bool) -> Option<EndFault> {
+    let setup = line((16, 4), 2);
+    let ring = Ring::new(alloc, setup).ok().expect(rt, "a ring");
+    assert!(rt; setup.is_fit());
+    fault_of::<Brand>(rt, alloc, ring, has_seat)
+}
+
+#[test]
+fn a_line_ends_after_its_feeder(rt: HostRuntime) {
+    assert!(rt; fault(&rt, rt.alloc(), true) == Some(EndFault::Unfinished));
+    assert!(rt; fault(&rt, rt.alloc(), false) == Some(EndFault::Seats));
+}

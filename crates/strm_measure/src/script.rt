@@ -10,7 +10,7 @@ use strm_play::play;
 use strm_script::print;
 
 /// The bytes of the script at a path.
-fn script<R: Files>(rt: &R, alloc: Global, path: &str) -> Result<Vec<u8>, LoadFault> {
+pub fn script<R: Files>(rt: &R, alloc: Global, path: &str) -> Result<Vec<u8>, LoadFault> {
     load(alloc, fs::open(rt, path)?)
 }
 

@@ -11,6 +11,7 @@ use strm_msg::{End, Errno, Message};
 mod histories;
 mod owners;
 mod tables;
+mod wants;
 
 /// Names of modules, topmost first, and maybe of the driver.
 type Names = &'static [&'static [u8]];

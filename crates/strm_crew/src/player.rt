@@ -65,13 +65,20 @@ fn keep<M: ModuleOf>(answers: &mut VecDeque<Answer>, called: Called<Boxed<M>>) -
     ensures told { OnOk result (answers.new.items ≡ answers.old.items ++ told_of called) }
 {
     match called {
-        Called::Done { answer, back: _ } => {
-            let Ok(()) = answers.push_back(answer) else {
-                return Err(NoMem);
-            };
-            Ok(())
+        Called::Done { answer, back } => {
+            drop(back);
+            match answers.push_back(answer) {
+                Ok(()) => Ok(()),
+                Err(failed) => {
+                    drop(failed);
+                    Err(NoMem)
+                }
+            }
         }
-        Called::NoRoom(_) => Err(NoMem),
+        Called::NoRoom(call) => {
+            drop(call);
+            Err(NoMem)
+        }
     }
 }
 

@@ -21,7 +21,11 @@ fn is_told<K>(entry: &Entry<K>, told: &mut Vec<VecDeque<Answer>>) -> bool
         return false;
     }
     match told[at].pop_front() {
-        Some(answer) => answer.is_same(&entry.answer),
+        Some(answer) => {
+            let same = answer.is_same(&entry.answer);
+            drop(answer);
+            same
+        }
         None => false,
     }
 }

@@ -9,12 +9,12 @@ returns-then-at-len-clause-other g c none left are =
 
 pub returns-in-Some-clause-told : goal.returns-in-Some-clause-told
 returns-in-Some-clause-told g c equal =
-    takes_one c.args.entry.now c.args.told.now.items c.in-Caller.caller c.index_mut.result.now c.pop_front.new.self c.in-Some.answer c.in-Caller.is (let ok = c.args.told.now.ok in omega arith) c.index_mut.ensures.value c.in-Some.ensures.items (c.is_same.ensures.0 equal)
+    takes_one c.args.entry.now c.args.told.now.items c.in-Caller.caller c.index_mut.result.now c.pop_front.new.self c.in-Some.answer c.in-Caller.is (let ok = c.args.told.now.ok in omega arith) c.index_mut.ensures.value c.in-Some.ensures.items (c.is_same-same.ensures.0 equal)
 
 pub returns-in-Some-clause-other : goal.returns-in-Some-clause-other
 returns-in-Some-clause-other g c other left are =
     let same = told_same c.args.entry.now c.args.told.now.items c.in-Caller.caller c.index_mut.result.now c.pop_front.new.self c.in-Some.answer left c.in-Caller.is (let ok = c.args.told.now.ok in omega arith) c.index_mut.ensures.value c.in-Some.ensures.items are in
-    absurd (cc (c.is_same.ensures.1 same, other))
+    absurd (cc (c.is_same-same.ensures.1 same, other))
 
 pub returns-in-None-clause-other : goal.returns-in-None-clause-other
 returns-in-None-clause-other g c none left are =

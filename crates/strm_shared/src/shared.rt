@@ -166,21 +166,33 @@ impl<M: ModuleOf, N: Runs<M::Kind>> Shared<M, N> {
             locked,
         } = self;
         if !are_seats(number, callers, seats.as_slice()) {
+            drop(locked);
+            drop(feed);
             return Err(EndFault::Seats);
         }
         let locked = locked.into_inner();
         if !locked.is_of(number, setup) {
+            drop(locked);
+            drop(feed);
             return Err(EndFault::Unfinished);
         }
         let (log, turns, inlet) = locked.into_parts();
         if !is_fed(number, setup, &feed) {
+            drop(log);
+            drop(inlet);
+            drop(feed);
             return Err(EndFault::Unfinished);
         }
         if !turns.do_agree(callers, seats.as_slice()) {
+            drop(log);
+            drop(inlet);
+            drop(feed);
             return Err(EndFault::Unfinished);
         }
         let (history, stream) = log.into_parts();
         let Ok(left) = inlet.drain(alloc, feed) else {
+            drop(history);
+            drop(stream);
             return Err(EndFault::NoMem);
         };
         Ok(Ended {

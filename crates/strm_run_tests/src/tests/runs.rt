@@ -12,7 +12,7 @@ use std::thread;
 use std::thread::Threads;
 use strm_head::Request;
 use strm_history::{Call, Setup};
-use strm_module::{Boxed, Kind, ModuleOf, Plain};
+use strm_module::{Boxed, Kind, Module, ModuleOf, Plain};
 use strm_msg::{End, Message};
 use strm_run::{
     Feed, Gate, RunFault, Script, ScriptCall, StreamLog, Transcript, are_from_line, are_setups, run,
@@ -58,6 +58,7 @@ enum Ask {
     Write(&'static [u8]),
     /// At most so many bytes are read.
     Read(u16),
+    Pop,
 }
 
 /// A call of a caller: the stream, the end, and what is asked there.
@@ -82,12 +83,40 @@ fn request_of<M: ModuleOf>(rt: &impl Abort, alloc: Global, ask: Ask) -> Request<
     match ask {
         Ask::Write(dat) => write(rt, alloc, dat),
         Ask::Read(max) => Request::Read { max },
+        Ask::Pop => Request::Pop,
     }
 }
 
 /// The script of a caller.
 fn script_of<M: ModuleOf>(rt: &impl Abort, alloc: Global, rows: &[Row]) -> Script<Boxed<M>> {
-    let mut calls = vec![in alloc].expect(rt, "no memory");
+    more(rt, alloc, vec![in alloc].expect(rt, "no memory"), rows)
+}
+
+/// The script of a caller that puts a module in first.
+fn pushing<M: Module>(
+    rt: &impl Abort,
+    alloc: Global,
+    stream: u32,
+    instance: Boxed<M>,
+    rows: &[Row],
+) -> Script<Boxed<M>> {
+    let push = script_call(stream, End::A, Request::Push { instance });
+    more(
+        rt,
+        alloc,
+        vec![in alloc; push].expect(rt, "no memory"),
+        rows,
+    )
+}
+
+/// A script of these calls, and of more behind them.
+fn more<M: ModuleOf>(
+    rt: &impl Abort,
+    alloc: Global,
+    calls: Vec<ScriptCall<Boxed<M>>>,
+    rows: &[Row],
+) -> Script<Boxed<M>> {
+    let mut calls = calls;
     for (stream, end, asked) in rows {
         let request = request_of(rt, alloc, *asked);
         calls

@@ -1,12 +1,11 @@
 //! When a gate is called.
-use super::{log, run_of, script_call};
-use crate::tests::{ECHO, boxed, write};
+use super::{Ask, Row, log, pushing, run_of, script_of};
+use crate::tests::{ECHO, boxed};
 use std::alloc::Global;
 use std::sync::atomic::{AtomicU64, Ordering};
-use strm_head::Request;
 use strm_module::{Kind, Module};
-use strm_msg::End;
-use strm_run::{Gate, Script};
+use strm_msg::End::A;
+use strm_run::Gate;
 
 /// Writes digits behind those that stand there, where `shift` is the power of ten that makes room for them.
 fn note(done: &AtomicU64, shift: u64, digits: u64) {
@@ -52,6 +51,9 @@ impl Drop for Watched<'_> {
 
 impl Module for Watched<'_> {}
 
+/// What caller 1 asks.
+const CALLS: [Row; 2] = [(1, A, Ask::Write(b"q")), (0, A, Ask::Pop)];
+
 /// Caller 0 pushes the module; caller 1 writes on another stream, and pops it.
 #[test]
 fn a_gate_is_called_round_each_call_and_what_comes_back_is_dropped_within(rt: HostRuntime) {
@@ -59,14 +61,9 @@ fn a_gate_is_called_round_each_call_and_what_comes_back_is_dropped_within(rt: Ho
     let done = AtomicU64::new(0);
     let object = Watched { done: &done };
     let instance = boxed(&rt, alloc, (1, b"note", Kind::Pass), object);
-    let push = script_call(0, End::A, Request::Push { instance });
-    let p = vec![in alloc; push].expect(&rt, "no memory");
-    let q = vec![in alloc;
-        script_call(1, End::A, write(&rt, alloc, b"q")),
-        script_call(0, End::A, Request::Pop),
-    ]
-    .expect(&rt, "no memory");
-    let scripts = vec![in alloc; Script { calls: p }, Script { calls: q }].expect(&rt, "no memory");
+    let p = pushing(&rt, alloc, 0, instance, &[]);
+    let q = script_of(&rt, alloc, &CALLS);
+    let scripts = vec![in alloc; p, q].expect(&rt, "no memory");
     let setups = vec![in alloc; ECHO, ECHO].expect(&rt, "no memory");
     let feeds = vec![in alloc].expect(&rt, "no memory");
     let gate = Noting { done: &done };

@@ -1,14 +1,14 @@
 //! Each stream has a lock of its own.
-use super::{Ask, Row, log, run_of, script_call, script_of, wait_for};
-use crate::tests::{ECHO, boxed, write};
+use super::{Ask, log, pushing, run_of, script_of, wait_for};
+use crate::tests::{ECHO, boxed};
 use std::alloc::Global;
 use std::process::Abort;
 use std::sync::{OnceLock, Wait};
 use std::thread::Threads;
-use strm_head::Request;
 use strm_module::{Kind, Module, Put, Shape};
-use strm_msg::{End, Message, NoMem, Side};
-use strm_run::{Gate, Script};
+use strm_msg::End::A;
+use strm_msg::{Message, NoMem, Side};
+use strm_run::Gate;
 
 /// What was done in a run of two callers: the first stands in its module, the second has its answer, and
 /// one that waited for either did so in vain.
@@ -63,14 +63,9 @@ fn is_apart<R: Abort + Threads + Wait + Sync>(rt: &R, alloc: Global, one: u32, o
     };
     let object = Waiting { done: &done };
     let instance = boxed(rt, alloc, (1, b"wait", Kind::Pass), object);
-    let push = script_call(one, End::A, Request::Push { instance });
-    let calls = vec![in alloc; push, script_call(one, End::A, write(rt, alloc, b"x"))].expect(
-        rt,
-        "no memory",
-    );
-    let row: Row = (other, End::A, Ask::Write(b"y"));
-    let second = script_of(rt, alloc, &[row]);
-    let scripts = vec![in alloc; Script { calls }, second].expect(rt, "no memory");
+    let first = pushing(rt, alloc, one, instance, &[(one, A, Ask::Write(b"x"))]);
+    let second = script_of(rt, alloc, &[(other, A, Ask::Write(b"y"))]);
+    let scripts = vec![in alloc; first, second].expect(rt, "no memory");
     let setups = vec![in alloc; ECHO, ECHO, ECHO].expect(rt, "no memory");
     let feeds = vec![in alloc].expect(rt, "no memory");
     let transcript = run_of(rt, alloc, setups, scripts, feeds, 2, &done).expect(rt, "a transcript");

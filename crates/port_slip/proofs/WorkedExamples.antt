@@ -3,7 +3,7 @@ use Rattle.std.proofs.Common.{◌≡◌, ℕ, true, false, None, List, [], ◌�
 use Rattle.strm_msg.specs.Message.{data_msg, bare}
 use Rattle.strm_msg.specs.declared.kind.MsgKind.TheVariants.{MFlush}
 use Rattle.strm_msg.specs.declared.words.End.TheVariants.{A, B}
-use Rattle.strm_queue.specs.Queue.{WaterMarks}
+use Rattle.strm_msg.specs.Marks.{WaterMarks}
 use Rattle.strm_module.specs.Shape.{new_shape}
 use Rattle.strm_module.specs.declared.kind.Kind.TheVariants.{Pass}
 use Rattle.strm_qpair.specs.Pair.{fresh_pair}

@@ -4,8 +4,7 @@ use std::alloc::Global;
 use std::process::Abort;
 use strm_chain::{Chain, Driver, Spot};
 use strm_module::{Boxed, Instance, Kind, Kinds};
-use strm_msg::{End, Message};
-use strm_queue::Marks;
+use strm_msg::{End, Marks, Message};
 
 /// What happens in the loop.
 #[derive(Clone, Copy)]

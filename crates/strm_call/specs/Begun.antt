@@ -1,11 +1,8 @@
 -- What a call has done before any queue moves.
-use Rattle.std.specs.Prelude.{◌≡◌, Bool, true, false, Option, List, [], if◌then◌else◌}
+use Rattle.std.specs.Prelude.{Bool, true, false, Option, List, [], if◌then◌else◌}
 use Rattle.strm_msg.specs.Message.{Msg}
 use Rattle.strm_module.specs.declared.shape.Shape.{Shape}
-use Rattle.strm_chain.specs.declared.fault.ChainFault.{ChainFault}
-use Rattle.strm_chain.specs.declared.fault.ChainFault.TheVariants.{NoMem, Broken}
 use Rattle.strm_ends.specs.Image.{Image}
-use Rattle.strm_chain.specs.Fault.{Breaks}
 use Rattle.strm_call.specs.declared.answer.Reply.{Reply}
 use Rattle.strm_call.specs.declared.answer.Reply.TheVariants.{Str}
 use Rattle.strm_call.specs.declared.answer.Acknowledged.TheVariants.{Timeout}
@@ -34,9 +31,3 @@ begun_taking image reply out = record { image = image; reply = reply; awaits = f
 -- the reply of a call when no queue must move any longer, and the answer that its head then has kept
 abbrev pub reply_after : {K : Type 0} → Begun K → Option Msg → Reply
 reply_after begun kept = if begun.awaits then Str (acknowledged kept) else begun.reply
-
--- what want of memory leaves of an image that a call was to change: the image as it was, or a broken stream, whose ends are
--- open or closed as after the change, with the modules that then stand there
-abbrev pub Fails : {K : Type 0} → ChainFault → Image K → Image K → Image K → Type 0
-Fails NoMem image changed after = after ≡ image
-Fails Broken image changed after = Breaks changed after

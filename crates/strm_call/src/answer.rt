@@ -2,19 +2,13 @@
 ghost use Rattle.std.specs.Prelude.{◌≡◌, false, IfOk, IsOk};
 ghost use Rattle.strm_call.specs.Reply.{has_bytes};
 
+use crate::name::{MOST_NAMES, Name};
 use crate::refusal::Refusal;
 use crate::request::Priority;
 use arrayvec::ArrayVec;
 use std::alloc::Global;
-use strm_chain::MOST_MODULES;
-use strm_module::LONGEST_NAME;
 use strm_msg::{Bytes, Errno, NoMem, Prot, ReadMode};
-
-/// The name of a module or of a driver.
-pub type Name = ArrayVec<u8, LONGEST_NAME>;
-
-/// The most names in a list: those of the modules of an end and of its driver.
-pub const MOST_NAMES: usize = MOST_MODULES + 1;
+use strm_qpair::MOST_MODULES;
 
 /// Which parts of a message stay at the stream head, whether or not they were asked for.
 #[derive(Clone, Copy, Debug, PartialEq, Eq)]
@@ -187,13 +181,6 @@ pub enum Reply {
     Line,
 }
 
-/// A copy of a name. Takes no memory.
-pub fn copy_name(name: &Name) -> Name
-    ensures { result ≡ name.now }
-{
-    ArrayVec::try_from(name.as_slice()).unwrap()
-}
-
 /// A copy of a part that may be missing. Refused for want of memory alone.
 pub fn copy_part(alloc: Global, part: &Option<Bytes>) -> Result<Option<Bytes>, NoMem>
     ensures { IfOk result (λ copy. copy ≡ part.now) }
@@ -239,7 +226,7 @@ fn copy_names<const N: usize>(names: &ArrayVec<Name, N>) -> ArrayVec<Name, N>
 {
     let mut copy = ArrayVec::new();
     for name in names.as_slice() {
-        copy.push(copy_name(name));
+        copy.push(name.copy());
     }
     copy
 }
@@ -308,12 +295,8 @@ impl Reply {
             Reply::Canput { can } => Reply::Canput { can: *can },
             Reply::Ckband { waits } => Reply::Ckband { waits: *waits },
             Reply::Getband { band } => Reply::Getband { band: *band },
-            Reply::Pop { name } => Reply::Pop {
-                name: copy_name(name),
-            },
-            Reply::Look { name } => Reply::Look {
-                name: copy_name(name),
-            },
+            Reply::Pop { name } => Reply::Pop { name: name.copy() },
+            Reply::Look { name } => Reply::Look { name: name.copy() },
             Reply::List { names } => Reply::List {
                 names: copy_names(names),
             },

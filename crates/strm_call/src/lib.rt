@@ -5,16 +5,14 @@
 #![tactic(auto)]
 
 mod answer;
-mod delivery;
+mod name;
 mod refusal;
 mod request;
 mod same;
 mod twins;
 
-pub use answer::{
-    Acknowledged, Answer, MOST_NAMES, More, Name, Peeked, Received, Reply, copy_name, copy_part,
-};
-pub use delivery::deliver;
+pub use answer::{Acknowledged, Answer, More, Peeked, Received, Reply, copy_part};
+pub use name::{MOST_NAMES, Name};
 pub use refusal::Refusal;
 pub use request::{GetFlag, MAX_CONTROL, MAX_DATA, Priority, PutFlag, Request, Wanted};
 pub use same::is_same_part;

@@ -1,7 +1,8 @@
 //! Whether two answers are the same, for who rests on that they are or are not.
 ghost use Rattle.std.specs.Prelude.{◌≡◌, ◌↔◌, true};
 
-use crate::answer::{Acknowledged, Answer, Name, Peeked, Received, Reply};
+use crate::answer::{Acknowledged, Answer, Peeked, Received, Reply};
+use crate::name::Name;
 use crate::refusal::Refusal;
 use strm_msg::Bytes;
 

@@ -8,3 +8,4 @@ pub mod SameLemmas
 pub mod FlushLemmas
 pub mod WorkedExamples
 pub mod CountLemmas
+pub mod BreakLemmas

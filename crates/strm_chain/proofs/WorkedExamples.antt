@@ -4,7 +4,7 @@ use Rattle.strm_msg.specs.Message.{Msg, data_msg, bare}
 use Rattle.strm_msg.specs.declared.kind.MsgKind.TheVariants.{MError, MFlush}
 use Rattle.strm_msg.specs.declared.words.End.TheVariants.{A, B}
 use Rattle.strm_msg.specs.declared.errno.Errno.TheVariants.{EIO}
-use Rattle.strm_queue.specs.Queue.{WaterMarks}
+use Rattle.strm_msg.specs.Marks.{WaterMarks}
 use Rattle.strm_module.specs.Eight.{eight}
 use Rattle.strm_module.specs.declared.kind.Kind.{Kind}
 use Rattle.strm_module.specs.declared.kind.Kind.TheVariants.{Pass, Tee, Line}

@@ -24,6 +24,12 @@ abbrev pub Refuses : {K : Type 0} → ChainFault → Image K → Image K → Typ
 Refuses NoMem old new = IsUntouched old new
 Refuses Broken old new = Breaks old new
 
+-- what want of memory leaves of an image that a call was to change: the image as it was, or a broken stream, whose ends are
+-- open or closed as after the change, with the modules that then stand there
+abbrev pub Fails : {K : Type 0} → ChainFault → Image K → Image K → Image K → Type 0
+Fails NoMem image changed after = after ≡ image
+Fails Broken image changed after = Breaks changed after
+
 -- the number of a fault
 abbrev pub number_of : ChainFault → ℕ
 number_of NoMem = 1

@@ -12,9 +12,8 @@ use std::alloc::Global;
 use std::marker::Model;
 use strm_ends::{Ends, Place};
 use strm_module::{Boxed, ModuleOf, Shape};
-use strm_msg::{End, NoMem};
+use strm_msg::{End, Marks, NoMem};
 use strm_qpair::{Driver, MOST_MODULES};
-use strm_queue::Marks;
 
 mod deliver;
 mod head;

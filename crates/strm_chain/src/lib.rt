@@ -6,6 +6,7 @@
 #![tactic(auto)]
 
 mod chain;
+mod delivery;
 mod enabling;
 mod fault;
 mod moves;
@@ -13,6 +14,7 @@ mod number;
 mod spot;
 
 pub use chain::{Chain, head_sends_once};
+pub use delivery::deliver;
 pub use fault::ChainFault;
 pub use moves::{Moves, Settled};
 pub use spot::Spot;

@@ -9,8 +9,7 @@ use std::sync::Arc;
 use std::sync::atomic::{AtomicU64, Ordering};
 use strm_chain::{Chain, ChainFault, Driver, Place, Spot};
 use strm_module::{Boxed, Instance, Kind, Kinds, Module, ModuleOf, Plain, Shape};
-use strm_msg::{Bytes, End, Errno, Message, NoMem, Prot, ReadMode};
-use strm_queue::Marks;
+use strm_msg::{Bytes, End, Errno, Marks, Message, NoMem, Prot, ReadMode};
 
 mod enabled;
 mod faults;

@@ -14,7 +14,7 @@ use Rattle.strm_history.specs.declared.call.Called.TheVariants.{Done, NoRoom}
 use Rattle.strm_call.specs.declared.answer.Answer.{Answer}
 use Rattle.strm_history.specs.declared.setup.Setup.{Setup}
 use Rattle.strm_shared.specs.Seat.{SeatValue}
-use Rattle.strm_ring.specs.Feed.{FeedValue}
+use Rattle.strm_shared.specs.Feed.{FeedValue}
 use Rattle.strm_shared.specs.Ending.{SharedValue}
 use Rattle.strm_crew.specs.declared.script.ScriptCall.{ScriptCall}
 use Rattle.strm_crew.specs.Scripts.{calls_on, script_of, feed_of}

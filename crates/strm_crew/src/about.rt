@@ -1,6 +1,6 @@
 //! What a run is about.
 use std::marker::{Brand, PhantomData};
-use strm_ring::Runs;
+use strm_shared::Runs;
 
 /// What a run is about: how its streams are made, the scripts of its callers, what its lines are
 /// fed, and the rings that were made for its streams. Proofs alone speak of it.
@@ -8,7 +8,7 @@ use strm_ring::Runs;
 /// `K` is what the modules are.
 pub trait Plays<K> {
     ghost use Rattle.std.specs.Prelude.{List};
-    ghost use Rattle.strm_ring.specs.Feed.{RingValue};
+    ghost use Rattle.strm_shared.specs.Feed.{RingValue};
     ghost use Rattle.strm_crew.specs.Run.{RunValue};
 
     /// The run.

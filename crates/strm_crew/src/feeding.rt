@@ -8,7 +8,7 @@ ghost use Rattle.strm_crew.specs.Play.{HasOffered, IsFeeding};
 use crate::about::{Of, Plays};
 use std::marker::Model;
 use strm_msg::Message;
-use strm_ring::{FeedEnd, Feeder};
+use strm_shared::{FeedEnd, Feeder};
 
 /// A feeder with the messages that it is to offer.
 #[derive(Drop)]

@@ -3,7 +3,8 @@ use Rattle.std.proofs.Common.{◌≡◌, ◌≤◌, ℕ, ◌||◌, Bool, true, f
 use Rattle.std.proofs.lemmas.Bool.Decides.{nat_tests}
 use Rattle.strm_msg.specs.Message.{Msg}
 use Rattle.strm_msg.specs.Kind.{is_high}
-use Rattle.strm_queue.specs.Queue.{WaterMarks, held_of}
+use Rattle.strm_msg.specs.Marks.{WaterMarks}
+use Rattle.strm_queue.specs.Queue.{held_of}
 use Rattle.strm_qpair.specs.Canput.{Fill, fill_with, slack_in}
 use Rattle.strm_ends.specs.declared.place.Place.{Place}
 use Rattle.strm_ends.specs.declared.place.NextQueue.{NextQueue}

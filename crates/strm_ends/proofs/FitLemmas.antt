@@ -10,7 +10,7 @@ use Rattle.strm_msg.specs.declared.words.End.{End}
 use Rattle.strm_msg.specs.declared.words.End.TheVariants.{A, B}
 use Rattle.strm_msg.specs.declared.words.Side.{Side}
 use Rattle.strm_msg.specs.declared.words.Side.TheVariants.{Rd, Wr}
-use Rattle.strm_queue.specs.Queue.{WaterMarks}
+use Rattle.strm_msg.specs.Marks.{WaterMarks}
 use Rattle.strm_qpair.specs.Pair.{QueuePair}
 use Rattle.strm_qpair.specs.End.{EndState}
 use Rattle.strm_qpair.specs.Modules.{identity_of, is_fit, is_fit_module, are_fit, IsFitEnd}

@@ -3,7 +3,7 @@ use Rattle.std.specs.Prelude.{ℕ, Bool, true, false, List, length, if◌then◌
 use Rattle.strm_msg.specs.Message.{Msg}
 use Rattle.strm_msg.specs.declared.words.End.{End}
 use Rattle.strm_msg.specs.declared.words.End.TheVariants.{A, B}
-use Rattle.strm_queue.specs.Queue.{WaterMarks}
+use Rattle.strm_msg.specs.Marks.{WaterMarks}
 use Rattle.strm_qpair.specs.End.{EndState, KeepsRoom, in_head, in_state, in_drv}
 use Rattle.strm_qpair.specs.Change.{fresh_end}
 use Rattle.strm_qpair.specs.Driver.{DriverStep, consumes, driver_at}

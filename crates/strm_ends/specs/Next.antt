@@ -2,7 +2,7 @@
 use Rattle.std.specs.Prelude.{◌≡◌, ◌+◌, ◌≤◌, ℕ, Bool, Option, Some, None, List, if◌then◌else◌}
 use Rattle.strm_msg.specs.declared.words.End.{End}
 use Rattle.strm_msg.specs.declared.words.Side.TheVariants.{Rd, Wr}
-use Rattle.strm_queue.specs.Queue.{WaterMarks}
+use Rattle.strm_msg.specs.Marks.{WaterMarks}
 use Rattle.strm_qpair.specs.declared.end.TheConstants.{MOST_MODULES}
 use Rattle.strm_qpair.specs.Modules.{Identity, identities_of}
 use Rattle.strm_qpair.specs.Canput.{Fill, fill_with}

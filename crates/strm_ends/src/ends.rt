@@ -9,9 +9,8 @@ use arrayvec::ArrayVec;
 use std::alloc::Global;
 use std::marker::Model;
 use strm_module::{Boxed, ModuleOf};
-use strm_msg::{End, NoMem};
+use strm_msg::{End, Marks, NoMem};
 use strm_qpair::{Driver, MOST_MODULES, StreamEnd};
-use strm_queue::Marks;
 
 mod flow;
 mod head;

@@ -15,7 +15,7 @@ use Rattle.strm_call.specs.Refusal.{first_that_holds}
 use Rattle.strm_head.specs.Begin.{refusal_of, begun_of, common_refusals, own_refusals, error_refusals, takes_no_memory, can_lack_memory, changes_no_queue}
 use Rattle.strm_chain.specs.declared.fault.ChainFault.{ChainFault}
 use Rattle.strm_call.specs.declared.answer.Reply.{Reply}
-use Rattle.strm_call.specs.Begun.{Fails}
+use Rattle.strm_chain.specs.Fault.{Fails}
 use Rattle.strm_call.specs.Reply.{has_bytes}
 use Rattle.strm_module.specs.Kinds.{Meaning}
 use Rattle.strm_head.specs.Begins.{IsReady, MayBegin, Begins, taken_or, done_or}

@@ -3,7 +3,7 @@ use Rattle.std.proofs.Common.{◌≡◌, ℕ, true, false, List, [], ◌∷◌, 
 use Rattle.strm_msg.specs.Message.{Msg, data_msg, proto_msg, pcproto_msg}
 use Rattle.strm_msg.specs.declared.errno.Errno.TheVariants.{EIO}
 use Rattle.strm_msg.specs.declared.words.End.TheVariants.{A, B}
-use Rattle.strm_queue.specs.Queue.{WaterMarks}
+use Rattle.strm_msg.specs.Marks.{WaterMarks}
 use Rattle.strm_qpair.specs.declared.driver.Driver.TheVariants.{Echo}
 use Rattle.strm_ends.specs.Image.{Image, fresh}
 use Rattle.strm_call.specs.declared.request.Priority.TheVariants.{Norm, Hipri}

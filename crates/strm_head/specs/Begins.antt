@@ -11,7 +11,7 @@ use Rattle.strm_chain.specs.declared.fault.ChainFault.TheVariants.{NoMem, Broken
 use Rattle.strm_call.specs.declared.request.Request.{Request}
 use Rattle.strm_call.specs.declared.request.Request.TheVariants.{Close}
 use Rattle.strm_call.specs.declared.answer.Reply.{Reply}
-use Rattle.strm_call.specs.Begun.{Fails}
+use Rattle.strm_chain.specs.Fault.{Fails}
 use Rattle.strm_head.specs.Begin.{begun_of, changes_no_queue, takes_no_memory, can_lack_memory}
 use Rattle.strm_head.specs.Inside.{HasItsEnds, IsIdle}
 

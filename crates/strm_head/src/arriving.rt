@@ -7,8 +7,7 @@ ghost use Rattle.strm_head.specs.Arrive.{Arrives, NotIn};
 ghost use Rattle.strm_head.specs.Inside.{IsKept};
 
 use crate::outcome::Arrived;
-use strm_call::deliver;
-use strm_chain::{Chain, ChainFault, Driver, Spot};
+use strm_chain::{Chain, ChainFault, Driver, Spot, deliver};
 use strm_module::ModuleOf;
 use strm_msg::{End, Message};
 

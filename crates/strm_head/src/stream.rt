@@ -24,8 +24,7 @@ use strm_call::{Name, Request};
 use strm_chain::{Chain, Driver, MOST_MODULES};
 use strm_ioctl::names_of;
 use strm_module::{Boxed, ModuleOf, Shape};
-use strm_msg::{End, Message};
-use strm_queue::Marks;
+use strm_msg::{End, Marks, Message};
 
 /// A stream: a driver with its ends, the modules on each of them, and the stream heads.
 ///

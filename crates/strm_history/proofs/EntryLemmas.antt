@@ -1,5 +1,5 @@
 -- From what becomes of a call or a message to an entry of a history.
-use Rattle.std.proofs.Common.{◌≡◌, ℕ, ◌≤◌, Option, Some, None, List, [], ◌∷◌, ◌++◌, length, refl, sym, ◌∙◌, ap, subst, arith}
+use Rattle.std.proofs.Common.{◌≡◌, ℕ, zero, suc, ◌≤◌, false, Option, Some, None, List, [], ◌∷◌, ◌++◌, length, refl, sym, ◌∙◌, ap, subst, arith}
 use Rattle.std.specs.Prelude.{flat_map}
 use Rattle.strm_msg.specs.Message.{Msg}
 use Rattle.strm_msg.specs.declared.words.End.{End}
@@ -10,11 +10,12 @@ use Rattle.strm_module.specs.declared.shape.Shape.{Shape}
 use Rattle.strm_ends.specs.declared.place.Place.{Place}
 use Rattle.strm_ends.specs.Image.{Image}
 use Rattle.strm_call.specs.declared.request.Request.{Request}
+use Rattle.strm_call.specs.declared.request.Request.TheVariants.{Putmsg, Putpmsg, Getmsg, Getpmsg, Read, Write, Push, Nread, Peek, SetRead, GetRead, Canput, Ckband, Getband, Pop, Look, Find, Str, Flush, FlushBand, Close}
 use Rattle.strm_call.specs.declared.answer.Answer.{Answer}
 use Rattle.strm_call.specs.declared.answer.Answer.TheVariants.{Done, Refused, Broke}
 use Rattle.strm_head.specs.declared.event.Event.TheVariants.{Asked}
 use Rattle.strm_head.specs.Answered.{AnsweredCall, IsLooked, IsBounded}
-use Rattle.strm_head.specs.Begin.{begun_of, handed_out, back_of, out_of, serials_of}
+use Rattle.strm_head.specs.Begin.{begun_of, changes_modules, handed_out, back_of, out_of, serials_of}
 use Rattle.strm_head.specs.Step.{Step, Lands, arrived_of}
 use Rattle.strm_history.specs.declared.entry.Entry.{Entry}
 use Rattle.strm_history.specs.declared.entry.Who.TheVariants.{Caller}
@@ -44,10 +45,45 @@ module _ {K : Type 0} (means : Meaning K) where
   out_serials [] = refl
   out_serials (s ∷ shapes) = ap (λ l. s.serial ∷ l) (out_serials shapes)
 
+  nothing_out : (image : Image K) (e : End) (request : Request (Shape K)) → changes_modules request ≡ false → (begun_of means image e request).out ≡ []
+  nothing_out image e (Putmsg ctl dat flag) same = refl
+  nothing_out image e (Putpmsg ctl dat band flag) same = refl
+  nothing_out image e (Getmsg maxctl maxdat flag) same = refl
+  nothing_out image e (Getpmsg maxctl maxdat band flag) same = refl
+  nothing_out image e (Read zero) same = refl
+  nothing_out image e (Read (suc n)) same = refl
+  nothing_out image e (Write dat) same = refl
+  nothing_out image e (Push shape) same = refl
+  nothing_out image e Nread same = refl
+  nothing_out image e (Peek maxctl maxdat flag) same = refl
+  nothing_out image e (SetRead mode prot) same = refl
+  nothing_out image e GetRead same = refl
+  nothing_out image e (Canput band) same = refl
+  nothing_out image e (Ckband band) same = refl
+  nothing_out image e Getband same = refl
+  nothing_out image e Pop same = cc
+  nothing_out image e Look same = refl
+  nothing_out image e Request.List same = refl
+  nothing_out image e (Find name) same = refl
+  nothing_out image e (Str cmd dat) same = refl
+  nothing_out image e (Flush r w) same = refl
+  nothing_out image e (FlushBand band r w) same = refl
+  nothing_out image e Close same = cc
+
   out_back : (image : Image K) (e : End) (request : Request (Shape K)) (answer : Answer) → out_in answer (back_of means image e request answer) ≡ out_of means image e request answer
   out_back image e request (Refused refusal) = refl
   out_back image e request (Done reply) = out_serials (begun_of means image e request).out
   out_back image e request Broke = out_serials (begun_of means image e request).out
+
+  none_out : (image : Image K) (e : End) (request : Request (Shape K)) (answer : Answer) → changes_modules request ≡ false → out_of means image e request answer ≡ []
+  none_out image e request (Refused refusal) same = refl
+  none_out image e request (Done reply) same = ap serials_of (nothing_out image e request same)
+  none_out image e request Broke same = ap serials_of (nothing_out image e request same)
+
+  -- a call that takes no module out leaves no serials
+  pub no_serials : (image : Image K) (e : End) (request : Request (Shape K)) (answer : Answer) (out : List ℕ) (back : List (Option (Shape K))) → changes_modules request ≡ false → out ≡ out_in answer back → back ≡ back_of means image e request answer → out ≡ []
+  no_serials image e request answer out back same o b =
+      o ∙ ap (λ l. out_in answer l) b ∙ out_back image e request answer ∙ none_out image e request answer same
 
   -- a call, with the serials of the modules that came back, and the request as its history has it
   pub call_step : (image : Image K) (caller : ℕ) (e : End) (request copy : Request (Shape K)) (made : AnsweredCall) (twin : Answer) (moves : List Place) (looks : ℕ) (out : List ℕ) (back : List (Option (Shape K))) (after : Image K) → copy ≡ request → twin ≡ made.answer → moves ≡ made.moves → looks ≡ made.looks → out ≡ out_in made.answer back → back ≡ back_of means image e request made.answer → Step means image e (Asked request) made.answer made.moves (out_of means image e request made.answer) after → IsLooked made.answer made.moves made.looks → (IsCalm means → IsBounded (begun_of means image e request).image made.answer made.moves made.looks after) → IsStep means image (call_entry caller e copy twin moves looks out) after

@@ -1,4 +1,5 @@
 pub mod Setup
+pub mod Kept
 pub mod Entry
 pub mod Serials
 pub mod History

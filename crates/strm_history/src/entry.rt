@@ -2,6 +2,7 @@
 ghost use Rattle.std.specs.Prelude.{◌≡◌};
 ghost use Rattle.strm_history.specs.Entry.{is_caller, out_in};
 
+use crate::serials::{AllSerials, Serials};
 use arrayvec::ArrayVec;
 use strm_head::{Answer, Event, MOST_MODULES, Moves};
 use strm_module::{Boxed, BoxedShape, ModuleOf};
@@ -34,7 +35,7 @@ pub struct Entry<K> {
     /// u64::MAX if more, and 0 where the answer is not `Done`.
     pub looks: u64,
     /// The serials of the modules that the call took out, topmost first.
-    pub out: ArrayVec<u64, MOST_MODULES>,
+    pub out: Serials,
 }
 
 impl Who {
@@ -50,7 +51,7 @@ impl Who {
 pub(crate) fn taken_out<M: ModuleOf>(
     answer: &Answer,
     back: &ArrayVec<Option<Boxed<M>>, MOST_MODULES>,
-) -> ArrayVec<u64, MOST_MODULES>
+) -> AllSerials
     ensures { result.items ≡ out_in answer.now back.now.items }
 {
     let mut out = ArrayVec::new();

@@ -8,10 +8,12 @@ mod call;
 mod copying;
 mod entry;
 mod log;
+mod serials;
 mod setup;
 
 pub use call::{Call, Called, Landed};
 pub use copying::copy_request;
 pub use entry::{Entry, Who};
 pub use log::Log;
+pub use serials::Serials;
 pub use setup::{MOST_RING, Setup};

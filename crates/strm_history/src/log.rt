@@ -9,6 +9,7 @@ ghost use Rattle.strm_history.specs.Serials.{AreAccounted};
 use crate::call::{Call, Called, Landed};
 use crate::copying::copy_request;
 use crate::entry::{Entry, Who, taken_out};
+use crate::serials::{Serials, room_for};
 use crate::setup::Setup;
 use arrayvec::ArrayVec;
 use std::alloc::Global;
@@ -52,7 +53,7 @@ fn arrival<K>(m: Message, answer: Answer, moves: Moves, looks: u64) -> Entry<K>
         answer,
         moves,
         looks,
-        out: ArrayVec::new(),
+        out: Serials::none(),
     }
 }
 
@@ -99,14 +100,19 @@ impl<M: ModuleOf> Log<M> {
         requires { copy ≡ call.request }
         ensures { CallsBy M.Kind.means self.old caller call result self.new }
     {
+        let Ok(room) = room_for(self.alloc, &call.request) else {
+            drop(copy);
+            return Called::NoRoom(call);
+        };
         let Ok(()) = self.history.reserve(1) else {
             drop(copy);
+            drop(room);
             return Called::NoRoom(call);
         };
         let Call { end, request } = call;
         let mut back = ArrayVec::new();
         let (answer, twin, settled) = self.stream.call(end, request, &mut back).into_parts();
-        let out = taken_out(&answer, &back);
+        let out = Serials::in_room(taken_out(&answer, &back), room);
         self.history.push_reserved(Entry {
             who: Who::Caller(caller),
             end,

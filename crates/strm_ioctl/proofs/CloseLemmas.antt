@@ -11,7 +11,7 @@ use Rattle.strm_ends.specs.Same.{SameModules}
 use Rattle.strm_chain.specs.Fault.{Breaks}
 use Rattle.strm_chain.proofs.QuietLemmas.{same_end}
 use Rattle.strm_chain.proofs.SameLemmas.{deliver_keeps}
-use Rattle.strm_call.proofs.BreakLemmas.{breaks_after}
+use Rattle.strm_chain.proofs.BreakLemmas.{breaks_after}
 use Rattle.strm_ioctl.specs.Close.{closed_image, hung_up, hung_up_if, after_close}
 
 -- a chain that is broken off has what it had

@@ -2,15 +2,14 @@
 ghost use Rattle.std.specs.Prelude.{◌≡◌, true, false, map, Some, OnOk, OnErr, IfOk, IfErr};
 ghost use Rattle.strm_msg.specs.declared.words.End.{End};
 ghost use Rattle.strm_chain.specs.declared.fault.ChainFault.TheVariants as ChainFaults;
-ghost use Rattle.strm_chain.specs.Fault.{Breaks};
+ghost use Rattle.strm_chain.specs.Fault.{Breaks, Fails};
 ghost use Rattle.strm_ends.specs.Image.{end_of, has_end, partner};
-ghost use Rattle.strm_call.specs.Begun.{Fails};
 ghost use Rattle.strm_ioctl.specs.Close.{hung_up, after_close, close_begun};
 
 use crate::names::names_of;
 use arrayvec::ArrayVec;
-use strm_call::{Reply, deliver};
-use strm_chain::{Chain, ChainFault, Driver, MOST_MODULES, Spot};
+use strm_call::Reply;
+use strm_chain::{Chain, ChainFault, Driver, MOST_MODULES, Spot, deliver};
 use strm_module::{Boxed, ModuleOf};
 use strm_msg::{End, Message};
 

@@ -2,12 +2,12 @@
 ghost use Rattle.std.specs.Prelude.{◌≡◌, true, false, None, OnOk, IfOk, IfErr};
 ghost use Rattle.strm_chain.specs.Deliver.{is_there};
 ghost use Rattle.strm_chain.specs.declared.spot.Spot.TheVariants as Spots;
-ghost use Rattle.strm_call.specs.Begun.{Fails};
+ghost use Rattle.strm_chain.specs.Fault.{Fails};
 ghost use Rattle.strm_call.specs.Refusal.{first_that_holds};
 ghost use Rattle.strm_ioctl.specs.Flush.{flush_refusals, flushed_of};
 
-use strm_call::{Refusal, deliver};
-use strm_chain::{Chain, ChainFault, Spot};
+use strm_call::Refusal;
+use strm_chain::{Chain, ChainFault, Spot, deliver};
 use strm_module::ModuleOf;
 use strm_msg::{End, Message};
 

@@ -4,13 +4,13 @@ ghost use Rattle.strm_qpair.specs.Change.{ended};
 ghost use Rattle.strm_chain.specs.Deliver.{is_there};
 ghost use Rattle.strm_ends.specs.Image.{end_of};
 ghost use Rattle.strm_chain.specs.declared.spot.Spot.TheVariants as Spots;
-ghost use Rattle.strm_call.specs.Begun.{Fails};
+ghost use Rattle.strm_chain.specs.Fault.{Fails};
 ghost use Rattle.strm_call.specs.Reply.{acknowledged};
 ghost use Rattle.strm_call.specs.Refusal.{first_that_holds};
 ghost use Rattle.strm_ioctl.specs.Ioctl.{str_refusals, asked_of};
 
-use strm_call::{Acknowledged, MAX_DATA, Refusal, deliver};
-use strm_chain::{Chain, ChainFault, Spot};
+use strm_call::{Acknowledged, MAX_DATA, Refusal};
+use strm_chain::{Chain, ChainFault, Spot, deliver};
 use strm_module::ModuleOf;
 use strm_msg::{Bytes, End, Message, MsgKind};
 

@@ -6,7 +6,7 @@ ghost use Rattle.strm_call.specs.Refusal.{first_that_holds};
 ghost use Rattle.strm_ioctl.specs.Ask.{is_empty};
 ghost use Rattle.strm_ioctl.specs.Modules.{push_refusals, pop_refusals, push_begun, pop_begun};
 
-use strm_call::{Refusal, Reply, copy_name};
+use strm_call::{Name, Refusal, Reply};
 use strm_chain::Chain;
 use strm_module::{Boxed, ModuleOf};
 use strm_msg::End;
@@ -60,6 +60,6 @@ pub fn pop<M: ModuleOf>(chain: &mut Chain<M>, end: End) -> (Reply, Boxed<M>)
     ensures out { result.1 ∷ [] ≡ (pop_begun chain.old.image end).out }
 {
     let instance = chain.remove(end).unwrap();
-    let name = copy_name(&instance.shape().name);
+    let name = Name::new(&instance.shape().name);
     (Reply::Pop { name }, instance)
 }

@@ -9,7 +9,7 @@ ghost use Rattle.strm_ioctl.specs.Modules.{look_refusals, look_begun};
 ghost use Rattle.strm_ioctl.specs.Names.{names_of, driver_name, has_name, list_begun, find_refusals, find_begun};
 
 use arrayvec::ArrayVec;
-use strm_call::{MOST_NAMES, Name, Refusal, Reply, copy_name};
+use strm_call::{MOST_NAMES, Name, Refusal, Reply};
 use strm_chain::{Chain, Driver, MOST_MODULES};
 use strm_module::{LONGEST_NAME, ModuleOf};
 use strm_msg::{Bytes, End};
@@ -23,7 +23,7 @@ fn driver_name(driver: Driver) -> Name
         Driver::Loop => b"loop",
         Driver::Line => b"line",
     };
-    ArrayVec::try_from(name).unwrap()
+    Name::new(&ArrayVec::try_from(name).unwrap())
 }
 
 /// The names of the modules of an end, topmost first, into an array with room for `MOST_MODULES`. Takes
@@ -37,7 +37,7 @@ pub fn names_of<M: ModuleOf, const N: usize>(chain: &Chain<M>, end: End) -> Arra
     let count = chain.count(end);
     for i in 0..count {
         let shape = chain.shape(end, i as u8 + 1).unwrap();
-        names.push(copy_name(&shape.name));
+        names.push(Name::new(&shape.name));
     }
     names
 }
@@ -60,7 +60,7 @@ pub fn look<M: ModuleOf>(chain: &Chain<M>, end: End) -> Reply
 {
     let first = chain.shape(end, 1).unwrap();
     Reply::Look {
-        name: copy_name(&first.name),
+        name: Name::new(&first.name),
     }
 }
 

@@ -10,7 +10,7 @@ use strm_head::Driver;
 use strm_history::Setup;
 use strm_module::Kind;
 use strm_msg::Message;
-use strm_ring::{Feeder, Inlet, Ring, Runs};
+use strm_shared::{Feeder, Inlet, Ring, Runs};
 
 /// How many messages the ring holds.
 const SIZE: u16 = 4096;

@@ -15,9 +15,8 @@ use strm_module::{Boxed, Kind, Plain};
 use strm_msg::Message;
 use strm_plan::parse;
 use strm_play::{Handed, hand_over};
-use strm_ring::{Feeder, Ring, Runs};
 use strm_script::print;
-use strm_shared::{Ended, Seat, Shared};
+use strm_shared::{Ended, Feeder, Ring, Runs, Seat, Shared};
 
 /// What is done on a stream.
 #[derive(Drop)]

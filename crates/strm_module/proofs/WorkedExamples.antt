@@ -4,7 +4,7 @@ use Rattle.strm_msg.specs.Message.{Msg, bare, data_msg, proto_msg, ioctl_msg, ac
 use Rattle.strm_msg.specs.declared.kind.MsgKind.TheVariants.{MFlush}
 use Rattle.strm_msg.specs.declared.words.Side.{Side}
 use Rattle.strm_msg.specs.declared.words.Side.TheVariants.{Rd, Wr}
-use Rattle.strm_queue.specs.Queue.{WaterMarks}
+use Rattle.strm_msg.specs.Marks.{WaterMarks}
 use Rattle.strm_module.specs.Kinds.{OutList}
 use Rattle.strm_module.specs.Shape.{make_fault}
 use Rattle.strm_module.specs.Eight.{eight}

@@ -9,8 +9,7 @@ use crate::vocabulary::Kinds;
 use arrayvec::ArrayVec;
 use std::alloc::Global;
 use std::fmt;
-use strm_msg::{NoMem, Side};
-use strm_queue::Marks;
+use strm_msg::{Marks, NoMem, Side};
 use thiserror::Error;
 
 /// The longest name of a module, in bytes.

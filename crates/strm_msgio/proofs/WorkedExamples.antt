@@ -6,7 +6,7 @@ use Rattle.strm_msg.specs.declared.words.Prot.{Prot}
 use Rattle.strm_msg.specs.declared.words.Prot.TheVariants.{Norm, Dat, Dis}
 use Rattle.strm_msg.specs.declared.words.ReadMode.{ReadMode}
 use Rattle.strm_msg.specs.declared.words.ReadMode.TheVariants.{Rnorm, Rmsgn, Rmsgd}
-use Rattle.strm_queue.specs.Queue.{WaterMarks}
+use Rattle.strm_msg.specs.Marks.{WaterMarks}
 use Rattle.strm_module.specs.declared.kind.Kind.{Kind}
 use Rattle.strm_qpair.specs.declared.driver.Driver.TheVariants.{Line}
 use Rattle.strm_ends.specs.Image.{Image, fresh}

@@ -3,12 +3,12 @@ ghost use Rattle.std.specs.Prelude.{◌≡◌, true, false, IfOk, OnOk, IfErr, I
 ghost use Rattle.strm_msg.specs.Message.{part_len};
 ghost use Rattle.strm_chain.specs.Deliver.{is_there};
 ghost use Rattle.strm_chain.specs.declared.spot.Spot.TheVariants as Spots;
-ghost use Rattle.strm_call.specs.Begun.{Fails};
+ghost use Rattle.strm_chain.specs.Fault.{Fails};
 ghost use Rattle.strm_call.specs.Refusal.{first_that_holds};
 ghost use Rattle.strm_msgio.specs.Send.{putmsg_refusals, putpmsg_refusals, write_refusals, putmsg_begun, putpmsg_begun, write_begun, putmsg_message, putpmsg_message, ordinary_message, high_message, ordinary_band, waiting_refusals, sending_refusals, sent_of};
 
-use strm_call::{MAX_CONTROL, MAX_DATA, Priority, PutFlag, Refusal, Reply, deliver};
-use strm_chain::{Chain, ChainFault, Spot};
+use strm_call::{MAX_CONTROL, MAX_DATA, Priority, PutFlag, Refusal, Reply};
+use strm_chain::{Chain, ChainFault, Spot, deliver};
 use strm_module::ModuleOf;
 use strm_msg::{Bytes, End, Message, MsgKind};
 

@@ -8,7 +8,8 @@ use Rattle.strm_msg.specs.declared.kind.MsgKind.{MsgKind}
 use Rattle.strm_msg.specs.declared.kind.MsgKind.TheVariants.{MData, MProto, MPcproto, MIoctl, MIocack, MIocnak, MFlush, MHangup, MError}
 use Rattle.strm_msg.specs.declared.words.Side.{Side}
 use Rattle.strm_msg.specs.declared.words.Side.TheVariants.{Rd, Wr}
-use Rattle.strm_queue.specs.Queue.{WaterMarks, is_flushed, is_of_band, put_in, front_len}
+use Rattle.strm_msg.specs.Marks.{WaterMarks}
+use Rattle.strm_queue.specs.Queue.{is_flushed, is_of_band, put_in, front_len}
 use Rattle.strm_queue.proofs.ListLemmas.{left_of, right_of, all_filter}
 use Rattle.strm_module.specs.Shape.{marks_on}
 use Rattle.strm_module.specs.Module.{IsTaken}

@@ -4,7 +4,8 @@ use Rattle.std.specs.Prelude.{ℕ, ◌-◌, Bool, true, false, Option, Some, Non
 use Rattle.strm_msg.specs.Message.{Msg}
 use Rattle.strm_msg.specs.declared.words.Side.{Side}
 use Rattle.strm_msg.specs.declared.words.Side.TheVariants.{Rd, Wr}
-use Rattle.strm_queue.specs.Queue.{WaterMarks, Queue, is_full, is_slack}
+use Rattle.strm_msg.specs.Marks.{WaterMarks}
+use Rattle.strm_queue.specs.Queue.{Queue, is_full, is_slack}
 use Rattle.strm_module.specs.Shape.{marks_on}
 use Rattle.strm_qpair.specs.Pair.{QueuePair, list_on}
 use Rattle.strm_qpair.specs.End.{EndState}

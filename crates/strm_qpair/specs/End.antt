@@ -3,7 +3,7 @@
 use Rattle.std.specs.Prelude.{◌≤◌, ◌+◌, ℕ, Bool, Option, Some, None, List, [], map, slice_get, slice_set, suc, zero}
 use Rattle.strm_msg.specs.Message.{Msg}
 use Rattle.strm_msg.specs.declared.words.Side.{Side}
-use Rattle.strm_queue.specs.Queue.{WaterMarks}
+use Rattle.strm_msg.specs.Marks.{WaterMarks}
 use Rattle.strm_queue.specs.Room.{room_for}
 use Rattle.strm_module.specs.Kinds.{OutList, Meaning}
 use Rattle.strm_module.specs.declared.shape.Shape.{Shape}

@@ -2,7 +2,7 @@
 use Rattle.std.specs.Prelude.{◌≡◌, ◌<◌, ◌≤◌, ℕ, true, List, length}
 use Rattle.std.specs.List.{list_all}
 use Rattle.strm_msg.specs.Message.{Msg}
-use Rattle.strm_queue.specs.Queue.{WaterMarks}
+use Rattle.strm_msg.specs.Marks.{WaterMarks}
 use Rattle.strm_qpair.specs.Pair.{QueuePair}
 use Rattle.strm_qpair.specs.Modules.{are_fit, are_ordinary, waits_well}
 use Rattle.strm_qpair.specs.declared.end.TheConstants.{MOST_MODULES}

@@ -4,7 +4,7 @@ use Rattle.std.specs.Prelude.{◌≡◌, ◌<◌, ◌&&◌, not, ℕ, nat_lt, Bo
 use Rattle.std.specs.List.{list_all}
 use Rattle.strm_msg.specs.Kind.{is_high}
 use Rattle.strm_msg.specs.Message.{Msg}
-use Rattle.strm_queue.specs.Queue.{WaterMarks}
+use Rattle.strm_msg.specs.Marks.{WaterMarks}
 use Rattle.strm_module.specs.declared.shape.Shape.{Shape}
 use Rattle.strm_qpair.specs.Pair.{QueuePair}
 use Rattle.strm_qpair.specs.End.{EndState}

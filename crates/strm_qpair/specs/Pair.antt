@@ -5,7 +5,8 @@ use Rattle.strm_msg.specs.declared.kind.MsgKind.{MsgKind}
 use Rattle.strm_msg.specs.declared.kind.MsgKind.TheVariants.{MFlush}
 use Rattle.strm_msg.specs.declared.words.Side.{Side}
 use Rattle.strm_msg.specs.declared.words.Side.TheVariants.{Rd, Wr}
-use Rattle.strm_queue.specs.Queue.{WaterMarks, Queue, put_in, flush_of, flush_band_of}
+use Rattle.strm_msg.specs.Marks.{WaterMarks}
+use Rattle.strm_queue.specs.Queue.{Queue, put_in, flush_of, flush_band_of}
 use Rattle.strm_module.specs.Kinds.{OutList, Meaning}
 use Rattle.strm_module.specs.Module.{put_of, serve_of}
 use Rattle.strm_module.specs.declared.shape.Shape.{Shape}

@@ -1,7 +1,8 @@
 -- The definitions of queues, computed on worked examples.
 use Rattle.std.proofs.Common.{◌≡◌, ℕ, true, false, List, [], ◌∷◌, Some, None, replicate, refl}
 use Rattle.strm_msg.specs.Message.{Msg, data_msg, proto_msg, pcproto_msg, ioctl_msg, weight_of}
-use Rattle.strm_queue.specs.Queue.{WaterMarks, put_in, put_back_in, behind_last, flush_of, flush_band_of, held_of, is_full, is_slack, has_band}
+use Rattle.strm_msg.specs.Marks.{WaterMarks}
+use Rattle.strm_queue.specs.Queue.{put_in, put_back_in, behind_last, flush_of, flush_band_of, held_of, is_full, is_slack, has_band}
 use Rattle.strm_queue.specs.Room.{same_room, room_for}
 
 -- messages of one byte: one of band 0, three of band 3, and a high one

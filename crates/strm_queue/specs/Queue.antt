@@ -1,15 +1,11 @@
 -- Queues of messages (Programmer's Guide: STREAMS, "Message Queues and Service Procedures"; putq(9F) and kin).
 use Rattle.std.specs.Prelude.{ℕ, ◌+◌, ◌-◌, ◌==◌, ◌&&◌, not, nat_le, nat_lt, Bool, true, false, List, [], ◌∷◌, length, if◌then◌else◌, filter, sum_by, insert}
 use Rattle.std.specs.List.{prefix_len, suffix_len, list_any, list_all}
+use Rattle.strm_msg.specs.Marks.{WaterMarks}
 use Rattle.strm_msg.specs.Message.{Msg, rank_of, weight_of}
 use Rattle.strm_msg.specs.Kind.{is_high}
 use Rattle.strm_msg.specs.declared.kind.MsgKind.{MsgKind}
 use Rattle.strm_msg.specs.declared.kind.MsgKind.TheVariants.{MData, MProto, MPcproto, MIoctl, MIocack, MIocnak, MFlush, MHangup, MError}
-
--- when a band of a queue is full, and when it is slack, in bytes
-pub record WaterMarks : Type 0 where
-  pub hi : ℕ
-  pub lo : ℕ
 
 -- a queue: its marks, its messages in the order in which they are taken, and for each rank how many
 -- more it takes without memory

@@ -7,10 +7,9 @@
 
 mod lane;
 mod lanes;
-mod marks;
 mod queue;
 mod run;
 
-pub use marks::Marks;
 pub use queue::BandQueue;
 pub use run::RunQueue;
+pub use strm_msg::Marks;

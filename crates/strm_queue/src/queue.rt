@@ -9,10 +9,9 @@ use crate::lanes::{
     HIGH, find, first, flush_all, flush_rank, message_at, put_before, put_behind, reserve_at,
     take_first, weight_at,
 };
-use crate::marks::Marks;
 use std::alloc::Global;
 use std::marker::Model;
-use strm_msg::{Message, NoMem};
+use strm_msg::{Marks, Message, NoMem};
 
 /// The most messages that a queue holds, so that what they weigh together can be counted.
 const MOST: usize = 9_223_372_036_854_775_807;

@@ -17,7 +17,7 @@ use Rattle.strm_history.specs.Serials.{AreAccounted}
 use Rattle.strm_shared.specs.Seat.{SeatValue}
 use Rattle.strm_history.specs.Entry.{asked_of}
 use Rattle.strm_shared.specs.Turns.{AreFirstOf}
-use Rattle.strm_ring.specs.Feed.{FeedValue, accepted_of}
+use Rattle.strm_shared.specs.Feed.{FeedValue, accepted_of}
 use Rattle.strm_shared.specs.Ending.{SharedValue, AreSeats, CountsAgree, is_fed}
 use Rattle.strm_run.specs.declared.fault.RunFault.{RunFault}
 use Rattle.strm_crew.specs.declared.script.Script.{Script}

@@ -7,7 +7,7 @@ use Rattle.std.proofs.lemmas.List.{length-append, length-set, get_or-set_same, g
 use Rattle.strm_msg.specs.Message.{Msg}
 use Rattle.strm_head.specs.Step.{is_line}
 use Rattle.strm_history.specs.declared.setup.Setup.{Setup}
-use Rattle.strm_ring.specs.Feed.{fresh_feeder, FeederValue}
+use Rattle.strm_shared.specs.Feed.{fresh_feeder, FeederValue}
 use Rattle.strm_crew.specs.declared.script.Feed.{Feed}
 use Rattle.strm_crew.specs.Scripts.{feed_of}
 use Rattle.strm_run.specs.There.{line_is_there}

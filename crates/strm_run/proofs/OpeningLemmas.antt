@@ -2,9 +2,9 @@
 use Rattle.std.proofs.Common.{◌≡◌, ℕ, zero, suc, ◌+◌, ◌<◌, Option, List, [], ◌∷◌, ◌++◌, length, get_or, map, Vec, Global, All, refl, sym, ◌∙◌, ap, subst, arith, below_more, Result, Ok, Err, IfOk, IsOk}
 use Rattle.std.proofs.lemmas.List.{length-map, get_or-map, length_push, get_or_push, get_or_append_left, get_or_default}
 use Rattle.strm_history.specs.declared.setup.Setup.{Setup}
-use Rattle.strm_ring.specs.declared.fault.SharedFault.{SharedFault}
+use Rattle.strm_shared.specs.declared.fault.SharedFault.{SharedFault}
 use Rattle.strm_shared.specs.Seat.{SeatValue}
-use Rattle.strm_ring.specs.Feed.{fresh_feeder, FeederValue, RingValue}
+use Rattle.strm_shared.specs.Feed.{fresh_feeder, FeederValue, RingValue}
 use Rattle.strm_shared.specs.Ending.{fresh_seats, SharedValue}
 use Rattle.strm_crew.specs.Run.{RunValue}
 use Rattle.strm_crew.specs.Scripts.{ring_of}

@@ -16,8 +16,7 @@ use strm_crew::{Of, Offered, Played, Plays, StreamLog, Streams, Transcript, are_
 use strm_head::Answer;
 use strm_module::ModuleOf;
 use strm_msg::NoMem;
-use strm_ring::FeedEnd;
-use strm_shared::{EndFault, Ended, Seat, Shared};
+use strm_shared::{EndFault, Ended, FeedEnd, Seat, Shared};
 
 /// What the feeder of a stream leaves, and how many of its messages came back; nothing where it has none.
 fn fed<K, N: Plays<K>>(offered: Option<Offered<K, N>>) -> (Option<FeedEnd<K, Of<N>>>, u64)

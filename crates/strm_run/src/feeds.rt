@@ -8,7 +8,7 @@ use std::alloc::Global;
 use std::mem;
 use strm_crew::{Feed, Feeding, Of, Offered, Plays};
 use strm_msg::{Message, NoMem};
-use strm_ring::Feeder;
+use strm_shared::Feeder;
 
 /// What each stream is fed, in order of the streams. Refused for want of memory alone.
 pub(crate) fn feeds_of(

@@ -8,8 +8,7 @@ use strm_crew::{Of, Plays};
 use strm_history::Setup;
 use strm_module::ModuleOf;
 use strm_msg::NoMem;
-use strm_ring::{Feeder, Ring, SharedFault};
-use strm_shared::{Seat, Shared};
+use strm_shared::{Feeder, Ring, Seat, Shared, SharedFault};
 
 /// A ring for each stream, in order of the setups. Refused for want of memory alone.
 pub(crate) fn rings_of(alloc: Global, setups: &[Setup]) -> Result<Vec<Ring>, NoMem>

@@ -23,7 +23,7 @@ use std::thread::Threads;
 use strm_crew::{Feed, Gate, Plays, Script, Streams, Transcript, deal, seated};
 use strm_history::Setup;
 use strm_module::{Boxed, ModuleOf};
-use strm_ring::Ring;
+use strm_shared::Ring;
 
 /// A run of which all is there, under its name.
 fn run_named<M: ModuleOf, N: Plays<M::Kind> + Send + Sync, R: Threads + Wait + Sync, G: Gate>(

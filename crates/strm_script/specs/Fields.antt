@@ -7,7 +7,7 @@ use Rattle.strm_msg.specs.Message.{Msg}
 use Rattle.strm_msg.specs.Text.{name_of}
 use Rattle.strm_msg.specs.declared.kind.MsgKind.{MsgKind}
 use Rattle.strm_msg.specs.declared.kind.MsgKind.TheVariants.{MData, MProto, MPcproto, MFlush, MHangup, MError}
-use Rattle.strm_queue.specs.Queue.{WaterMarks}
+use Rattle.strm_msg.specs.Marks.{WaterMarks}
 use Rattle.strm_module.specs.declared.kind.Kind.{Kind}
 use Rattle.strm_module.specs.declared.shape.Shape.{Shape}
 use Rattle.strm_text.specs.Spelling.{part_text}

@@ -7,7 +7,7 @@ use crate::field::{put_number, put_pair, put_part, put_word};
 use arrayvec::ArrayVec;
 use std::io::{self, Write};
 use strm_module::{Kind, Shape};
-use strm_queue::Marks;
+use strm_msg::Marks;
 use strm_verb::KindWord;
 
 /// The word of a kind.

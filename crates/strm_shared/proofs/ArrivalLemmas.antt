@@ -15,8 +15,8 @@ use Rattle.strm_history.specs.declared.call.Called.TheVariants.{Done, NoRoom}
 use Rattle.strm_history.specs.Entry.{came_in}
 use Rattle.strm_history.specs.History.{arrivals}
 use Rattle.strm_history.specs.Log.{LogValue, HasLanded, CallsBy}
-use Rattle.strm_ring.specs.Inlet.{InletValue}
-use Rattle.strm_ring.specs.Runs.{IsNextOf}
+use Rattle.strm_shared.specs.Inlet.{InletValue}
+use Rattle.strm_shared.specs.Runs.{IsNextOf}
 use Rattle.strm_shared.specs.Seat.{SeatValue}
 use Rattle.strm_shared.specs.Turns.{turned, IsLocked, TurnsValue}
 use Rattle.strm_shared.specs.Arrivals.{TakesIn, ComesIn}

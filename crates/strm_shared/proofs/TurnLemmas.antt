@@ -23,7 +23,7 @@ use Rattle.strm_shared.specs.Seat.{SeatValue}
 use Rattle.strm_shared.specs.Ending.{has_seat, CountsAgree, Counted}
 use Rattle.strm_history.specs.Entry.{asked_of}
 use Rattle.strm_shared.specs.Turns.{counted, has_count, is_next, turned, AreFirstOf, AreInTurn, TurnsValue}
-use Rattle.strm_ring.specs.Runs.{IsNextOf}
+use Rattle.strm_shared.specs.Runs.{IsNextOf}
 
 -- the first elements, with one more
 take_next : {A : Type 0} (all : List A) (count : ℕ) (one : A) → slice_get all count ≡ Some one → take (suc count) all ≡ take count all ++ one ∷ []

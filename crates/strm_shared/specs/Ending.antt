@@ -17,7 +17,7 @@ use Rattle.strm_history.specs.declared.call.Call.{Call}
 use Rattle.strm_history.specs.declared.call.Called.{Called}
 use Rattle.strm_history.specs.declared.call.Called.TheVariants.{Done, NoRoom}
 use Rattle.strm_history.specs.History.{calls_of}
-use Rattle.strm_ring.specs.Feed.{FeedValue}
+use Rattle.strm_shared.specs.Feed.{FeedValue}
 use Rattle.strm_shared.specs.Seat.{SeatValue}
 
 -- a shared stream: its number, its setup, and how many callers it has

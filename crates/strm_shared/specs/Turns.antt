@@ -10,7 +10,7 @@ use Rattle.strm_history.specs.Entry.{asked_of}
 use Rattle.strm_history.specs.History.{arrivals, own, calls_of}
 use Rattle.strm_history.specs.Log.{LogValue}
 use Rattle.strm_head.specs.Step.{is_line}
-use Rattle.strm_ring.specs.Inlet.{InletValue}
+use Rattle.strm_shared.specs.Inlet.{InletValue}
 use Rattle.strm_shared.specs.Seat.{SeatValue}
 use Rattle.strm_shared.specs.Ending.{has_seat}
 

@@ -2,9 +2,10 @@
 ghost use Rattle.std.specs.Prelude.{◌≡◌, ◌↔◌, ◌<◌, ℕ, true, Any};
 ghost use Rattle.strm_shared.specs.Ending.{is_fed, AreSeats};
 
+use crate::feeder::FeedEnd;
+use crate::runs::Runs;
 use crate::seat::Seat;
 use strm_history::Setup;
-use strm_ring::{FeedEnd, Runs};
 
 /// Whether a caller has a seat among these.
 fn is_seated(caller: u32, seats: &[Seat]) -> bool

@@ -6,12 +6,19 @@
 
 mod ending;
 mod fault;
+mod feeder;
+mod inlet;
 mod locked;
+mod ring;
+mod runs;
 mod seat;
 mod shared;
 mod turns;
 
-pub use fault::EndFault;
+pub use fault::{EndFault, SharedFault};
+pub use feeder::{FeedEnd, Feeder};
+pub use inlet::Inlet;
+pub use ring::Ring;
+pub use runs::{AnyCalls, Runs};
 pub use seat::Seat;
 pub use shared::{Ended, Shared};
-pub use strm_ring::{AnyCalls, FeedEnd, Feeder, Ring, Runs, SharedFault};

@@ -5,12 +5,14 @@ ghost use Rattle.strm_head.specs.declared.event.Event.TheVariants.{Asked};
 ghost use Rattle.strm_history.specs.History.{arrivals};
 ghost use Rattle.strm_history.specs.Setup.{is_fit, opened};
 ghost use Rattle.strm_history.specs.Log.{CallsBy};
-ghost use Rattle.strm_ring.specs.Runs.{IsNextOf};
-ghost use Rattle.strm_ring.specs.Inlet.{fresh_inlet};
+ghost use Rattle.strm_shared.specs.Runs.{IsNextOf};
+ghost use Rattle.strm_shared.specs.Inlet.{fresh_inlet};
 ghost use Rattle.strm_shared.specs.Ending.{Counted};
 ghost use Rattle.strm_shared.specs.Turns.{turned, AreInTurn};
 ghost use Rattle.strm_shared.specs.Arrivals.{Intakes, CallsAfter, ComesIn};
 
+use crate::inlet::Inlet;
+use crate::runs::Runs;
 use crate::seat::Seat;
 use crate::turns::Turns;
 use std::alloc::Global;
@@ -19,7 +21,6 @@ use strm_head::Request;
 use strm_history::{Call, Called, Landed, Log, Setup};
 use strm_module::{Boxed, BoxedShape, ModuleOf};
 use strm_msg::NoMem;
-use strm_ring::{Inlet, Runs};
 
 /// What stands under the lock of a shared stream: the number of the stream, the stream with its history,
 /// how many calls each caller has made there, and where the messages of a line come in.

@@ -4,14 +4,17 @@ ghost use Rattle.strm_head.specs.declared.event.Event.TheVariants.{Asked};
 ghost use Rattle.strm_history.specs.Setup.{is_fit, opened};
 ghost use Rattle.strm_history.specs.History.{arrivals, own, Legal};
 ghost use Rattle.strm_history.specs.Serials.{AreAccounted};
-ghost use Rattle.strm_ring.specs.Feed.{accepted_of, fresh_feeder};
-ghost use Rattle.strm_ring.specs.Runs.{IsNextOf};
+ghost use Rattle.strm_shared.specs.Feed.{accepted_of, fresh_feeder};
+ghost use Rattle.strm_shared.specs.Runs.{IsNextOf};
 ghost use Rattle.strm_shared.specs.Ending.{fresh_seats, has_seat, is_fed, AreSeats, CountsAgree, Counted, HandsBack};
 ghost use Rattle.strm_shared.specs.Turns.{AreFirstOf};
 
 use crate::ending::{are_seats, is_fed};
-use crate::fault::EndFault;
+use crate::fault::{EndFault, SharedFault};
+use crate::feeder::{FeedEnd, Feeder};
 use crate::locked::Locked;
+use crate::ring::Ring;
+use crate::runs::{AnyCalls, Runs};
 use crate::seat::Seat;
 use std::alloc::Global;
 use std::marker::Model;
@@ -20,7 +23,6 @@ use strm_head::Stream;
 use strm_history::{Call, Called, Entry, Setup, copy_request};
 use strm_module::{Boxed, ModuleOf};
 use strm_msg::{Message, NoMem};
-use strm_ring::{AnyCalls, FeedEnd, Feeder, Ring, Runs, SharedFault};
 
 /// A stream that several callers share.
 ///

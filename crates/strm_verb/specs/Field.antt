@@ -4,7 +4,7 @@ use Rattle.std.specs.Str.{bytes_eq}
 use Rattle.std.specs.List.{list_any, find}
 use Rattle.strm_msg.specs.Text.{name_of}
 use Rattle.strm_msg.specs.declared.errno.Errno.{Errno}
-use Rattle.strm_queue.specs.Queue.{WaterMarks}
+use Rattle.strm_msg.specs.Marks.{WaterMarks}
 use Rattle.strm_text.specs.Text.{number_of, part_of, halves_of}
 use Rattle.strm_verb.specs.Fault.{◌>>=◌, or_fault}
 use Rattle.strm_verb.specs.Words.{all_errnos}

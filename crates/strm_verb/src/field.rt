@@ -6,8 +6,7 @@ ghost use Rattle.strm_verb.specs.Field as fields;
 
 use crate::fault::{Cause, ReadError};
 use std::alloc::Global;
-use strm_msg::Bytes;
-use strm_queue::Marks;
+use strm_msg::{Bytes, Marks};
 use strm_text::{number, part, split_once};
 
 /// The greatest band.

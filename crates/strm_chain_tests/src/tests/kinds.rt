@@ -11,8 +11,7 @@ use strm_module::{
     Put, Shape, Table, Tee,
 };
 use strm_msg::Side::{Rd, Wr};
-use strm_msg::{Message, NoMem, Side};
-use strm_queue::Marks;
+use strm_msg::{Marks, Message, NoMem, Side};
 
 /// Which procedure a message is handed to.
 #[derive(Clone, Copy, Drop)]

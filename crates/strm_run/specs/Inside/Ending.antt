@@ -12,7 +12,7 @@ use Rattle.strm_shared.specs.declared.fault.EndFault.{EndFault}
 use Rattle.strm_shared.specs.declared.fault.EndFault.TheVariants as EndFaults
 use Rattle.strm_history.specs.History.{arrivals}
 use Rattle.strm_shared.specs.Seat.{SeatValue}
-use Rattle.strm_ring.specs.Feed.{FeedValue}
+use Rattle.strm_shared.specs.Feed.{FeedValue}
 use Rattle.strm_shared.specs.Ending.{SharedValue}
 use Rattle.strm_run.specs.declared.fault.RunFault.{RunFault}
 use Rattle.strm_run.specs.declared.fault.RunFault.TheVariants as RunFaults

@@ -4,7 +4,7 @@ use Rattle.std.specs.Global.{Global}
 use Rattle.strm_msg.specs.Message.{Msg}
 use Rattle.strm_history.specs.declared.setup.Setup.{Setup}
 use Rattle.strm_shared.specs.Seat.{SeatValue}
-use Rattle.strm_ring.specs.Feed.{fresh_feeder, FeederValue}
+use Rattle.strm_shared.specs.Feed.{fresh_feeder, FeederValue}
 use Rattle.strm_shared.specs.Ending.{fresh_seats, SharedValue}
 use Rattle.strm_crew.specs.declared.script.Feed.{Feed}
 use Rattle.strm_crew.specs.Scripts.{feed_of}

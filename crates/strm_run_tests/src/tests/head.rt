@@ -132,7 +132,7 @@ fn request_of(rt: &impl Abort, alloc: Global, serial: u64, call: Call) -> Reques
 }
 
 fn name_of(rt: &impl Abort, name: &[u8]) -> Name {
-    ArrayVec::try_from(name).ok().expect(rt, "a short name")
+    Name::new(&ArrayVec::try_from(name).ok().expect(rt, "a short name"))
 }
 
 fn names_of<const N: usize>(rt: &impl Abort, names: &[&[u8]]) -> ArrayVec<Name, N> {

@@ -9,7 +9,7 @@ use std::io::{self, ErrorKind, Write};
 use std::process::Abort;
 use strm_call::{Acknowledged, Answer, Name, Refusal, Reply, Request};
 use strm_head::{Event, MOST_MODULES, Moves};
-use strm_history::{Entry, Who};
+use strm_history::{Entry, Serials, Who};
 use strm_module::Kind;
 use strm_msg::End::{A, B};
 use strm_msg::{Bytes, End, Errno, Message};
@@ -186,7 +186,7 @@ fn step(alloc: Global, who: Who, end: End, event: Event<PushDecl>, answer: Answe
         answer,
         moves: Moves::new(alloc),
         looks: 0,
-        out: ArrayVec::new(),
+        out: Serials::none(),
     }
 }
 
@@ -211,7 +211,7 @@ fn names(rt: &impl Abort, names: &[&[u8]]) -> Option<ArrayVec<Name, MOST_MODULES
     let mut all = ArrayVec::new();
     for bytes in names {
         let name = ArrayVec::try_from(*bytes).expect(rt, "a short name");
-        all.try_push(name).expect(rt, "few names");
+        all.try_push(Name::new(&name)).expect(rt, "few names");
     }
     Some(all)
 }

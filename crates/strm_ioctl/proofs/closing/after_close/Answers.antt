@@ -1,6 +1,6 @@
 use Rattle.std.proofs.Common.{◌≡◌, true, sym, subst, ap}
 use Rattle.strm_ends.specs.Image.{Image}
-use Rattle.strm_call.specs.Begun.{Fails}
+use Rattle.strm_chain.specs.Fault.{Fails}
 use Rattle.strm_ioctl.specs.Close.{hung_up}
 use Rattle.strm_ioctl.proofs.CloseLemmas.{broken_close}
 use Rattle.strm_ioctl.proofs.closing.after_close.Goals as goal

@@ -10,12 +10,12 @@ loop-i-preserved g c =
     let before = c.loop-i.invariant in
     let found = rw c.unwrap-shape.ensures at c.shape.ensures in
     let end = end_of c.args.chain.now.image c.args.end in
-    let named = name_at end.modules c.loop-i.i c.unwrap-shape.result.now c.copy_name.result found in
+    let named = name_at end.modules c.loop-i.i c.unwrap-shape.result.now c.new.result found in
     let all = as_many_names end.modules in
     let few = c.count-count.ensures.value in
     let test = c.loop-i-test.true in
     let below : c.loop-i.i < length (names_of end) = omega arith in
     record {
-      named = rw (c.push.ensures.items, before.named, c.copy_name.ensures, ← named) (sym (take_more (names_of end) c.loop-i.i c.copy_name.result below));
+      named = rw (c.push.ensures.items, before.named, c.new.ensures, ← named) (sym (take_more (names_of end) c.loop-i.i c.new.result below));
       counted = grind (arith, length-append, c.push.ensures.len, before.counted);
     }

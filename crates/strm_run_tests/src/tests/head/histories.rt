@@ -93,7 +93,7 @@ fn is_taken(
         && entry.answer == Answer::Done(Reply::Line)
         && entry.moves.len() == moves
         && entry.looks == looks
-        && entry.out.is_empty()
+        && entry.out.as_slice().is_empty()
 }
 
 /// Whether this is the entry of a row.

@@ -1,12 +1,11 @@
 //! What callers were told, beside what a history has. The lock lets the two never differ, so the lists
 //! are made by hand here.
 use Told::{Closed, Wrote};
-use arrayvec::ArrayVec;
 use std::alloc::Global;
 use std::collections::VecDeque;
 use std::process::Abort;
 use strm_head::{Answer, Event, Moves, Refusal, Reply, Request};
-use strm_history::{Entry, Who};
+use strm_history::{Entry, Serials, Who};
 use strm_module::{BoxedShape, Kind};
 use strm_msg::{End, Message};
 use strm_run::{StreamLog, are_all_told};
@@ -36,7 +35,7 @@ fn step(alloc: Global, who: Who, event: Event<BoxedShape>, answer: Answer) -> En
         answer,
         moves: Moves::new(alloc),
         looks: 0,
-        out: ArrayVec::new(),
+        out: Serials::none(),
     }
 }
 

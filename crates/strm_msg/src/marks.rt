@@ -18,7 +18,7 @@ pub struct Marks {
 
 impl Model for Marks {
     ghost use Rattle.std.specs.Prelude.{◌<◌};
-    ghost use Rattle.strm_queue.specs.Queue.{WaterMarks};
+    ghost use Rattle.strm_msg.specs.Marks.{WaterMarks};
 
     ghost Value = { WaterMarks };
 

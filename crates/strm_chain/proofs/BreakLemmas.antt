@@ -12,10 +12,9 @@ use Rattle.strm_chain.specs.declared.fault.ChainFault.TheVariants.{NoMem, Broken
 use Rattle.strm_ends.specs.Image.{Image}
 use Rattle.strm_chain.specs.Deliver.{deliver}
 use Rattle.strm_ends.specs.Same.{SameModules}
-use Rattle.strm_chain.specs.Fault.{Breaks, Refuses}
+use Rattle.strm_chain.specs.Fault.{Breaks, Fails, Refuses}
 use Rattle.strm_chain.proofs.QuietLemmas.{end_trans}
 use Rattle.strm_chain.proofs.SameLemmas.{deliver_keeps}
-use Rattle.strm_call.specs.Begun.{Fails}
 
 ids_back : (old new : Record) → SameIds old new → SameIds new old
 ids_back old new s =

@@ -1,9 +1,11 @@
 //! A message of a call is carried to its end.
 ghost use Rattle.std.specs.Prelude.{◌≡◌, true, false, OnOk, IfErr};
 ghost use Rattle.strm_chain.specs.Deliver.{deliver, is_there};
-ghost use Rattle.strm_call.specs.Begun.{Fails};
+ghost use Rattle.strm_chain.specs.Fault.{Fails};
 
-use strm_chain::{Chain, ChainFault, Spot};
+use crate::chain::Chain;
+use crate::fault::ChainFault;
+use crate::spot::Spot;
 use strm_module::ModuleOf;
 use strm_msg::Message;
 

@@ -2,8 +2,8 @@
 ghost use Rattle.std.specs.Prelude.{◌≡◌, ◌↔◌, true, false, is_some, IfOk, IsErrOf};
 ghost use Rattle.strm_head.specs.Step.{is_line};
 ghost use Rattle.strm_history.specs.Setup.{is_ring};
-ghost use Rattle.strm_ring.specs.Feed.{fresh_feeder};
-ghost use Rattle.strm_ring.specs.Inlet.{fresh_inlet};
+ghost use Rattle.strm_shared.specs.Feed.{fresh_feeder};
+ghost use Rattle.strm_shared.specs.Inlet.{fresh_inlet};
 
 use crate::fault::SharedFault;
 use crate::feeder::Feeder;
@@ -43,9 +43,9 @@ impl Model for Ring {
     ghost use Rattle.std.specs.Prelude.{◌≡◌, is_some};
     ghost use Rattle.std.specs.Option.{option_map};
     ghost use Rattle.strm_head.specs.Step.{is_line};
-    ghost use Rattle.strm_ring.specs.Name.{producer_name};
-    ghost use Rattle.strm_ring.specs.Feed.{RingValue};
-    ghost use Rattle.strm_ring.specs.Ring.{AreNew};
+    ghost use Rattle.strm_shared.specs.Name.{producer_name};
+    ghost use Rattle.strm_shared.specs.Feed.{RingValue};
+    ghost use Rattle.strm_shared.specs.Ring.{AreNew};
 
     ghost Value = { RingValue };
 

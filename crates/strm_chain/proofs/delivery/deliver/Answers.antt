@@ -1,5 +1,5 @@
-use Rattle.strm_call.proofs.BreakLemmas.{delivered_or_fails}
-use Rattle.strm_call.proofs.delivery.deliver.Goals as goal
+use Rattle.strm_chain.proofs.BreakLemmas.{delivered_or_fails}
+use Rattle.strm_chain.proofs.delivery.deliver.Goals as goal
 
 pub returns-clause-failed : goal.returns-clause-failed
 returns-clause-failed g c =

@@ -3,7 +3,7 @@ use Rattle.std.specs.Prelude.{ℕ, Option, Some, None, List, [], if◌then◌els
 use Rattle.strm_msg.specs.Message.{Msg}
 use Rattle.strm_head.specs.Step.{is_line}
 use Rattle.strm_history.specs.declared.setup.Setup.{Setup}
-use Rattle.strm_ring.specs.Name.{RingName}
+use Rattle.strm_shared.specs.Name.{RingName}
 
 -- a ring that has no owner yet: the setup of the stream that it is for, and its name if that is a line
 pub record RingValue : Type 0 where

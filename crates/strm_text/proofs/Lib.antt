@@ -1,4 +1,5 @@
 pub mod LineLemmas
 pub mod ReadBackLemmas
+pub mod RunLemmas
 pub mod SpellingLemmas
 pub mod WriteLemmas

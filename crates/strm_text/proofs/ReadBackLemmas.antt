@@ -1,12 +1,12 @@
 -- What is spelt is read as it was.
-use Rattle.std.proofs.Common.{◌≡◌, ℕ, suc, ◌+◌, ◌*◌, ◌-◌, ◌<◌, ◌/◌, ◌%◌, ◌==◌, ◌++◌, Bool, true, false, cond, ltb, ◌≤◌, List, [], ◌∷◌, All, Option, Some, None, refl, ap, ◌∙◌, arith}
+use Rattle.std.proofs.Common.{◌≡◌, ℕ, suc, ◌+◌, ◌*◌, ◌-◌, ◌<◌, ◌/◌, ◌%◌, ◌++◌, Bool, true, false, cond, ltb, ◌≤◌, List, [], ◌∷◌, All, Option, Some, None, refl, ap, ◌∙◌, arith}
 use Rattle.std.specs.Option.{option_map}
 use Rattle.std.proofs.lemmas.Bool.{ltb-true, ltb-false}
 use Rattle.std.proofs.lemmas.Bool.Decides.{nat_tests}
 use Rattle.strm_text.specs.Bytes.{is_digit, is_itself, is_within, hex_of}
-use Rattle.strm_text.specs.Text.{◌>>=◌, next_byte, byte_of, bytes_of}
+use Rattle.strm_text.specs.Text.{◌>>=◌, byte_of, bytes_of}
 use Rattle.strm_text.specs.Spelling.{hex_digit, spelling_of, spelling, PartsAreReadBack}
-use Rattle.strm_text.proofs.SpellingLemmas.{front, front_first, goes_on}
+use Rattle.strm_text.proofs.SpellingLemmas.{front_first, goes_on, itself_first}
 
 -- a digit below ten
 small_back : (n : ℕ) → n < 10 → hex_of (n + 48) ≡ Some n
@@ -40,11 +40,6 @@ byte_back byte below =
     ap (λ (o : Option ℕ). o >>= λ h. hex_of (hex_digit (byte % 16)) >>= λ l. Some (h * 16 + l)) (digit_back (byte / 16) (omega arith))
     ∙ ap (λ (o : Option ℕ). o >>= λ l. Some (byte / 16 * 16 + l)) (digit_back (byte % 16) (omega arith))
     ∙ ap Some whole
-
-itself_first : (byte : ℕ) (rest : List ℕ) → is_itself byte ≡ true → next_byte (byte ∷ rest) ≡ Some (front byte rest)
-itself_first byte [] is = ap (λ (b : Bool). cond b (Some (front byte [])) None) is
-itself_first byte (b ∷ []) is = ap (λ (t : Bool). cond t (Some (front byte (b ∷ []))) None) is
-itself_first byte (b ∷ c ∷ rest) is = ap (λ (t : Bool). cond t (Some (front byte (b ∷ c ∷ rest))) (cond (byte == 37) (byte_of b c >>= λ spelt. Some (front spelt rest)) None)) is
 
 one_back_by : (byte : ℕ) (rest bytes : List ℕ) (b : Bool) → is_itself byte ≡ b → byte < 256 → bytes_of rest ≡ Some bytes → bytes_of (cond b (byte ∷ []) (37 ∷ hex_digit (byte / 16) ∷ hex_digit (byte % 16) ∷ []) ++ rest) ≡ Some (byte ∷ bytes)
 one_back_by byte rest bytes true itself below is =

@@ -36,6 +36,12 @@ front_first (a ∷ []) some = one_left (is_itself a) a (Some (a ∷ [])) refl
 front_first (a ∷ b ∷ []) some = two_left (is_itself a) a b
 front_first (a ∷ b ∷ c ∷ rest) some = more_left (is_itself a) (a == 37) a (b ∷ c ∷ rest) rest (byte_of b c)
 
+-- a byte that stands for itself is the one at the front
+pub itself_first : (byte : ℕ) (rest : List ℕ) → is_itself byte ≡ true → next_byte (byte ∷ rest) ≡ Some (front byte rest)
+itself_first byte [] is = ap (λ (b : Bool). cond b (Some (front byte [])) None) is
+itself_first byte (b ∷ []) is = ap (λ (t : Bool). cond t (Some (front byte (b ∷ []))) None) is
+itself_first byte (b ∷ c ∷ rest) is = ap (λ (t : Bool). cond t (Some (front byte (b ∷ c ∷ rest))) (cond (byte == 37) (byte_of b c >>= λ spelt. Some (front spelt rest)) None)) is
+
 behind : (all : List ℕ) (byte : ℕ) (more : Option (List ℕ)) → option_map (λ bytes. all ++ bytes) (option_map (λ bytes. byte ∷ bytes) more) ≡ option_map (λ bytes. (all ++ byte ∷ []) ++ bytes) more
 behind all byte None = refl
 behind all byte (Some bytes) = ap Some (sym (append_assoc all (byte ∷ []) bytes))

@@ -3,6 +3,7 @@
 
 mod lines;
 mod parts;
+mod runs;
 mod spelling;
 mod words;
 

@@ -1,10 +1,12 @@
 //! Parts: bytes that a field spells.
-ghost use Rattle.std.specs.Prelude.{◌≡◌, ◌<◌, length, IfOk, IfSome};
+ghost use Rattle.std.specs.Prelude.{◌≡◌, ◌<◌, ◌≤◌, ◌++◌, length, take, true, IfOk, IfSome};
 ghost use Rattle.std.specs.Option.{option_map};
-ghost use Rattle.strm_text.specs.Bytes as bytes;
+ghost use Rattle.std.specs.List.{list_all};
+ghost use Rattle.strm_text.specs.Bytes.{hex_of, is_itself};
 ghost use Rattle.strm_text.specs.Text.{byte_of, bytes_of, next_byte, part_of, repeated_of, times_of};
 
 use crate::lines::split_once;
+use crate::runs::plain_len;
 use crate::words::number;
 use std::alloc::{AllocError, Global};
 
@@ -13,14 +15,14 @@ const MOST_TIMES: u64 = 65_535;
 
 /// Whether a byte stands for itself.
 pub(crate) fn is_itself(byte: u8) -> bool
-    ensures { result ≡ bytes.is_itself byte }
+    ensures { result ≡ is_itself byte }
 {
     byte.is_ascii_graphic() && byte != b'%'
 }
 
 /// What a hexadecimal digit counts, of either case.
 fn hex(byte: u8) -> Option<u8>
-    ensures { result ≡ bytes.hex_of byte }
+    ensures { result ≡ hex_of byte }
 {
     match byte {
         b'0'..=b'9' => Some(byte - b'0'),
@@ -51,19 +53,35 @@ fn next_byte(text: &[u8]) -> Option<(u8, &[u8])>
     }
 }
 
+/// The bytes of the front that stand for themselves go last, and how many they are is told. Refused for want
+/// of memory alone.
+fn take_run(all: &mut Vec<u8>, text: &[u8]) -> Result<usize, AllocError>
+    ensures items { IfOk result (λ many. all.new.items ≡ all.old.items ++ take many text.now) }
+    ensures plain { IfOk result (λ many. list_all is_itself (take many text.now) ≡ true) }
+    ensures within { IfOk result (λ many. many ≤ length text.now) }
+{
+    let many = plain_len(text);
+    if many > 0 {
+        all.extend_from_slice(&text[..many])?;
+    }
+    Ok(many)
+}
+
 /// The bytes that are spelt one after another; nothing where some are not. Refused for want of memory
 /// alone.
 fn spelt(alloc: Global, text: &[u8]) -> Result<Option<Vec<u8>>, AllocError>
     ensures { IfOk result (λ found. option_map (λ all. all.items) found ≡ bytes_of text.now) }
 {
     let mut all = Vec::new(alloc);
-    let mut rest = text;
+    let many = take_run(&mut all, text)?;
+    let mut rest = &text[many..];
     while !rest.is_empty() {
         let Some((byte, after)) = next_byte(rest) else {
             return Ok(None);
         };
         all.push(byte)?;
-        rest = after;
+        let many = take_run(&mut all, after)?;
+        rest = &after[many..];
     }
     Ok(Some(all))
 }

@@ -1,9 +1,10 @@
 //! How bytes are spelt.
-ghost use Rattle.std.specs.Prelude.{◌≡◌, ◌<◌, OnOk};
+ghost use Rattle.std.specs.Prelude.{◌≡◌, ◌<◌, ◌≤◌, length, take, IfOk, OnOk};
 ghost use Rattle.std.specs.Io.KnownBytes.{Appends};
 ghost use Rattle.strm_text.specs.Spelling as spells;
 
 use crate::parts::is_itself;
+use crate::runs::plain_len;
 use std::io::{self, Write};
 
 /// The digit of a number below 16, of lower case.
@@ -24,12 +25,32 @@ fn write_byte<W: Write>(w: &mut W, byte: u8) -> io::Result<()>
     w.write_all(&[b'%', hex_digit(byte / 16), hex_digit(byte % 16)])
 }
 
-/// Writes bytes one after another.
+/// Writes the bytes of the front that stand for themselves, or the first byte where it does not, and gives
+/// how many that were.
+#[tactic(auto, using(crate::proofs::RunLemmas::plain_spelt))]
+fn write_front<W: Write>(w: &mut W, bytes: &[u8]) -> io::Result<usize>
+    requires { 0 < length bytes.now }
+    ensures text { IfOk result (λ many. Appends (W.contents w.old) (W.contents w.new) (spells.spelling (take many bytes.now))) }
+    ensures some { IfOk result (λ many. 0 < many) }
+    ensures within { IfOk result (λ many. many ≤ length bytes.now) }
+{
+    let many = plain_len(bytes);
+    if many == 0 {
+        write_byte(w, bytes[0])?;
+        return Ok(1);
+    }
+    w.write_all(&bytes[..many])?;
+    Ok(many)
+}
+
+/// Writes bytes one after another, and at once those that stand for themselves.
+#[tactic(auto, using(crate::proofs::RunLemmas::spelt_then))]
 fn write_bytes<W: Write>(w: &mut W, bytes: &[u8]) -> io::Result<()>
     ensures { OnOk result (Appends (W.contents w.old) (W.contents w.new) (spells.spelling bytes.now)) }
 {
-    for byte in bytes {
-        write_byte(w, *byte)?;
+    let mut many = 0;
+    while many < bytes.len() {
+        many += write_front(w, &bytes[many..])?;
     }
     Ok(())
 }

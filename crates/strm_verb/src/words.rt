@@ -90,71 +90,93 @@ pub fn flush_word(r: bool, w: bool) -> &'static [u8]
 pub(crate) fn priority_at(text: &[u8]) -> Result<Priority, ReadError>
     ensures { Gives words.priority_word result (fields.choice_at words.priority_words text.now) }
 {
-    match text {
-        b"norm" => Ok(Priority::Norm),
-        b"hipri" => Ok(Priority::Hipri),
-        _ => Err(ReadError::Fault(Cause::UnknownWord)),
+    if text == b"norm".as_slice() {
+        return Ok(Priority::Norm);
     }
+    if text == b"hipri".as_slice() {
+        return Ok(Priority::Hipri);
+    }
+    Err(ReadError::Fault(Cause::UnknownWord))
 }
 
 /// The flag of a putpmsg. Refused where no flag has this word.
 pub(crate) fn put_at(text: &[u8]) -> Result<PutFlag, ReadError>
     ensures { Gives words.put_word result (fields.choice_at words.put_words text.now) }
 {
-    match text {
-        b"zero" => Ok(PutFlag::Zero),
-        b"band" => Ok(PutFlag::Band),
-        b"hipri" => Ok(PutFlag::Hipri),
-        _ => Err(ReadError::Fault(Cause::UnknownWord)),
+    if text == b"zero".as_slice() {
+        return Ok(PutFlag::Zero);
     }
+    if text == b"band".as_slice() {
+        return Ok(PutFlag::Band);
+    }
+    if text == b"hipri".as_slice() {
+        return Ok(PutFlag::Hipri);
+    }
+    Err(ReadError::Fault(Cause::UnknownWord))
 }
 
 /// Which message a getmsg or a peek takes. Refused where the word says neither.
 pub(crate) fn wanted_at(text: &[u8]) -> Result<Wanted, ReadError>
     ensures { Gives words.wanted_word result (fields.choice_at words.wanted_words text.now) }
 {
-    match text {
-        b"any" => Ok(Wanted::Any),
-        b"hipri" => Ok(Wanted::Hipri),
-        _ => Err(ReadError::Fault(Cause::UnknownWord)),
+    if text == b"any".as_slice() {
+        return Ok(Wanted::Any);
     }
+    if text == b"hipri".as_slice() {
+        return Ok(Wanted::Hipri);
+    }
+    Err(ReadError::Fault(Cause::UnknownWord))
 }
 
 /// The flag of a getpmsg. Refused where no flag has this word.
 pub(crate) fn get_at(text: &[u8]) -> Result<GetFlag, ReadError>
     ensures { Gives words.get_word result (fields.choice_at words.get_words text.now) }
 {
-    match text {
-        b"zero" => Ok(GetFlag::Zero),
-        b"any" => Ok(GetFlag::Any),
-        b"band" => Ok(GetFlag::Band),
-        b"hipri" => Ok(GetFlag::Hipri),
-        _ => Err(ReadError::Fault(Cause::UnknownWord)),
+    if text == b"zero".as_slice() {
+        return Ok(GetFlag::Zero);
     }
+    if text == b"any".as_slice() {
+        return Ok(GetFlag::Any);
+    }
+    if text == b"band".as_slice() {
+        return Ok(GetFlag::Band);
+    }
+    if text == b"hipri".as_slice() {
+        return Ok(GetFlag::Hipri);
+    }
+    Err(ReadError::Fault(Cause::UnknownWord))
 }
 
 /// How reads treat the bounds of messages. Refused where no mode has this word.
 pub(crate) fn mode_at(text: &[u8]) -> Result<ReadMode, ReadError>
     ensures { Gives words.mode_word result (fields.choice_at words.mode_words text.now) }
 {
-    match text {
-        b"rnorm" => Ok(ReadMode::Rnorm),
-        b"rmsgn" => Ok(ReadMode::Rmsgn),
-        b"rmsgd" => Ok(ReadMode::Rmsgd),
-        _ => Err(ReadError::Fault(Cause::UnknownWord)),
+    if text == b"rnorm".as_slice() {
+        return Ok(ReadMode::Rnorm);
     }
+    if text == b"rmsgn".as_slice() {
+        return Ok(ReadMode::Rmsgn);
+    }
+    if text == b"rmsgd".as_slice() {
+        return Ok(ReadMode::Rmsgd);
+    }
+    Err(ReadError::Fault(Cause::UnknownWord))
 }
 
 /// How reads treat control. Refused where no such way has this word.
 pub(crate) fn prot_at(text: &[u8]) -> Result<Prot, ReadError>
     ensures { Gives words.prot_word result (fields.choice_at words.prot_words text.now) }
 {
-    match text {
-        b"norm" => Ok(Prot::Norm),
-        b"dat" => Ok(Prot::Dat),
-        b"dis" => Ok(Prot::Dis),
-        _ => Err(ReadError::Fault(Cause::UnknownWord)),
+    if text == b"norm".as_slice() {
+        return Ok(Prot::Norm);
     }
+    if text == b"dat".as_slice() {
+        return Ok(Prot::Dat);
+    }
+    if text == b"dis".as_slice() {
+        return Ok(Prot::Dis);
+    }
+    Err(ReadError::Fault(Cause::UnknownWord))
 }
 
 /// The sides that a flush is for, read and write. Refused where no sides have this word.
@@ -162,13 +184,19 @@ pub(crate) fn flush_at(text: &[u8]) -> Result<(bool, bool), ReadError>
     ensures choice { Gives (λ sides. words.flush_word sides.0 sides.1) result (fields.choice_at words.flush_words text.now) }
     ensures sides { Gives (λ sides. sides) result (arrivals.flush_at text.now) }
 {
-    match text {
-        b"rw" => Ok((true, true)),
-        b"r" => Ok((true, false)),
-        b"w" => Ok((false, true)),
-        b"none" => Ok((false, false)),
-        _ => Err(ReadError::Fault(Cause::UnknownWord)),
+    if text == b"rw".as_slice() {
+        return Ok((true, true));
     }
+    if text == b"r".as_slice() {
+        return Ok((true, false));
+    }
+    if text == b"w".as_slice() {
+        return Ok((false, true));
+    }
+    if text == b"none".as_slice() {
+        return Ok((false, false));
+    }
+    Err(ReadError::Fault(Cause::UnknownWord))
 }
 
 /// Each errno.

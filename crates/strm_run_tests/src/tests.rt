@@ -10,6 +10,7 @@ use strm_msg::{Bytes, Message};
 mod head;
 mod runs;
 mod shared;
+mod sizes;
 
 /// An echo whose lists are full at 16 bytes.
 const ECHO: Setup = Setup {

@@ -1,0 +1,9 @@
+use Rattle.std.proofs.Common.{refl}
+use Rattle.strm_call.specs.declared.request.Request.TheVariants as Requests
+use Rattle.strm_head.proofs.BeginLemmas.{taken_begins}
+use Rattle.strm_head.proofs.beginning.begin_getmsg.Goals as goal
+
+pub returns : goal.returns
+returns g c =
+    rw c.taken.ensures
+    (taken_begins g.M.Kind.Kinds.means c.args.chain.now.image c.args.end (Requests.Getmsg c.args.maxctl c.args.maxdat c.args.flag) c.getmsg.result c.getmsg.new.chain.image c.getmsg.ensures.reply c.getmsg.ensures.image c.getmsg.ensures.err refl refl c.requires.whole)

@@ -1,0 +1,12 @@
+use Rattle.std.proofs.Common.{refl}
+use Rattle.strm_call.specs.declared.request.Request.TheVariants as Requests
+use Rattle.strm_head.proofs.BeginLemmas.{bare_reply, sent_begins}
+use Rattle.strm_head.proofs.beginning.begin_write.Goals as goal
+
+pub returns : goal.returns
+returns g c =
+    rw c.sent.ensures
+    (sent_begins g.M.Kind.Kinds.means c.args.chain.now.image c.args.end (Requests.Write c.args.dat) c.write.result c.write.new.chain.image c.write.ensures.reply c.write.ensures.image c.write.ensures.refused refl refl refl c.requires.whole)
+
+pub sent-requires : goal.sent-requires
+sent-requires g c = bare_reply c.write.result _ c.write.ensures.reply refl

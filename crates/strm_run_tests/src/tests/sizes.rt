@@ -1,0 +1,26 @@
+//! What is moved from one function to the next is small: sizes in bytes.
+use std::mem::size_of;
+use strm_head::{Answer, Event, Name, Outcome, Reply, Request};
+use strm_history::{Called, Entry};
+use strm_module::{Boxed, BoxedShape, Kind, Plain};
+use strm_msg::Message;
+use strm_run::ScriptCall;
+
+#[test]
+fn what_a_call_moves_is_small(rt: HostRuntime) {
+    let sizes = [
+        ("a name", size_of::<Name>(), 9),
+        ("a message", size_of::<Message>(), 96),
+        ("a reply", size_of::<Reply>(), 104),
+        ("an answer", size_of::<Answer>(), 112),
+        ("a request", size_of::<Request<Boxed<Plain>>>(), 80),
+        ("an event", size_of::<Event<BoxedShape<Kind>>>(), 104),
+        ("an entry", size_of::<Entry<Kind>>(), 280),
+        ("an outcome", size_of::<Outcome<Plain>>(), 392),
+        ("what becomes of a call", size_of::<Called<Boxed<Plain>>>(), 256),
+        ("a call of a script", size_of::<ScriptCall<Boxed<Plain>>>(), 96),
+    ];
+    for (what, size, wanted) in sizes {
+        assert_eq!(&rt; size, wanted, "{what}");
+    }
+}

@@ -12,12 +12,12 @@ use Rattle.strm_verb.specs.declared.fault.ReadError.TheVariants as errors
 use Rattle.strm_verb.specs.declared.field.TheConstants.{MOST_BAND}
 
 -- where the first of two fails, both together do
-fails_first : {A B : Type 0} (error : ReadError) (read : Result A Cause) (next : A → Result B Cause) → Fails error read → Fails error (read >>= next)
+pub fails_first : {A B : Type 0} (error : ReadError) (read : Result A Cause) (next : A → Result B Cause) → Fails error read → Fails error (read >>= next)
 fails_first errors.Memory read next fails = tt
 fails_first (errors.Fault cause) read next fails = ap (λ (r : Result _ Cause). r >>= next) fails
 
 -- behind one that is read, the same
-fails_second : {A B C : Type 0} (error : ReadError) (first : Result A Cause) (x : A) (read : A → Result B Cause) (next : A → B → Result C Cause) → first ≡ Ok x → Fails error (read x) → Fails error (first >>= λ x. read x >>= next x)
+pub fails_second : {A B C : Type 0} (error : ReadError) (first : Result A Cause) (x : A) (read : A → Result B Cause) (next : A → B → Result C Cause) → first ≡ Ok x → Fails error (read x) → Fails error (first >>= λ x. read x >>= next x)
 fails_second error (Ok y) x read next is fails = let same : y ≡ x = cc in rw same (fails_first error (read x) (next x) fails)
 fails_second error (Err cause) x read next is fails = absurd cc
 

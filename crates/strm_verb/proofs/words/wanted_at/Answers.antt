@@ -1,0 +1,18 @@
+use Rattle.std.proofs.Common.{codes, refl}
+use Rattle.strm_verb.specs.Words.{wanted_words}
+use Rattle.strm_verb.proofs.ChoiceLemmas.{chosen, unlike}
+use Rattle.strm_verb.proofs.words.wanted_at.Goals as goal
+
+pub returns-then-eq : goal.returns-then-eq
+returns-then-eq c = chosen wanted_words c.args.text.now c.as_slice.result.now (codes "any") c.eq.result c.as_slice.ensures c.eq.ensures c.if-eq.true refl
+
+pub returns-then-eq-2 : goal.returns-then-eq-2
+returns-then-eq-2 c = chosen wanted_words c.args.text.now c.as_slice-2.result.now (codes "hipri") c.eq-2.result c.as_slice-2.ensures c.eq-2.ensures c.if-eq-2.true refl
+
+pub returns : goal.returns
+returns c =
+    rw (
+      unlike c.args.text.now c.as_slice.result.now (codes "any") c.eq.result c.as_slice.ensures c.eq.ensures c.if-eq.false,
+      unlike c.args.text.now c.as_slice-2.result.now (codes "hipri") c.eq-2.result c.as_slice-2.ensures c.eq-2.ensures c.if-eq-2.false,
+    )
+    refl

@@ -1,5 +1,5 @@
 //! A feeder that offers its feed.
-ghost use Rattle.std.specs.Prelude.{◌≡◌, ◌<◌, true, false, [], ◌∷◌, ◌++◌, length, slice_get, All, Some, IfSome};
+ghost use Rattle.std.specs.Prelude.{◌≡◌, ◌↔◌, ◌<◌, true, false, [], ◌∷◌, ◌++◌, length, slice_get, All, Some, IfSome};
 ghost use Rattle.strm_msg.specs.Kind.{is_from_line};
 ghost use Rattle.strm_queue.specs.Run.{one_more};
 ghost use Rattle.strm_crew.specs.Scripts.{feed_of};
@@ -75,7 +75,9 @@ impl<K, N: Plays<K>> Feeding<K, N> {
     }
 
     /// Whether there is no message to offer.
-    pub fn is_empty(&self) -> bool {
+    pub fn is_empty(&self) -> bool
+        ensures { result ≡ true ↔ feed_of N.run.feeds self.now ≡ [] }
+    {
         self.messages.is_empty()
     }
 

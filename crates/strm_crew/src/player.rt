@@ -1,5 +1,5 @@
 //! A caller that plays its script.
-ghost use Rattle.std.specs.Prelude.{◌≡◌, ◌+◌, ◌++◌, true, length, slice_get, OnOk, Some};
+ghost use Rattle.std.specs.Prelude.{◌≡◌, ◌+◌, ◌++◌, true, length, slice_get, IfOk, OnOk, Some};
 ghost use Rattle.strm_head.specs.declared.event.Event.TheVariants.{Asked};
 ghost use Rattle.strm_crew.specs.Scripts.{calls_on, script_of};
 ghost use Rattle.strm_history.specs.Log.{is_done};
@@ -125,7 +125,7 @@ impl<M: ModuleOf, N: Plays<M::Kind>> Player<M, N> {
         self.caller
     }
 
-    /// Plays the script to its end, or until memory is wanting.
+    /// Plays the script to its end, or until memory is wanting: each call once, in order, by the type of what is left.
     pub fn play<R: Wait, G: Gate>(
         self,
         rt: &R,
@@ -133,6 +133,7 @@ impl<M: ModuleOf, N: Plays<M::Kind>> Player<M, N> {
         gate: &G,
     ) -> Result<Played<M::Kind, N>, NoMem>
         requires { CallsDoFit M.row M.Kind.row M.Kind.Kinds }
+        ensures { IfOk result (λ played. played ≡ self) }
     {
         let Player {
             caller,

@@ -17,10 +17,18 @@ fn what_a_call_moves_is_small(rt: HostRuntime) {
         ("an event", size_of::<Event<BoxedShape<Kind>>>(), 104),
         ("an entry", size_of::<Entry<Kind>>(), 280),
         ("an outcome", size_of::<Outcome<Plain>>(), 392),
-        ("what becomes of a call", size_of::<Called<Boxed<Plain>>>(), 256),
-        ("a call of a script", size_of::<ScriptCall<Boxed<Plain>>>(), 96),
+        (
+            "what becomes of a call",
+            size_of::<Called<Boxed<Plain>>>(),
+            256,
+        ),
+        (
+            "a call of a script",
+            size_of::<ScriptCall<Boxed<Plain>>>(),
+            96,
+        ),
     ];
     for (what, size, wanted) in sizes {
-        assert_eq!(&rt; size, wanted, "{what}");
+        assert_eq!(rt; (what, size), (what, wanted));
     }
 }

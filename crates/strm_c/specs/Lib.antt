@@ -1,0 +1,6 @@
+pub mod Owned
+pub mod Numbers
+pub mod Asked
+pub mod Told
+pub mod Call
+pub mod Arrival

@@ -37,7 +37,7 @@ pub use told::Got;
 
 /// Opens a stream into a closed handle.
 #[unsafe(no_mangle)]
-pub extern "C" fn strm_open_marks(
+pub extern "C" fn strm_open(
     alloc: Global,
     s: &mut Handle,
     driver: u32,

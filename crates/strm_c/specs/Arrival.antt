@@ -1,5 +1,5 @@
 -- A message that is handed in from a line.
-use Rattle.std.specs.Prelude.{◌≡◌, ℕ, ◌-◌, nat_eq, nat_le, Option, Some, None, ◌⊎◌, List, if◌then◌else◌, option_map, ℤ, pos}
+use Rattle.std.specs.Prelude.{◌≡◌, ℕ, ◌-◌, nat_eq, nat_le, Option, Some, None, ◌⊎◌, if◌then◌else◌, option_map, ℤ, pos}
 use Rattle.strm_msg.specs.Message.{Msg, Part, bare, data_msg, proto_msg, pcproto_msg}
 use Rattle.strm_msg.specs.declared.kind.MsgKind.TheVariants.{MFlush, MHangup, MError}
 use Rattle.strm_msg.specs.declared.errno.Errno.{Errno}

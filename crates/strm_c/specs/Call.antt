@@ -1,6 +1,6 @@
 -- What an exported call does: a step of the stream, whose answer has the code that the call returns and is written where the
 -- caller has room for it.
-use Rattle.std.specs.Prelude.{◌≡◌, ℕ, Bool, true, false, ◌⊎◌, Option, Some, None, Result, Ok, Err, List, ℤ, pos}
+use Rattle.std.specs.Prelude.{◌≡◌, ℕ, Bool, true, false, ◌⊎◌, Option, Some, None, Ok, Err, List, ℤ, pos}
 use Rattle.strm_msg.specs.declared.words.End.{End}
 use Rattle.strm_module.specs.Eight.{eight}
 use Rattle.strm_module.specs.declared.kind.Kind.{Kind}
@@ -16,8 +16,9 @@ use Rattle.strm_head.specs.declared.event.Event.TheVariants.{Asked as Call}
 use Rattle.strm_head.specs.Begin.{out_of, takes_no_memory, wants_memory}
 use Rattle.strm_head.specs.Inside.{are_marks}
 use Rattle.strm_head.specs.Step.{Step}
-use Rattle.strm_c.specs.Numbers.{code_of, end_of, driver_of}
+use Rattle.strm_c.specs.Numbers.{code_of, end_of}
 use Rattle.strm_c.specs.Asked.{Asked, IsMade}
+use Rattle.strm_c.specs.Fits.{Fits}
 
 -- the stream took the step of a request, which this answers
 pub record IsStep (old : Image Kind) (e : End) (request : Request (Shape Kind)) (answer : Answer) (new : Image Kind) : Type 0 where
@@ -36,10 +37,11 @@ Answers old None asked answer new = IsRefusal old (Refused Closed) answer new
 Answers old (Some e) (Err refusal) answer new = IsRefusal old (Refused refusal) answer new
 Answers old (Some e) (Ok request) answer new = IsStep old e request answer new
 
--- an exported call: what was asked at an end, what is written of the answer, and the code
+-- an exported call: what was asked at an end, whose answer is no longer than was asked for, the code, and what is written
 pub record Calls (old : Image Kind) (end : ℕ) (asked : Asked) (writes : Answer → Type 0) (code : ℤ) (new : Image Kind) : Type 0 where
   pub answer : Answer
   pub answers : Answers old (end_of end) asked answer new
+  pub fits : Fits asked answer
   pub code_is : code ≡ pos (code_of answer)
   pub written : writes answer
 

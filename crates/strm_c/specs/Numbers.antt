@@ -1,5 +1,5 @@
 -- What errors, flags and lengths are as numbers of C (errno(3), stropts.h of System V Release 4).
-use Rattle.std.specs.Prelude.{ℕ, ◌+◌, nat_eq, min, Bool, true, false, Option, Some, None, List, length, if◌then◌else◌, ℤ, pos, negsuc}
+use Rattle.std.specs.Prelude.{ℕ, ◌+◌, nat_eq, min, Bool, true, false, Option, Some, None, length, if◌then◌else◌, ℤ, pos, negsuc}
 use Rattle.strm_msg.specs.Message.{Part}
 use Rattle.strm_msg.specs.declared.errno.Errno.{Errno}
 use Rattle.strm_msg.specs.declared.errno.Errno.TheVariants.{EBADF, ENOSR, EINVAL, ERANGE, ENXIO, EBADMSG, ENODATA, EAGAIN, ETIME, EIO, EPROTO}

@@ -1,5 +1,5 @@
 -- What an answer writes where its caller has room for it.
-use Rattle.std.specs.Prelude.{◌≡◌, ℕ, ◌+◌, Bool, true, false, Option, Some, None, List, [], ◌∷◌, ◌++◌, length, take, drop, slice_get, option_map, unwrap_or, ℤ, pos}
+use Rattle.std.specs.Prelude.{◌≡◌, ℕ, Some, None, List, [], ◌∷◌, ◌++◌, length, take, drop, slice_get, option_map, ℤ, pos}
 use Rattle.strm_msg.specs.Message.{Part}
 use Rattle.strm_call.specs.declared.answer.Acknowledged.TheVariants.{Ack}
 use Rattle.strm_call.specs.declared.answer.Received.{Received}
@@ -7,7 +7,7 @@ use Rattle.strm_call.specs.declared.answer.Received.TheVariants as Receiveds
 use Rattle.strm_call.specs.declared.answer.Reply.{Reply}
 use Rattle.strm_call.specs.declared.answer.Reply.TheVariants as Replies
 use Rattle.strm_call.specs.declared.answer.Answer.{Answer}
-use Rattle.strm_call.specs.declared.answer.Answer.TheVariants.{Done, Refused, Broke}
+use Rattle.strm_call.specs.declared.answer.Answer.TheVariants.{Done}
 use Rattle.strm_c.specs.declared.told.Got.{Got}
 use Rattle.strm_c.specs.Numbers.{priority_number, more_number, read_number, bit_number, int_of, length_of}
 

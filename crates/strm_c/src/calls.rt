@@ -1,7 +1,8 @@
 //! What an exported call does with what was asked.
 ghost use Rattle.std.specs.Prelude.{◌≡◌, true};
 ghost use Rattle.strm_c.specs.Numbers.{end_of};
-ghost use Rattle.strm_c.specs.Call.{Answers, Calls};
+ghost use Rattle.strm_c.specs.Call.{IsStep, Answers, Calls};
+ghost use Rattle.strm_c.specs.Fits.{Fits};
 ghost use Rattle.strm_c.specs.Told.{HasTaken, IsValue, AreValues, IsNamed, Nothing};
 
 use crate::asked::Asked;
@@ -9,25 +10,45 @@ use crate::handle::Handle;
 use crate::numbers::{code_of, end_of, int_of};
 use crate::told::{Got, bytes_of, tell, tell_name, value_of};
 use std::alloc::Global;
-use strm_call::{Answer, Refusal};
+use strm_call::{Answer, Refusal, Request};
+use strm_head::Outcome;
+use strm_module::{Boxed, Plain};
+use strm_msg::End;
+
+/// Makes a step of the stream of an open handle.
+fn step(alloc: Global, s: &mut Handle, end: End, request: Request<Boxed<Plain>>) -> Answer
+    requires { s.old.is_open ≡ true }
+    ensures open { s.new.is_open ≡ true }
+    ensures step { IsStep s.old.held.stream end request result s.new.held.stream }
+{
+    let mut held = s.take(alloc);
+    let Outcome {
+        answer,
+        twin,
+        back,
+        moves,
+        looks: _,
+    } = held.stream.apply(end, request);
+    s.put(held);
+    drop(twin);
+    drop(back);
+    drop(moves);
+    answer
+}
 
 /// Makes a call at an end of the stream of an open handle.
 fn ask(alloc: Global, s: &mut Handle, end: u8, asked: Asked) -> Answer
     requires { s.old.is_open ≡ true }
     ensures open { s.new.is_open ≡ true }
     ensures answers { Answers s.old.held.stream (end_of end) asked result s.new.held.stream }
+    ensures fits { Fits asked result }
 {
     let Some(end) = end_of(end) else {
         drop(asked);
         return Answer::Refused(Refusal::Closed);
     };
     match asked {
-        Ok(request) => {
-            let mut held = s.take(alloc);
-            let outcome = held.stream.apply(end, request);
-            s.put(held);
-            outcome.answer
-        }
+        Ok(request) => step(alloc, s, end, request),
         Err(refusal) => Answer::Refused(refusal),
     }
 }

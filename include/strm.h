@@ -25,6 +25,12 @@
 #include <stdint.h>
 #include <string.h>
 
+/* The errnos that a call returns, by the numbers that they have on Linux. */
+#if EBADF != 9 || ENOSR != 63 || EINVAL != 22 || ERANGE != 34 || ENXIO != 6 || EBADMSG != 74 || ENODATA != 61 || EAGAIN != 11 || \
+    ETIME != 62 || EIO != 5 || EPROTO != 71
+#error "this system's errnos have other numbers than the library's"
+#endif
+
 #ifdef __cplusplus
 extern "C" {
 #endif
@@ -403,10 +409,10 @@ static inline int strm_flushband(struct strm *s, uint8_t end, const struct bandi
 /* ---- Lines. ---- */
 
 /* Hands a message in from a line, at STRM_A: M_DATA with data, M_PROTO with control and perhaps data, M_PCPROTO likewise,
- * M_FLUSH with FLUSHR, FLUSHW and FLUSHBAND in `number`, M_HANGUP, or M_ERROR with the errno in `number`. An ordinary message
- * waits in the line's list, a high one goes up at once. Refused: EINVAL (no such message), EAGAIN (the line's list is full in
- * the band of an ordinary message; and, for good, the stream is no line, its end is closed, or it is broken), ENOSR. Nothing
- * else comes first. (Programmer's Guide: STREAMS, "Drivers") */
+ * M_FLUSH with FLUSHR, FLUSHW and FLUSHBAND in `number`, M_HANGUP, or M_ERROR with one of the errnos named above in `number`.
+ * An ordinary message waits in the line's list, a high one goes up at once. Refused, with none of the head of this file
+ * before: EINVAL (no such message), EAGAIN (the line's list is full in the band of an ordinary message; and, for good, the
+ * stream is no line, its end is closed, or it is broken), ENOSR. (Programmer's Guide: STREAMS, "Drivers") */
 static inline int strm_arrive(struct strm *s, int kind, unsigned char band, const struct strbuf *ctl, const struct strbuf *dat, int number)
 {
     return strm_arrive_parts(s, (uint32_t)kind, band, ctl && ctl->len >= 0, strm_len_of(ctl) ? ctl->buf : "", strm_len_of(ctl),

@@ -1,6 +1,6 @@
 -- What an exported call does: a step of the stream, whose answer has the code that the call returns and is written where the
 -- caller has room for it.
-use Rattle.std.specs.Prelude.{◌≡◌, ℕ, Bool, true, false, ◌⊎◌, Option, Some, None, Ok, Err, List, ℤ, pos}
+use Rattle.std.specs.Prelude.{◌≡◌, ℕ, Bool, true, false, ◌⊎◌, Option, Some, None, Result, Ok, Err, List, ℤ, pos}
 use Rattle.strm_msg.specs.declared.words.End.{End}
 use Rattle.strm_module.specs.Eight.{eight}
 use Rattle.strm_module.specs.declared.kind.Kind.{Kind}
@@ -9,6 +9,7 @@ use Rattle.strm_ends.specs.Image.{Image, fresh}
 use Rattle.strm_ends.specs.declared.place.Place.{Place}
 use Rattle.strm_qpair.specs.declared.driver.Driver.{Driver}
 use Rattle.strm_call.specs.declared.request.Request.{Request}
+use Rattle.strm_call.specs.declared.refusal.Refusal.{Refusal}
 use Rattle.strm_call.specs.declared.refusal.Refusal.TheVariants.{Closed}
 use Rattle.strm_call.specs.declared.answer.Answer.{Answer}
 use Rattle.strm_call.specs.declared.answer.Answer.TheVariants.{Refused}
@@ -20,30 +21,40 @@ use Rattle.strm_c.specs.Numbers.{code_of, end_of}
 use Rattle.strm_c.specs.Asked.{Asked, IsMade}
 use Rattle.strm_c.specs.Fits.{Fits}
 
--- the stream took the step of a request, which this answers
+-- the stream took the step of a request, which this answers, with no part that is longer than was asked for
 pub record IsStep (old : Image Kind) (e : End) (request : Request (Shape Kind)) (answer : Answer) (new : Image Kind) : Type 0 where
   pub moves : List Place
   pub step : Step eight old e (Call request) answer moves (out_of eight old e request answer) new
   pub memory : takes_no_memory request ≡ true → wants_memory answer ≡ false
+  pub fits : Fits request answer
 
--- a refusal that leaves the stream as it was
-abbrev pub IsRefusal : Image Kind → Answer → Answer → Image Kind → Type 0
-IsRefusal old refusal answer new = (answer ≡ refusal) × (new ≡ old)
+-- what is to be done: a request at an end, or the refusal of a number that is no end, which counts as a closed one, or of arguments
+-- that make no request
+abbrev pub admitted : Option End → Asked → Result (End × Request (Shape Kind)) Refusal
+admitted None asked = Err Closed
+admitted (Some e) (Err refusal) = Err refusal
+admitted (Some e) (Ok request) = Ok (e, request)
 
--- what answers a call: a number that is no end counts as a closed one, arguments that make no request are refused, and a request is
--- a step
-abbrev pub Answers : Image Kind → Option End → Asked → Answer → Image Kind → Type 0
-Answers old None asked answer new = IsRefusal old (Refused Closed) answer new
-Answers old (Some e) (Err refusal) answer new = IsRefusal old (Refused refusal) answer new
-Answers old (Some e) (Ok request) answer new = IsStep old e request answer new
-
--- an exported call: what was asked at an end, whose answer is no longer than was asked for, the code, and what is written
-pub record Calls (old : Image Kind) (end : ℕ) (asked : Asked) (writes : Answer → Type 0) (code : ℤ) (new : Image Kind) : Type 0 where
+-- a request was made: its answer, the code, and what is written
+pub record IsMadeOf (old : Image Kind) (e : End) (request : Request (Shape Kind)) (writes : Answer → Type 0) (code : ℤ) (new : Image Kind) : Type 0 where
   pub answer : Answer
-  pub answers : Answers old (end_of end) asked answer new
-  pub fits : Fits asked answer
+  pub step : IsStep old e request answer new
   pub code_is : code ≡ pos (code_of answer)
   pub written : writes answer
+
+-- none was made: the stream is as it was
+pub record IsRefusedWith (old : Image Kind) (refusal : Refusal) (writes : Answer → Type 0) (code : ℤ) (new : Image Kind) : Type 0 where
+  pub code_is : code ≡ pos (code_of (Refused refusal))
+  pub unchanged : new ≡ old
+  pub written : writes (Refused refusal)
+
+abbrev pub Does : Image Kind → Result (End × Request (Shape Kind)) Refusal → (Answer → Type 0) → ℤ → Image Kind → Type 0
+Does old (Ok call) writes code new = IsMadeOf old call.0 call.1 writes code new
+Does old (Err refusal) writes code new = IsRefusedWith old refusal writes code new
+
+-- an exported call: of what was asked at an end, what is written of the answer, and the code
+abbrev pub Calls : Image Kind → ℕ → Asked → (Answer → Type 0) → ℤ → Image Kind → Type 0
+Calls old end asked writes code new = Does old (admitted (end_of end) asked) writes code new
 
 -- an exported call whose arguments are copied first, for which memory may be wanting
 pub record CopiesAndCalls (old : Image Kind) (end : ℕ) (asked : Asked) (writes : Answer → Type 0) (code : ℤ) (new : Image Kind) : Type 0 where

@@ -2,10 +2,10 @@
 ghost use Rattle.std.specs.Prelude.{◌≡◌, pos, negsuc};
 ghost use Rattle.strm_call.specs.declared.answer.Reply.TheVariants as Replies;
 ghost use Rattle.strm_c.specs.Numbers as numbers;
-ghost use Rattle.strm_c.specs.Told.{filled, filled_if, ctl_of, dat_of, got_of, received_flags, received_band, value_of, bytes_of, name_field, name_of, count_of};
+ghost use Rattle.strm_c.specs.Told.{filled, filled_if, ctl_of, dat_of, got_of, received_flags, received_band, value_of, bytes_of, name_field, name_of, count_of, HasTaken, IsValue, AreValues, IsNamed};
 
 use crate::numbers::{int_of, more_number, priority_number, read_number};
-use strm_call::{Acknowledged, Name, Received, Reply};
+use strm_call::{Acknowledged, Answer, Name, Received, Reply};
 use strm_msg::Bytes;
 
 /// What is told of a message or of an ioctl beside its bytes.
@@ -29,7 +29,7 @@ pub struct Got {
 }
 
 /// Puts bytes at the front of a buffer, as many as it has room for.
-pub(crate) fn fill(buffer: &mut [u8], bytes: &[u8])
+fn fill(buffer: &mut [u8], bytes: &[u8])
     ensures { buffer.new ≡ filled bytes.now buffer.old }
 {
     let n = buffer.len().min(bytes.len());
@@ -101,7 +101,7 @@ fn tell_ack(answer: &Acknowledged, dat: &mut [u8]) -> Got
 }
 
 /// Puts the parts of a reply into buffers, and tells the rest.
-pub(crate) fn tell(reply: &Reply, ctl: &mut [u8], dat: &mut [u8]) -> Got
+fn tell(reply: &Reply, ctl: &mut [u8], dat: &mut [u8]) -> Got
     ensures control { ctl.new ≡ filled_if (ctl_of reply.now) ctl.old }
     ensures bytes { dat.new ≡ filled_if (dat_of reply.now) dat.old }
     ensures told { result ≡ got_of reply.now }
@@ -150,6 +150,15 @@ pub(crate) fn tell(reply: &Reply, ctl: &mut [u8], dat: &mut [u8]) -> Got
     }
 }
 
+/// Puts the parts of an answer into buffers and tells the rest, if it is a reply.
+pub(crate) fn tell_parts(answer: &Answer, ctl: &mut [u8], dat: &mut [u8], got: &mut Got)
+    ensures { HasTaken ctl.old dat.old got.old ctl.new dat.new got.new answer.now }
+{
+    if let Answer::Done(reply) = answer {
+        *got = tell(reply, ctl, dat);
+    }
+}
+
 /// A truth as a number.
 fn bit(truth: bool) -> u64
     ensures { result ≡ numbers.bit_number truth }
@@ -158,7 +167,7 @@ fn bit(truth: bool) -> u64
 }
 
 /// The number of a reply, 0 where it has none.
-pub(crate) fn value_of(reply: &Reply) -> u64
+fn value_of(reply: &Reply) -> u64
     ensures { result ≡ value_of reply.now }
 {
     match reply {
@@ -174,12 +183,31 @@ pub(crate) fn value_of(reply: &Reply) -> u64
 }
 
 /// How much data the first message has, of a reply that tells it.
-pub(crate) fn bytes_of(reply: &Reply) -> u64
+fn bytes_of(reply: &Reply) -> u64
     ensures { result ≡ bytes_of reply.now }
 {
     match reply {
         Reply::Nread { bytes, .. } => *bytes,
         _ => 0,
+    }
+}
+
+/// Tells the number of an answer, if it is a reply.
+pub(crate) fn tell_value(answer: &Answer, value: &mut i32)
+    ensures { IsValue value.old value.new answer.now }
+{
+    if let Answer::Done(reply) = answer {
+        *value = int_of(value_of(reply));
+    }
+}
+
+/// Tells both numbers of an answer, if it is a reply.
+pub(crate) fn tell_values(answer: &Answer, value: &mut i32, bytes: &mut i32)
+    ensures { AreValues value.old bytes.old value.new bytes.new answer.now }
+{
+    if let Answer::Done(reply) = answer {
+        *value = int_of(value_of(reply));
+        *bytes = int_of(bytes_of(reply));
     }
 }
 
@@ -193,7 +221,7 @@ fn fill_name(buffer: &mut [u8], name: &Name)
 }
 
 /// Puts one of the names of a reply into a buffer, if it has so many, and tells how many it has.
-pub(crate) fn tell_name(reply: &Reply, i: u64, buffer: &mut [u8]) -> u64
+fn tell_name(reply: &Reply, i: u64, buffer: &mut [u8]) -> u64
     ensures bytes { buffer.new ≡ filled_if (name_of i reply.now) buffer.old }
     ensures count { result ≡ count_of reply.now }
 {
@@ -211,5 +239,14 @@ pub(crate) fn tell_name(reply: &Reply, i: u64, buffer: &mut [u8]) -> u64
             names.len() as u64
         }
         _ => 0,
+    }
+}
+
+/// Puts one of the names of an answer into a buffer, and tells how many it has, if it is a reply.
+pub(crate) fn tell_names(answer: &Answer, i: u64, name: &mut [u8], count: &mut i32)
+    ensures { IsNamed i name.old count.old name.new count.new answer.now }
+{
+    if let Answer::Done(reply) = answer {
+        *count = int_of(tell_name(reply, i, name));
     }
 }

@@ -1,0 +1,63 @@
+/* Messages come in from a line faster than they are read: what the head has no room for waits in the line's list, which holds the line
+ * up when it is full itself. What is of high priority passes. */
+#include <stdio.h>
+
+#include "said.h"
+#include "strm.h"
+
+static int arrive(struct strm *s, int kind, const char *text)
+{
+    char bytes[64];
+    struct strbuf part = { 0, (int)strlen(text), bytes };
+    memcpy(bytes, text, strlen(text));
+    return strm_arrive(s, kind, 0, kind == M_PCPROTO ? &part : NULL, kind == M_DATA ? &part : NULL, 0);
+}
+
+static void tell(struct strm *s)
+{
+    int messages = 0, bytes = 0;
+    printf("nread %s", said(strm_nread(s, STRM_A, &bytes, &messages)));
+    printf(" %d messages, %d bytes in the first\n", messages, bytes);
+}
+
+static void read_some(struct strm *s, size_t most)
+{
+    char bytes[64];
+    size_t len = 0;
+    printf("read %s", said(strm_read(s, STRM_A, bytes, most, &len)));
+    printf(" %.*s\n", (int)len, bytes);
+}
+
+int main(void)
+{
+    struct strm s = STRM_CLOSED;
+    char room[8];
+    struct strbuf ctl = { 8, 0, room };
+    int flags = RS_HIPRI, more = 0;
+    size_t written = 0;
+
+    printf("open %s\n", said(strm_open(&s, STRM_LINE, 16, 4, 8, 2)));
+    printf("arrive %s\n", said(arrive(&s, M_DATA, "12345678")));
+    printf("arrive %s\n", said(arrive(&s, M_DATA, "abcdefgh")));
+    printf("arrive %s\n", said(arrive(&s, M_DATA, "ijklmnop")));
+    tell(&s);
+    printf("arrive %s\n", said(arrive(&s, M_DATA, "q")));
+    printf("arrive %s\n", said(arrive(&s, M_PCPROTO, "!")));
+    tell(&s);
+    printf("getmsg %s", said(strm_getmsg(&s, STRM_A, &ctl, NULL, &flags, &more)));
+    printf(" control %.*s flags %d\n", ctl.len, room, flags);
+    read_some(&s, 12);
+    tell(&s);
+    printf("arrive %s\n", said(arrive(&s, M_DATA, "q")));
+    read_some(&s, 64);
+    printf("no message %s\n", said(strm_arrive(&s, 0x05, 0, NULL, NULL, 0)));
+    printf("hangup %s\n", said(strm_arrive(&s, M_HANGUP, 0, NULL, NULL, 0)));
+    read_some(&s, 64);
+    printf("write %s\n", said(strm_write(&s, STRM_A, "r", 1, &written)));
+    printf("error %s\n", said(strm_arrive(&s, M_ERROR, 0, NULL, NULL, EIO)));
+    printf("write %s\n", said(strm_write(&s, STRM_A, "r", 1, &written)));
+    printf("close %s\n", said(strm_close(&s, STRM_A)));
+    printf("arrive %s\n", said(arrive(&s, M_DATA, "s")));
+    strm_free(&s);
+    return 0;
+}

@@ -1,0 +1,81 @@
+/* One stream that four threads use, each call under a mutex: three writers send numbers, and the reader takes them. */
+#include <pthread.h>
+#include <sched.h>
+#include <stdio.h>
+
+#include "said.h"
+#include "strm.h"
+
+#define WRITERS 3
+#define EACH 1000
+
+static struct strm stream = STRM_CLOSED;
+static pthread_mutex_t lock = PTHREAD_MUTEX_INITIALIZER;
+static int numbers[WRITERS] = { 0, 1, 2 };
+
+/* A message of four bytes: the writer in the first, and in the others what it has sent before. */
+static int put(int writer, int sent)
+{
+    unsigned char bytes[4] = { (unsigned char)writer, (unsigned char)(sent >> 16), (unsigned char)(sent >> 8), (unsigned char)sent };
+    size_t written = 0;
+    pthread_mutex_lock(&lock);
+    int code = strm_write(&stream, STRM_A, bytes, 4, &written);
+    pthread_mutex_unlock(&lock);
+    return code;
+}
+
+static void *write_all(void *arg)
+{
+    int writer = *(int *)arg;
+    for (int sent = 0; sent < EACH;) {
+        int code = put(writer, sent);
+        if (code == 0)
+            sent++;
+        else if (code == EAGAIN)
+            sched_yield();
+        else
+            return arg;
+    }
+    return NULL;
+}
+
+/* Takes what all have sent, and tells how many came out of their writer's order. */
+static void *read_all(void *arg)
+{
+    int next[WRITERS] = { 0, 0, 0 };
+    int *disordered = (int *)arg;
+    for (int taken = 0; taken < WRITERS * EACH;) {
+        unsigned char bytes[4];
+        size_t len = 0;
+        pthread_mutex_lock(&lock);
+        int code = strm_read(&stream, STRM_A, bytes, 4, &len);
+        pthread_mutex_unlock(&lock);
+        if (code == EAGAIN) {
+            sched_yield();
+            continue;
+        }
+        if (code != 0 || len != 4 || bytes[0] >= WRITERS)
+            return arg;
+        *disordered += next[bytes[0]]++ != (bytes[1] << 16 | bytes[2] << 8 | bytes[3]);
+        taken++;
+    }
+    return NULL;
+}
+
+int main(void)
+{
+    pthread_t threads[WRITERS + 1];
+    int disordered = 0, failed = 0;
+    printf("open %s\n", said(strm_open(&stream, STRM_ECHO, 64, 16, 64, 16)));
+    pthread_create(&threads[WRITERS], NULL, read_all, &disordered);
+    for (int i = 0; i < WRITERS; i++)
+        pthread_create(&threads[i], NULL, write_all, &numbers[i]);
+    for (int i = 0; i <= WRITERS; i++) {
+        void *result = NULL;
+        pthread_join(threads[i], &result);
+        failed += result != NULL;
+    }
+    printf("%d messages, %d out of order, %d threads failed\n", WRITERS * EACH, disordered, failed);
+    strm_free(&stream);
+    return 0;
+}

@@ -1,0 +1,632 @@
+/* Plays a script of one stream and one process (docs/FORMATS.md) through the C calls, and prints its transcript as strsh does.
+ *
+ *     play FILE       prints the transcript
+ *     play -n FILE    prints nothing: plays it with each allocation refused in turn, and holds what is told to the transcript of a play in
+ *                     which none is refused. It is linked with malloc, realloc and free wrapped.
+ *
+ * A call that is refused with ENOSR is made again, once. Then it answers as it would have; or it is refused again, with ENOSR, or with EBADF
+ * where it was a close. So the stream is broken: each later call but close is refused with ENOSR. At the end as many blocks are freed as were
+ * given. */
+#include <stdio.h>
+#include <stdlib.h>
+
+#include "../../examples/c/said.h"
+#include "strm.h"
+
+enum { MOST = 1 << 17, FIELDS = 16 };
+
+static long countdown = -1, blocks, refused;
+
+void *__real_malloc(size_t size);
+void *__real_realloc(void *old, size_t size);
+void __real_free(void *old);
+
+static int is_refused(void)
+{
+    if (countdown < 0 || countdown-- > 0)
+        return 0;
+    refused++;
+    return 1;
+}
+
+void *__wrap_malloc(size_t size)
+{
+    void *made = is_refused() ? NULL : __real_malloc(size);
+    blocks += made != NULL;
+    return made;
+}
+
+void *__wrap_realloc(void *old, size_t size)
+{
+    void *made = is_refused() ? NULL : __real_realloc(old, size);
+    blocks += made != NULL && old == NULL;
+    return made;
+}
+
+void __wrap_free(void *old)
+{
+    blocks -= old != NULL;
+    __real_free(old);
+}
+
+/* What is told, as text. */
+struct text {
+    char bytes[MOST];
+    size_t len;
+};
+
+static struct text told, wanted, line;
+static struct strm stream = STRM_CLOSED;
+static char stream_name[32], driver_name[16];
+
+/* The fields of the line that is played, and the end that it names. */
+static char *fields[FIELDS];
+static int fields_n;
+static uint8_t end;
+
+static void add(struct text *to, const char *text)
+{
+    size_t n = strlen(text);
+    if (to->len + n < MOST) {
+        memcpy(to->bytes + to->len, text, n + 1);
+        to->len += n;
+    }
+}
+
+static void add_number(struct text *to, unsigned long number)
+{
+    char text[32];
+    snprintf(text, sizeof text, "%lu", number);
+    add(to, text);
+}
+
+static void add_part(struct text *to, const char *bytes, int len)
+{
+    if (len < 0) {
+        add(to, "-");
+        return;
+    }
+    add(to, "=");
+    for (int i = 0; i < len; i++) {
+        char text[4] = { bytes[i], 0, 0, 0 };
+        if (bytes[i] < '!' || bytes[i] > '~' || bytes[i] == '%')
+            snprintf(text, sizeof text, "%%%02x", (unsigned char)bytes[i]);
+        add(to, text);
+    }
+}
+
+/* A part of the script, in room of its own. */
+static struct strbuf part(const char *field, char *room)
+{
+    struct strbuf part = { 0, -1, room };
+    unsigned times, byte;
+    if (sscanf(field, "*%u:%2x", &times, &byte) == 2) {
+        memset(room, (int)byte, times);
+        part.len = (int)times;
+    } else if (*field == '=') {
+        part.len = 0;
+        for (field++; *field; field++) {
+            byte = (unsigned char)*field;
+            if (*field == '%' && sscanf(field + 1, "%2x", &byte) == 1)
+                field += 2;
+            room[part.len++] = (char)byte;
+        }
+    }
+    return part;
+}
+
+static int is(const char *field, const char *word)
+{
+    return strcmp(field, word) == 0;
+}
+
+static unsigned number(const char *field)
+{
+    return (unsigned)strtoul(field, NULL, 10);
+}
+
+static int sides(const char *field)
+{
+    return is(field, "r") ? FLUSHR : is(field, "w") ? FLUSHW : is(field, "rw") ? FLUSHRW : 0;
+}
+
+static int band_flag(const char *field)
+{
+    return is(field, "any") ? MSG_ANY : is(field, "band") ? MSG_BAND : is(field, "hipri") ? MSG_HIPRI : 0;
+}
+
+static char ctl_room[MOST], dat_room[MOST];
+
+static void add_more(int more)
+{
+    static const char *const words[] = { " 0", " ctl", " data", " both" };
+    add(&line, words[more]);
+}
+
+/* Each verb does its call, and adds its reply to the line where it is done. */
+
+static int do_putmsg(void)
+{
+    struct strbuf ctl = part(fields[2], ctl_room), dat = part(fields[3], dat_room);
+    int e = strm_putmsg(&stream, end, &ctl, &dat, is(fields[4], "hipri") ? RS_HIPRI : 0);
+    if (!e)
+        add(&line, "0");
+    return e;
+}
+
+static int do_putpmsg(void)
+{
+    struct strbuf ctl = part(fields[2], ctl_room), dat = part(fields[3], dat_room);
+    int e = strm_putpmsg(&stream, end, &ctl, &dat, (int)number(fields[4]), band_flag(fields[5]));
+    if (!e)
+        add(&line, "0");
+    return e;
+}
+
+static void room_for(struct strbuf *ctl, struct strbuf *dat)
+{
+    *ctl = (struct strbuf){ atoi(fields[2]), -2, ctl_room };
+    *dat = (struct strbuf){ atoi(fields[3]), -2, dat_room };
+}
+
+static void add_parts(const struct strbuf *ctl, const struct strbuf *dat)
+{
+    add_part(&line, ctl->buf, ctl->len);
+    add(&line, " ");
+    add_part(&line, dat->buf, dat->len);
+}
+
+static int do_getmsg(void)
+{
+    struct strbuf ctl, dat;
+    int flags = is(fields[4], "hipri") ? RS_HIPRI : 0, more = 0;
+    room_for(&ctl, &dat);
+    int e = strm_getmsg(&stream, end, &ctl, &dat, &flags, &more);
+    if (e)
+        return e;
+    add_parts(&ctl, &dat);
+    add(&line, flags == RS_HIPRI ? " hipri" : " norm");
+    add_more(more);
+    return 0;
+}
+
+static int do_getpmsg(void)
+{
+    struct strbuf ctl, dat;
+    int band = (int)number(fields[4]), flags = band_flag(fields[5]), more = 0;
+    room_for(&ctl, &dat);
+    int e = strm_getpmsg(&stream, end, &ctl, &dat, &band, &flags, &more);
+    if (e)
+        return e;
+    add_parts(&ctl, &dat);
+    if (flags == MSG_HIPRI) {
+        add(&line, " hipri");
+    } else {
+        add(&line, " band ");
+        add_number(&line, (unsigned long)band);
+    }
+    add_more(more);
+    return 0;
+}
+
+static int do_peek(void)
+{
+    struct strpeek peek = { { 0, 0, NULL }, { 0, 0, NULL }, is(fields[4], "hipri") ? RS_HIPRI : 0 };
+    int found = 0;
+    room_for(&peek.ctlbuf, &peek.databuf);
+    int e = strm_peek(&stream, end, &peek, &found);
+    if (e)
+        return e;
+    if (!found) {
+        add(&line, "none");
+        return 0;
+    }
+    add_parts(&peek.ctlbuf, &peek.databuf);
+    add(&line, peek.flags == RS_HIPRI ? " hipri" : " norm");
+    return 0;
+}
+
+static int do_read(void)
+{
+    size_t len = 0;
+    int e = strm_read(&stream, end, dat_room, number(fields[2]), &len);
+    if (!e)
+        add_part(&line, dat_room, (int)len);
+    return e;
+}
+
+static int do_write(void)
+{
+    struct strbuf dat = part(fields[2], dat_room);
+    size_t written = 0;
+    int e = strm_write(&stream, end, dat.buf, (size_t)dat.len, &written);
+    if (!e)
+        add_number(&line, written);
+    return e;
+}
+
+/* The marks of a side, of which 0 and 0 are none. */
+static void marks(const char *field, uint32_t *hi, uint32_t *lo)
+{
+    unsigned high = 0, low = 0;
+    sscanf(field, "%u/%u", &high, &low);
+    *hi = high;
+    *lo = low;
+}
+
+static int do_push(void)
+{
+    static const char *const kinds[] = { "pass", "table", "crnl", "line", "count", "band", "tee", "mute" };
+    static unsigned char table[256];
+    struct strm_module module = { fields[3], STRM_PASS, 0, 0, 0, 0, 0, table };
+    for (int i = 0; i < 8; i++) {
+        if (is(fields[2], kinds[i]))
+            module.kind = (enum strm_kind)i;
+    }
+    marks(fields[4], &module.rd_hi, &module.rd_lo);
+    marks(fields[5], &module.wr_hi, &module.wr_lo);
+    if (module.kind == STRM_BAND)
+        module.band = (unsigned char)number(fields[6]);
+    for (int i = 0; i < 256; i++)
+        table[i] = (unsigned char)i;
+    if (module.kind == STRM_TABLE) {
+        struct strbuf from = part(fields[6], ctl_room), to = part(fields[7], dat_room);
+        for (int i = 0; i < from.len; i++)
+            table[(unsigned char)from.buf[i]] = (unsigned char)to.buf[i];
+    }
+    int e = strm_push(&stream, end, &module);
+    if (!e)
+        add(&line, "0");
+    return e;
+}
+
+static int do_pop(void)
+{
+    char name[FMNAMESZ + 1];
+    int looked = strm_look(&stream, end, name);
+    int e = strm_pop(&stream, end);
+    if (!e && !looked) {
+        add(&line, "popped ");
+        add(&line, name);
+    }
+    return e;
+}
+
+static int do_look(void)
+{
+    char name[FMNAMESZ + 1];
+    int e = strm_look(&stream, end, name);
+    if (!e)
+        add(&line, name);
+    return e;
+}
+
+/* Adds the names of the modules, and of the driver too. */
+static int add_names(struct text *to, int with_driver)
+{
+    struct str_mlist names[9];
+    struct str_list list = { 9, names };
+    int e = strm_list(&stream, end, &list, NULL);
+    for (int i = 0; !e && i < list.sl_nmods - !with_driver; i++) {
+        add(to, with_driver && i == 0 ? "" : " ");
+        add(to, names[i].l_name);
+    }
+    return e;
+}
+
+static int do_list(void)
+{
+    return add_names(&line, 1);
+}
+
+static int do_find(void)
+{
+    struct strbuf name = part(fields[2], dat_room);
+    int found = 0;
+    name.buf[name.len] = 0;
+    int e = strm_find(&stream, end, name.buf, &found);
+    if (!e)
+        add_number(&line, (unsigned long)found);
+    return e;
+}
+
+static int do_str(void)
+{
+    struct strbuf dat = part(fields[3], dat_room);
+    struct strioctl call = { (int)number(fields[2]), 0, dat.len, dat.buf };
+    uint64_t rval = 0;
+    int e = strm_str(&stream, end, &call, &rval);
+    if (!e) {
+        add_number(&line, (unsigned long)rval);
+        add(&line, " ");
+        add_part(&line, call.ic_dp, call.ic_len);
+    }
+    return e;
+}
+
+static int do_flush(void)
+{
+    int e = strm_flush(&stream, end, (uint32_t)sides(fields[2]));
+    if (!e)
+        add(&line, "0");
+    return e;
+}
+
+static int do_flushband(void)
+{
+    struct bandinfo info = { (unsigned char)number(fields[2]), sides(fields[3]) };
+    int e = strm_flushband(&stream, end, &info);
+    if (!e)
+        add(&line, "0");
+    return e;
+}
+
+static int do_nread(void)
+{
+    int bytes = 0, messages = 0;
+    int e = strm_nread(&stream, end, &bytes, &messages);
+    if (!e) {
+        add_number(&line, (unsigned long)messages);
+        add(&line, " ");
+        add_number(&line, (unsigned long)bytes);
+    }
+    return e;
+}
+
+static int do_setread(void)
+{
+    uint32_t mode = is(fields[2], "rnorm") ? RNORM : is(fields[2], "rmsgn") ? RMSGN : RMSGD;
+    uint32_t prot = is(fields[3], "norm") ? RPROTNORM : is(fields[3], "dat") ? RPROTDAT : RPROTDIS;
+    int e = strm_setread(&stream, end, mode | prot);
+    if (!e)
+        add(&line, "0");
+    return e;
+}
+
+static int do_getread(void)
+{
+    int mode = 0;
+    int e = strm_getread(&stream, end, &mode);
+    if (!e) {
+        add(&line, (mode & 3) == RNORM ? "rnorm" : (mode & 3) == RMSGN ? "rmsgn" : "rmsgd");
+        add(&line, mode & RPROTNORM ? " norm" : mode & RPROTDAT ? " dat" : " dis");
+    }
+    return e;
+}
+
+static int add_value(int e, int value)
+{
+    if (!e)
+        add_number(&line, (unsigned long)value);
+    return e;
+}
+
+static int do_canput(void)
+{
+    int can = 0;
+    int e = strm_canput(&stream, end, (uint8_t)number(fields[2]), &can);
+    return add_value(e, can);
+}
+
+static int do_ckband(void)
+{
+    int waits = 0;
+    int e = strm_ckband(&stream, end, (uint8_t)number(fields[2]), &waits);
+    return add_value(e, waits);
+}
+
+static int do_getband(void)
+{
+    int band = 0;
+    int e = strm_getband(&stream, end, &band);
+    return add_value(e, band);
+}
+
+static int do_close(void)
+{
+    struct text names = { "", 0 };
+    add_names(&names, 0);
+    int e = strm_close(&stream, end);
+    if (!e) {
+        add(&line, "closed");
+        add(&line, names.bytes);
+    }
+    return e;
+}
+
+static const struct verb {
+    const char *name;
+    int (*call)(void);
+} verbs[] = {
+    { "putmsg", do_putmsg },   { "putpmsg", do_putpmsg }, { "getmsg", do_getmsg }, { "getpmsg", do_getpmsg },     { "peek", do_peek },
+    { "read", do_read },       { "write", do_write },     { "push", do_push },     { "pop", do_pop },             { "look", do_look },
+    { "list", do_list },       { "find", do_find },       { "str", do_str },       { "flush", do_flush },         { "flushband", do_flushband },
+    { "nread", do_nread },     { "setread", do_setread }, { "getread", do_getread }, { "canput", do_canput },     { "ckband", do_ckband },
+    { "getband", do_getband }, { "close", do_close },
+};
+
+/* Makes the call of the line once: its code, with its reply at the end of `line`. */
+static int make_call(void)
+{
+    const char *target = strchr(fields[1], ':');
+    end = target && target[1] == 'b' ? STRM_B : STRM_A;
+    for (size_t i = 0; i < sizeof verbs / sizeof *verbs; i++) {
+        if (is(fields[0], verbs[i].name))
+            return verbs[i].call();
+    }
+    fprintf(stderr, "no call %s\n", fields[0]);
+    exit(2);
+}
+
+static char script[MOST * 8];
+static char process_name[32];
+
+/* Reads the fields of a line, which ends at the zero that is put behind it; where the next line begins. */
+static char *split(char *from)
+{
+    char *next = strchr(from, '\n');
+    if (next)
+        *next++ = 0;
+    else
+        next = from + strlen(from);
+    fields_n = 0;
+    for (char *field = strtok(from, " \t\r"); field && fields_n < FIELDS; field = strtok(NULL, " \t\r"))
+        fields[fields_n++] = field;
+    return next;
+}
+
+/* Opens the stream that a line declares: 0, or an errno. */
+static int declare(void)
+{
+    unsigned hi, lo, drv_hi, drv_lo;
+    snprintf(stream_name, sizeof stream_name, "%s", fields[1]);
+    snprintf(driver_name, sizeof driver_name, "%s", fields[2]);
+    if (sscanf(fields[3], "%u/%u", &hi, &lo) != 2 || sscanf(fields[4], "%u/%u", &drv_hi, &drv_lo) != 2)
+        return EINVAL;
+    uint32_t driver = is(driver_name, "echo") ? STRM_ECHO : is(driver_name, "loop") ? STRM_LOOP : STRM_LINE;
+    int e = strm_open(&stream, driver, hi, lo, drv_hi, drv_lo);
+    if (e == ENOSR)
+        e = strm_open(&stream, driver, hi, lo, drv_hi, drv_lo);
+    return e;
+}
+
+/* Begins the line of a call: what stands before its reply. */
+static void begin_line(void)
+{
+    line.len = 0;
+    add(&line, process_name);
+    for (int i = 0; i < fields_n; i++) {
+        add(&line, " ");
+        add(&line, fields[i]);
+    }
+    add(&line, " : ");
+}
+
+/* Plays a call, and tells whether the stream is broken. */
+static int play_call(int broken)
+{
+    begin_line();
+    int e = make_call();
+    if (e == ENOSR && !broken) {
+        begin_line();
+        e = make_call();
+        broken = e == ENOSR || (e == EBADF && is(fields[0], "close"));
+    }
+    if (e)
+        add(&line, said(e));
+    add(&line, "\n");
+    add(&told, line.bytes);
+    return broken;
+}
+
+static void tell_end(uint8_t which, const char *name)
+{
+    struct text names = { "", 0 };
+    end = which;
+    int is_closed = add_names(&names, 0) == EBADF;
+    add(&told, is_closed ? "closed " : "open ");
+    add(&told, name);
+    add(&told, names.bytes);
+    add(&told, "\n");
+}
+
+/* Plays a script into `told`: 0, or 1 where the stream broke. */
+static int play(const char *text)
+{
+    int broken = 0;
+    told.len = 0;
+    snprintf(script, sizeof script, "%s", text);
+    for (char *from = script; *from;) {
+        from = split(from);
+        if (fields_n == 0 || *fields[0] == '#')
+            continue;
+        if (is(fields[0], "stream")) {
+            int e = declare();
+            if (e) {
+                fprintf(stderr, "not opened: %s\n", said(e));
+                exit(2);
+            }
+            add(&told, "stream ");
+            add(&told, stream_name);
+            add(&told, "\n");
+        } else if (is(fields[0], "process")) {
+            snprintf(process_name, sizeof process_name, "%s", fields[1]);
+        } else {
+            broken = play_call(broken);
+        }
+    }
+    if (!broken) {
+        tell_end(STRM_A, "a");
+        if (is(driver_name, "loop"))
+            tell_end(STRM_B, "b");
+        if (is(driver_name, "line"))
+            add(&told, "feed accepted 0 arrived 0 overrun 0\n");
+    }
+    strm_free(&stream);
+    return broken;
+}
+
+/* Whether a line of so many bytes has a text in it. */
+static int has(const char *from, size_t len, const char *text)
+{
+    size_t n = strlen(text);
+    for (size_t i = 0; i + n <= len; i++) {
+        if (memcmp(from + i, text, n) == 0)
+            return 1;
+    }
+    return 0;
+}
+
+/* Whether what was told is what was wanted, up to a call from which on each is refused with ENOSR, and only ends are closed. */
+static int is_broken_off(void)
+{
+    const char *found = told.bytes, *as = wanted.bytes;
+    int same = 1;
+    while (*found) {
+        size_t n = strcspn(found, "\n"), m = strcspn(as, "\n");
+        same = same && n == m && memcmp(found, as, n) == 0;
+        if (!same && !has(found, n, " : ENOSR") && !has(found, n, " : closed") && !has(found, n, " : EBADF"))
+            return 0;
+        found += n + (found[n] == '\n');
+        as += m + (as[m] == '\n');
+    }
+    return 1;
+}
+
+/* Plays a script with each allocation refused in turn, until none is met. */
+static int refuse(const char *text)
+{
+    play(text);
+    wanted = told;
+    for (long n = 0;; n++) {
+        countdown = n;
+        refused = 0;
+        int broken = play(text);
+        countdown = -1;
+        int is_right = broken ? is_broken_off() : strcmp(told.bytes, wanted.bytes) == 0;
+        if (!is_right || blocks != 0) {
+            printf("allocation %ld, %ld blocks left:\n%s", n, blocks, told.bytes);
+            return 1;
+        }
+        if (!refused)
+            return 0;
+    }
+}
+
+static char text[MOST * 8];
+
+int main(int argc, char **argv)
+{
+    int only_refuses = argc == 3 && strcmp(argv[1], "-n") == 0;
+    FILE *file = argc > 1 ? fopen(argv[argc - 1], "r") : NULL;
+    if (!file)
+        return 2;
+    text[fread(text, 1, sizeof text - 1, file)] = 0;
+    fclose(file);
+    blocks = 0;
+    if (only_refuses)
+        return refuse(text);
+    play(text);
+    fputs(told.bytes, stdout);
+    return 0;
+}

@@ -34,7 +34,7 @@ impl Model for Name {
     ghost invariant = { λ name. name.len ≤ LONGEST_NAME };
 }
 
-/// Printed as the list of its bytes.
+/// Printed as a byte string is written, as `b"ldterm"`.
 impl fmt::Debug for Name {
     fn fmt<W: fmt::Write>(&self, f: &mut fmt::Formatter<W>) -> fmt::Result {
         write!(f, "b\"{}\"", self.as_slice().escape_ascii())

@@ -11,7 +11,7 @@ use strm_msg::NoMem;
 /// Serials of as many modules as an end may have.
 pub(crate) type AllSerials = ArrayVec<u64, MOST_MODULES>;
 
-/// The serials of modules, topmost first, of which contracts see the list. It is a word where there are none.
+/// The serials of modules, topmost first, of which contracts see the list: two words, and a box where there are any.
 #[derive(Drop)]
 pub struct Serials {
     boxed: Option<Box<AllSerials>>,

@@ -6,8 +6,8 @@ use Rattle.strm_history.proofs.log.Log.enter.Goals as goal
 pub in_room-out-requires : goal.in_room-out-requires
 in_room-out-requires g c =
     λ none.
-      let taken = rw c.into_parts-answer.ensures.answer at c.taken_out.ensures in
-      no_serials g.M.Kind.Kinds.means c.self.inside.stream c.args.call.end c.args.call.request c.call.result.answer c.taken_out.result.items c.call.new.back.items (sym c.in-Ok.ensures ∙ none) taken c.call.ensures.back
+    let taken = rw c.into_parts-answer.ensures.answer at c.taken_out.ensures in
+    no_serials g.M.Kind.Kinds.means c.self.inside.stream c.args.call.end c.args.call.request c.call.result.answer c.taken_out.result.items c.call.new.back.items (sym c.in-Ok.ensures ∙ none) taken c.call.ensures.back
 
 pub invariant_of-self-2 : goal.invariant_of-self-2
 invariant_of-self-2 g c =

@@ -215,6 +215,19 @@ static inline int strm_putpmsg(struct strm *s, uint8_t end, const struct strbuf 
                               (uint32_t)flags);
 }
 
+static inline int strm_take(int e, const struct strm_got *got, struct strbuf *ctl, struct strbuf *dat, int *flags, int *more)
+{
+    if (e)
+        return e;
+    if (ctl)
+        ctl->len = got->ctl_len;
+    if (dat)
+        dat->len = got->dat_len;
+    *flags = got->flags;
+    *more = got->more;
+    return 0;
+}
+
 /* Takes the first message, or as much of it as there is room for; the rest stays. With *flags RS_HIPRI only a message of
  * high priority is taken, with 0 whatever is first. *flags becomes RS_HIPRI or 0, and *more says what stays: MORECTL,
  * MOREDATA, both or 0. At a hung up end without messages both lengths become 0. Refused: EAGAIN (no message and no hangup,
@@ -226,15 +239,7 @@ static inline int strm_getmsg(struct strm *s, uint8_t end, struct strbuf *ctl, s
     int e = strm_getmsg_parts(s, end, ctl && ctl->maxlen >= 0, strm_room_of(ctl) ? ctl->buf : none, strm_room_of(ctl),
                               dat && dat->maxlen >= 0, strm_room_of(dat) ? dat->buf : none + 1, strm_room_of(dat), (uint32_t)*flags,
                               &got);
-    if (e)
-        return e;
-    if (ctl)
-        ctl->len = got.ctl_len;
-    if (dat)
-        dat->len = got.dat_len;
-    *flags = got.flags;
-    *more = got.more;
-    return 0;
+    return strm_take(e, &got, ctl, dat, flags, more);
 }
 
 /* The same of some band: with *flags MSG_ANY whatever is first, with MSG_BAND a message of at least *band or one of high
@@ -247,16 +252,9 @@ static inline int strm_getpmsg(struct strm *s, uint8_t end, struct strbuf *ctl, 
     int e = strm_getpmsg_parts(s, end, ctl && ctl->maxlen >= 0, strm_room_of(ctl) ? ctl->buf : none, strm_room_of(ctl),
                                dat && dat->maxlen >= 0, strm_room_of(dat) ? dat->buf : none + 1, strm_room_of(dat), (uint32_t)*band,
                                (uint32_t)*flags, &got);
-    if (e)
-        return e;
-    if (ctl)
-        ctl->len = got.ctl_len;
-    if (dat)
-        dat->len = got.dat_len;
-    *flags = got.flags;
-    *band = got.band;
-    *more = got.more;
-    return 0;
+    if (!e)
+        *band = got.band;
+    return strm_take(e, &got, ctl, dat, flags, more);
 }
 
 /* Reads at most `room` bytes, and of more than 65535 so many; *len becomes how many were read. Which bytes of which

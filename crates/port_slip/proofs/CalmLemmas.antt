@@ -1,14 +1,16 @@
--- What SLIP makes of a message that flushes nothing flushes nothing.
-use Rattle.std.proofs.Common.{◌≡◌, ℕ, true, List, [], ◌∷◌, ◌++◌, unwrap_or, refl}
-use Rattle.strm_msg.specs.Message.{Msg}
+-- What SLIP makes of a message that flushes nothing flushes nothing, and it makes no options.
+use Rattle.std.proofs.Common.{◌≡◌, ◌≤◌, ◌+◌, ℕ, Bool, true, List, [], ◌∷◌, ◌++◌, option_map, unwrap_or, refl, ap, arith}
+use Rattle.std.proofs.lemmas.List.Sums.{sum_by-cons}
+use Rattle.strm_msg.specs.Message.{Msg, data_msg}
 use Rattle.strm_msg.specs.declared.kind.MsgKind.{MsgKind}
 use Rattle.strm_msg.specs.declared.kind.MsgKind.TheVariants.{MData}
 use Rattle.strm_msg.specs.declared.words.Side.{Side}
 use Rattle.strm_msg.specs.declared.words.Side.TheVariants.{Rd, Wr}
-use Rattle.strm_module.specs.Calm.{is_calm, are_calm, IsCalm}
-use Rattle.strm_module.proofs.CalmLemmas.{one_calm, eight_calm}
-use Rattle.port_slip.specs.Frame.{received}
+use Rattle.strm_module.specs.Calm.{is_calm, are_calm, options_by, options_of, options_sent, IsCalm}
+use Rattle.strm_module.proofs.CalmLemmas.{one_calm, same_keeps, other_keeps, eight_calm}
+use Rattle.port_slip.specs.Frame.{framed, received}
 use Rattle.port_slip.specs.Slip.{datagrams_up, slip_action, slip}
+use Rattle.port_slip.specs.declared.kinds.SlipKind.{SlipKind}
 use Rattle.port_slip.specs.declared.kinds.SlipKind.TheVariants.{Eight, Slip}
 
 -- datagrams go up as data
@@ -23,6 +25,28 @@ acts_calm bytes Wr MData m h = one_calm (is_calm m.kind) h
 acts_calm bytes Rd kind m h = one_calm (is_calm m.kind) h
 acts_calm bytes Wr kind m h = one_calm (is_calm m.kind) h
 
+-- and set no options
+datagrams_sent : (b : Bool) (band : ℕ) (datagrams : List (List ℕ)) → options_sent b (datagrams_up band datagrams) ≡ 0
+datagrams_sent b band [] = refl
+datagrams_sent b band (datagram ∷ datagrams) =
+    let e = sum_by-cons (λ (out : Side × Msg). options_of b out.1) (Rd, data_msg band datagram) (datagrams_up band datagrams) in
+    let rest = datagrams_sent b band datagrams in
+    omega (arith, e, rest)
+
+acts_keep : (b : Bool) (bytes : List ℕ) (side : Side) (kind : MsgKind) (m : Msg) → m.kind ≡ kind → options_sent b (slip_action bytes side kind m).outs ≤ options_of b m
+acts_keep b bytes Rd MData m at =
+    let none = datagrams_sent b m.band (received 2 (bytes ++ unwrap_or m.dat [])).datagrams in omega (arith, none)
+acts_keep b bytes Wr MData m at = other_keeps b Wr m (record m { dat = option_map framed m.dat }) (ap (λ k. options_by b k (option_map framed m.dat)) at)
+acts_keep b bytes Rd kind m at = same_keeps b Rd m
+acts_keep b bytes Wr kind m at = same_keeps b Wr m
+
+slip_keeps : (b : Bool) (kind : SlipKind) (side : Side) (m : Msg) → options_sent b (slip kind side m).outs ≤ options_of b m
+slip_keeps b (Eight kind) side m = eight_calm.options b kind side m
+slip_keeps b (Slip bytes) side m = acts_keep b bytes side m.kind m refl
+
+still_calm : (kind : SlipKind) (side : Side) (m : Msg) → is_calm m.kind ≡ true → are_calm (slip kind side m).outs ≡ true
+still_calm (Eight kind) side m h = eight_calm.calm kind side m h
+still_calm (Slip bytes) side m h = acts_calm bytes side m.kind m h
+
 pub slip_calm : IsCalm slip
-slip_calm (Eight kind) side m h = eight_calm kind side m h
-slip_calm (Slip bytes) side m h = acts_calm bytes side m.kind m h
+slip_calm = record { calm = still_calm; options = slip_keeps }

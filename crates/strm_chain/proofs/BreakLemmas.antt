@@ -24,7 +24,6 @@ end_back : {K : Type 0} (old new : EndState K) → SameEnd old new → SameEnd n
 end_back old new s =
     record {
       is_open = sym s.is_open;
-      head_marks = sym s.head_marks;
       drv_marks = sym s.drv_marks;
       modules = sym s.modules;
       ids = ids_back old.state new.state s.ids;

@@ -1,5 +1,5 @@
 -- What follows from an answer, whichever it is.
-use Rattle.std.proofs.Common.{Result, Ok, Err, OnOk, OnErr, Option, Some, None, IfSome, IfNone}
+use Rattle.std.proofs.Common.{Result, Ok, Err, OnOk, OnErr, IfOk, Option, Some, None, IfSome, IfNone}
 
 pub on_result : {T E : Type 0} (r : Result T E) (P Q C : Type 0) → OnOk r P → OnErr r Q → (P → C) → (Q → C) → C
 on_result (Ok t) P Q C p q f g = f p
@@ -12,3 +12,15 @@ on_option None P Q C p q f g = g q
 pub on_ok : {T E : Type 0} (r : Result T E) (P C : Type 0) → OnOk r P → (P → C) → OnOk r C
 on_ok (Ok t) P C p f = f p
 on_ok (Err e) P C p f = p
+
+pub if_ok : {T E : Type 0} (r : Result T E) (P : Type 0) (Q C : T → Type 0) → OnOk r P → IfOk r Q → ((t : T) → P → Q t → C t) → IfOk r C
+if_ok (Ok t) P Q C p q f = f t p q
+if_ok (Err e) P Q C p q f = p
+
+pub if_some : {T : Type 0} (o : Option T) (P C : T → Type 0) → IfSome o P → ((t : T) → P t → C t) → IfSome o C
+if_some (Some t) P C p f = f t p
+if_some None P C p f = p
+
+pub if_none : {T : Type 0} (o : Option T) (P C : Type 0) → IfNone o P → (P → C) → IfNone o C
+if_none (Some t) P C p f = p
+if_none None P C p f = f p

@@ -16,9 +16,9 @@ use Rattle.strm_ends.specs.declared.place.NextQueue.TheVariants.{Of, Head}
 use Rattle.strm_ends.specs.Image.{Image, end_of, with_state}
 use Rattle.strm_ends.specs.Path.{front_of}
 use Rattle.strm_ends.specs.Flow.{may, is_due}
-use Rattle.strm_ends.specs.Held.{held_by, DiffersIn, AreOrdinary}
+use Rattle.strm_ends.specs.Held.{held_by, SameHeadMarks, DiffersIn, SetsMarks, AreOrdinary}
 use Rattle.strm_ends.specs.Next.{next_of, modules_at, SameWays}
-use Rattle.strm_ends.proofs.NextLemmas.{next_same, front_same, ways_of_same, next_once}
+use Rattle.strm_ends.proofs.NextLemmas.{next_same, marks_but, marks_same, front_same, ways_of_same, next_once}
 use Rattle.strm_ends.specs.Count.{is_place, places_of, place_count}
 use Rattle.strm_ends.proofs.PlaceLemmas.{IsIn, place_in, place_same}
 use Rattle.strm_ends.proofs.DueLemmas.{due_frame, due_fuller, due_holds, may_unless_next}
@@ -89,8 +89,8 @@ quiet_if_none image enabled r none p =
     ] refl
 
 -- nothing changed that flow control sees
-pub ready_same : {K : Type 0} (x y : Image K) (enabled : Enabled) → SameWays x y → ((q : NextQueue) → held_by y q ≡ held_by x q) → IsReady x enabled → IsReady y enabled
-ready_same x y enabled s held r =
+pub ready_same : {K : Type 0} (x y : Image K) (enabled : Enabled) → SameWays x y → SameHeadMarks x y → ((q : NextQueue) → held_by y q ≡ held_by x q) → IsReady x enabled → IsReady y enabled
+ready_same x y enabled s marks held r =
     record {
       stands = λ p some out.
           let w = r.stands p (sym (ap is_some (front_same x y p s (held (Of p)))) ∙ some) out in
@@ -98,7 +98,7 @@ ready_same x y enabled s held r =
             queue = w.queue;
             next = next_same x y p s ∙ w.next;
             wants = w.wants;
-            rests = due_frame x y p s (held (Of p)) (λ q _. held q) ∙ w.rests;
+            rests = due_frame x y p s (held (Of p)) (λ q _. (marks_same x y q s marks, held q)) ∙ w.rests;
           };
     }
 
@@ -123,7 +123,27 @@ ready_but x y queue old new d wanted before other r =
             queue = w.queue;
             next = next_same x y p s ∙ w.next;
             wants = ap (λ l. slice_get l (number_of w.queue)) wanted ∙ w.wants;
-            rests = λ apart. due_frame x y p s own (λ q e. d.others q (λ same. apart (let e1 : w.queue ≡ q = some_same (sym w.next ∙ e) in e1 ∙ same))) ∙ w.rests;
+            rests = λ apart. due_frame x y p s own (λ q e. (marks_same x y q s d.head_marks, d.others q (λ same. apart (let e1 : w.queue ≡ q = some_same (sym w.next ∙ e) in e1 ∙ same)))) ∙ w.rests;
+          };
+    }
+
+-- the marks of a head changed: what waits for another queue waits as before
+pub ready_marks : {K : Type 0} (x y : Image K) (e : End) (enabled : Enabled) → SetsMarks x y e → IsReady x enabled → IsReadyBut y (Head e) enabled
+ready_marks x y e enabled d r =
+    let s = ways_of_same x y d.same in
+    record {
+      stands = λ p some out.
+          let own = d.held (Of p) in
+          let w = r.stands p (sym (ap is_some (front_same x y p s own)) ∙ some) out in
+          record {
+            queue = w.queue;
+            next = next_same x y p s ∙ w.next;
+            wants = w.wants;
+            rests = λ apart.
+                due_frame x y p s own
+                (λ q k. let same : w.queue ≡ q = some_same (sym w.next ∙ k) in
+                (marks_but x y q s (λ f at. d.others f (λ here. apart (same ∙ at ∙ ap (λ z. Head z) here))), d.held q))
+                ∙ w.rests;
           };
     }
 
@@ -145,7 +165,7 @@ ready_more x y queue old new d longer wanted before other r =
             rests = ⊎_elim
                 (λ (e : number_of b.queue ≡ number_of queue).
                 let is : w.queue ≡ queue = sym same ∙ number_once b.queue queue e in
-                due_fuller x y p queue s own (w.next ∙ ap Some is) (d.shift.fuller longer) w.rests)
+                due_fuller x y p queue s own (w.next ∙ ap Some is) (marks_same x y queue s d.head_marks) (d.shift.fuller longer) w.rests)
                 (λ (ne : number_of b.queue ≡ number_of queue → ⊥). b.rests (λ e. ne (ap number_of e)))
                 (cases_eq (number_of b.queue) (number_of queue));
           };
@@ -277,7 +297,6 @@ state_ways image A r =
     record {
       driver = refl;
       is_open = λ e. elim e as (λ e. (end_of (with_state image A r) e).is_open ≡ (end_of image e).is_open) [ A ↦ refl | B ↦ refl ];
-      head_marks = λ e. elim e as (λ e. (end_of (with_state image A r) e).head_marks ≡ (end_of image e).head_marks) [ A ↦ refl | B ↦ refl ];
       drv_marks = λ e. elim e as (λ e. (end_of (with_state image A r) e).drv_marks ≡ (end_of image e).drv_marks) [ A ↦ refl | B ↦ refl ];
       modules = λ e. elim e as (λ e. modules_at (with_state image A r) e ≡ modules_at image e) [ A ↦ refl | B ↦ refl ];
     }
@@ -285,10 +304,15 @@ state_ways image B r =
     record {
       driver = refl;
       is_open = λ e. elim e as (λ e. (end_of (with_state image B r) e).is_open ≡ (end_of image e).is_open) [ A ↦ refl | B ↦ refl ];
-      head_marks = λ e. elim e as (λ e. (end_of (with_state image B r) e).head_marks ≡ (end_of image e).head_marks) [ A ↦ refl | B ↦ refl ];
       drv_marks = λ e. elim e as (λ e. (end_of (with_state image B r) e).drv_marks ≡ (end_of image e).drv_marks) [ A ↦ refl | B ↦ refl ];
       modules = λ e. elim e as (λ e. modules_at (with_state image B r) e ≡ modules_at image e) [ A ↦ refl | B ↦ refl ];
     }
+
+state_marks : {K : Type 0} (image : Image K) (e : End) (r : Record) → SameHeadMarks image (with_state image e r)
+state_marks image A r A = refl
+state_marks image A r B = refl
+state_marks image B r A = refl
+state_marks image B r B = refl
 
 state_held : {K : Type 0} (image : Image K) (e : End) (r : Record) (q : NextQueue) → held_by (with_state image e r) q ≡ held_by image q
 state_held image A r (Of (Place.Wr A i)) = refl
@@ -310,7 +334,7 @@ state_held image B r (Head B) = refl
 
 -- flow control does not see what a head remembers
 pub ready_state : {K : Type 0} (x y : Image K) (e : End) (r : Record) (enabled : Enabled) → y ≡ with_state x e r → IsReady x enabled → IsReady y enabled
-ready_state x y e r enabled is ready = rw is (ready_same x (with_state x e r) enabled (state_ways x e r) (state_held x e r) ready)
+ready_state x y e r enabled is ready = rw is (ready_same x (with_state x e r) enabled (state_ways x e r) (state_marks x e r) (state_held x e r) ready)
 
 abbrev broken_off : {K : Type 0} → Image K → Image K
 broken_off image = record image { broken = true }
@@ -320,10 +344,13 @@ broken_ways image =
     record {
       driver = refl;
       is_open = λ e. elim e as (λ e. (end_of (broken_off image) e).is_open ≡ (end_of image e).is_open) [ A ↦ refl | B ↦ refl ];
-      head_marks = λ e. elim e as (λ e. (end_of (broken_off image) e).head_marks ≡ (end_of image e).head_marks) [ A ↦ refl | B ↦ refl ];
       drv_marks = λ e. elim e as (λ e. (end_of (broken_off image) e).drv_marks ≡ (end_of image e).drv_marks) [ A ↦ refl | B ↦ refl ];
       modules = λ e. elim e as (λ e. modules_at (broken_off image) e ≡ modules_at image e) [ A ↦ refl | B ↦ refl ];
     }
+
+broken_marks : {K : Type 0} (image : Image K) → SameHeadMarks image (broken_off image)
+broken_marks image A = refl
+broken_marks image B = refl
 
 broken_held : {K : Type 0} (image : Image K) (q : NextQueue) → held_by (broken_off image) q ≡ held_by image q
 broken_held image (Of (Place.Wr A i)) = refl
@@ -337,12 +364,12 @@ broken_held image (Head B) = refl
 
 -- nor that the chain is broken
 pub ready_broken : {K : Type 0} (x y : Image K) (enabled : Enabled) → y ≡ record x { broken = true } → IsReady x enabled → IsReady y enabled
-ready_broken x y enabled is ready = rw is (ready_same x (broken_off x) enabled (broken_ways x) (broken_held x) ready)
+ready_broken x y enabled is ready = rw is (ready_same x (broken_off x) enabled (broken_ways x) (broken_marks x) (broken_held x) ready)
 
 -- a queue that has as many messages as before is as before
 pub ready_still_all : {K : Type 0} (x y : Image K) (queue : NextQueue) (enabled : Enabled) → DiffersIn x y queue → length (held_by y queue) ≡ length (held_by x queue) → IsReady x enabled → IsReady y enabled
 ready_still_all x y queue enabled d same ready =
-    ready_same x y enabled (ways_of_same x y d.same)
+    ready_same x y enabled (ways_of_same x y d.same) d.head_marks
     (λ q. ⊎_elim
     (λ (e : number_of q ≡ number_of queue). let is = number_once q queue e in rw is (d.shift.still same))
     (λ (ne : number_of q ≡ number_of queue → ⊥). d.others q (λ e. ne (ap number_of e)))

@@ -2,7 +2,10 @@
 use Rattle.std.proofs.Common.{◌≡◌, ℕ, ◌-◌, ◌<◌, Bool, true, false, Option, Some, None, List, [], ◌∷◌, ◌++◌, map, length, fold, refl, sym, ◌∙◌, ap, arith, suc, zero}
 use Rattle.std.proofs.lemmas.List.{length-map}
 use Rattle.std.proofs.lemmas.List.Sums.{fold-append}
-use Rattle.strm_msg.specs.Message.{Msg}
+use Rattle.strm_msg.specs.Message.{Msg, bare, ack_msg}
+use Rattle.strm_msg.specs.declared.kind.MsgKind.TheVariants.{MSetopts}
+use Rattle.strm_msg.specs.declared.words.ReadMode.{ReadMode}
+use Rattle.strm_msg.specs.declared.words.Prot.{Prot}
 use Rattle.strm_msg.specs.declared.words.End.{End}
 use Rattle.strm_msg.specs.declared.words.End.TheVariants.{A, B}
 use Rattle.strm_msg.specs.declared.words.Side.{Side}
@@ -11,7 +14,7 @@ use Rattle.strm_module.specs.Kinds.{OutList, Meaning}
 use Rattle.strm_qpair.specs.Pair.{QueuePair}
 use Rattle.strm_qpair.specs.Modules.{identity_of, identities_of}
 use Rattle.strm_qpair.specs.Head.{head_does}
-use Rattle.strm_qpair.specs.declared.driver.DriverSends.TheVariants.{Nothing, Reply, Across}
+use Rattle.strm_qpair.specs.declared.driver.DriverSends.TheVariants.{Nothing, Reply, Across, Options}
 use Rattle.strm_chain.specs.declared.chain.hop.Hop.{Hop}
 use Rattle.strm_ends.specs.declared.place.Place.TheVariants as Place
 use Rattle.strm_ends.specs.Image.{Image, end_of, with_end, with_drv, count_of, partner}
@@ -79,6 +82,16 @@ module _ {K : Type 0} (means : Meaning K) where
   unfolding down_through
   driver_across hs e p n old new m r hp k s h =
       rw (k, hp, h) (ap (driver_sends (up means hs) old e (with_end old e (driver_does old.driver e (end_of old e) m).state)) s)
+
+  pub driver_options : (hs : Bool) (e : End) (n : ℕ) (old new : Image K) (m : Msg) (mode : Option ReadMode) (prot : Option Prot) (marks : Option (ℕ × ℕ)) (id : ℕ) → n ≡ count_of old e → Options mode prot marks id ≡ (driver_does old.driver e (end_of old e) m).sends → new ≡ with_end old e (driver_does old.driver e (end_of old e) m).state → up means hs e n (up means hs e n new (bare (MSetopts mode prot marks))) (ack_msg id 0 None) ≡ down means hs e 0 old m
+  unfolding down_through
+  driver_options hs e n old new m mode prot marks id k s h =
+      rw (k, h) (ap (driver_sends (up means hs) old e (with_end old e (driver_does old.driver e (end_of old e) m).state)) s)
+
+  -- two messages on their way up, one after the other
+  pub carries_two : (image : Image K) (hs : Bool) (e : End) (n : ℕ) (x y : Msg) → carry means (carry means image (up_hop hs e n x)) (up_hop hs e n y) ≡ up means hs e n (up means hs e n image x) y
+  unfolding carry
+  carries_two image hs e n x y = refl
 
   -- what a module sends, carried
   outs_up : (hs : Bool) (e : End) (i below : ℕ) (image : Image K) (outs : OutList) → carry_all means image (map (hop_of hs Rd e i below) outs) ≡ fold (λ j out. up means hs e (i - 1) j out.1) image outs

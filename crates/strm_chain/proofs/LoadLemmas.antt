@@ -38,7 +38,7 @@ one_falls h x rest less =
     omega (arith, sum_by-cons size h rest, sum_by-cons size x rest, third (rank x) (rank h) less, positive (rank x))
 
 -- two that go less far in its place
-two_fall : (h x y : Hop) (rest : List Hop) → rank x < rank h → rank y < rank h → load (x ∷ (y ∷ rest)) < load (h ∷ rest)
+pub two_fall : (h x y : Hop) (rest : List Hop) → rank x < rank h → rank y < rank h → load (x ∷ (y ∷ rest)) < load (h ∷ rest)
 unfolding load
 two_fall h x y rest lx ly =
     omega (arith, sum_by-cons size h rest, sum_by-cons size x (y ∷ rest), sum_by-cons size y rest, third (rank x) (rank h) lx, third (rank y) (rank h) ly, positive (rank x), positive (rank y))

@@ -23,7 +23,6 @@ pub end_trans : {K : Type 0} (old mid new : EndState K) → SameEnd old mid → 
 end_trans old mid new x y =
     record {
       is_open = y.is_open ∙ x.is_open;
-      head_marks = y.head_marks ∙ x.head_marks;
       drv_marks = y.drv_marks ∙ x.drv_marks;
       modules = y.modules ∙ x.modules;
       ids = ids_trans old.state mid.state new.state x.ids y.ids;
@@ -31,7 +30,7 @@ end_trans old mid new x y =
 
 pub same_end : {K : Type 0} (e : EndState K) → SameEnd e e
 same_end e =
-    record { is_open = refl; head_marks = refl; drv_marks = refl; modules = refl; ids = record { next = refl; pending = refl; kept = λ _. refl } }
+    record { is_open = refl; drv_marks = refl; modules = refl; ids = record { next = refl; pending = refl; kept = λ _. refl } }
 
 pub same_trans : {K : Type 0} (old mid new : Image K) → SameModules old mid → SameModules mid new → SameModules old new
 same_trans old mid new x y =

@@ -1,9 +1,11 @@
 -- Delivery, moves and settling keep which modules stand where.
-use Rattle.std.proofs.Common.{◌≡◌, ◌∙◌, ◌+◌, ◌-◌, ◌&&◌, ℕ, Bool, true, false, cond, Option, Some, None, List, [], ◌∷◌, fold, refl, sym, ap, subst, is_none, suc, zero}
+use Rattle.std.proofs.Common.{◌≡◌, ◌∙◌, ◌==◌, ◌+◌, ◌-◌, ◌&&◌, ℕ, Bool, true, false, cond, Option, Some, None, List, [], ◌∷◌, fold, refl, sym, ap, subst, is_none, suc, zero}
 use Rattle.std.proofs.lemmas.Option.{get_or_from_slice_get}
-use Rattle.strm_msg.specs.Message.{Msg}
+use Rattle.strm_msg.specs.Message.{Msg, bare, ack_msg}
+use Rattle.strm_msg.specs.Options.{options_asked}
+use Rattle.strm_msg.specs.declared.options.TheConstants.{SETOPTS}
 use Rattle.strm_msg.specs.declared.kind.MsgKind.{MsgKind}
-use Rattle.strm_msg.specs.declared.kind.MsgKind.TheVariants.{MData, MProto, MPcproto, MIoctl, MIocack, MIocnak, MFlush, MHangup, MError}
+use Rattle.strm_msg.specs.declared.kind.MsgKind.TheVariants.{MData, MProto, MPcproto, MIoctl, MSetopts, MIocack, MIocnak, MFlush, MHangup, MError}
 use Rattle.strm_msg.specs.declared.words.End.{End}
 use Rattle.strm_msg.specs.declared.words.End.TheVariants.{A, B}
 use Rattle.strm_msg.specs.declared.words.Side.{Side}
@@ -19,12 +21,12 @@ use Rattle.strm_module.proofs.ProcedureLemmas.{put_of_same}
 use Rattle.strm_qpair.specs.Pair.{QueuePair, list_on, flushed_if, flushed_pair, after_put, pair_gets, pair_front, pair_serves}
 use Rattle.strm_qpair.specs.End.{EndState, in_head, in_state, in_drv, pair_at, set_pair, found_gets, end_gets, found_serves, end_serves}
 use Rattle.strm_qpair.specs.Head.{is_id, kept_answer, open_head, keeps, head_does}
-use Rattle.strm_qpair.specs.Driver.{consumes, line_does, echo_does, driver_at}
+use Rattle.strm_qpair.specs.Driver.{DriverStep, consumes, refuses, line_does, loop_does, options_up, echo_does, driver_at}
 use Rattle.strm_qpair.specs.Modules.{identity_of, identities_of, SameIds, SameEnd}
 use Rattle.strm_qpair.specs.declared.driver.Driver.{Driver}
 use Rattle.strm_qpair.specs.declared.driver.Driver.TheVariants.{Echo, Loop, Line}
 use Rattle.strm_qpair.specs.declared.driver.DriverSends.{DriverSends}
-use Rattle.strm_qpair.specs.declared.driver.DriverSends.TheVariants.{Nothing, Reply, Across}
+use Rattle.strm_qpair.specs.declared.driver.DriverSends.TheVariants.{Nothing, Reply, Across, Options}
 use Rattle.strm_qpair.specs.declared.record.Record.{Record}
 use Rattle.strm_qpair.proofs.EndLemmas.{identities-set}
 use Rattle.strm_ends.specs.declared.place.Place.{Place}
@@ -49,19 +51,19 @@ identities-set_pair xs (suc i) old new at same =
 
 modules_keep : {K : Type 0} (e : EndState K) (modules : List (QueuePair K)) → identities_of modules ≡ identities_of e.modules → SameEnd e (record e { modules = modules })
 modules_keep e modules same =
-    record { is_open = refl; head_marks = refl; drv_marks = refl; modules = same; ids = (same_end e).ids }
+    record { is_open = refl; drv_marks = refl; modules = same; ids = (same_end e).ids }
 
 -- what changes only a list, or only the head's record
 in_head_keeps : {K : Type 0} (e : EndState K) (q : List Msg) → SameEnd e (in_head e q)
 in_head_keeps e q =
-    record { is_open = refl; head_marks = refl; drv_marks = refl; modules = refl; ids = (same_end e).ids }
+    record { is_open = refl; drv_marks = refl; modules = refl; ids = (same_end e).ids }
 
 in_drv_keeps : {K : Type 0} (e : EndState K) (q : List Msg) → SameEnd e (in_drv e q)
 in_drv_keeps e q =
-    record { is_open = refl; head_marks = refl; drv_marks = refl; modules = refl; ids = (same_end e).ids }
+    record { is_open = refl; drv_marks = refl; modules = refl; ids = (same_end e).ids }
 
 in_state_keeps : {K : Type 0} (e : EndState K) (r : Record) → SameIds e.state r → SameEnd e (in_state e r)
-in_state_keeps e r ids = record { is_open = refl; head_marks = refl; drv_marks = refl; modules = refl; ids = ids }
+in_state_keeps e r ids = record { is_open = refl; drv_marks = refl; modules = refl; ids = ids }
 
 -- an answer is kept only where an id is awaited
 answer_ids : (r : Record) (id : ℕ) (m : Msg) (b : Bool) → (is_id r.pending id && is_none r.kept) ≡ b → SameIds r (cond b (record r { kept = Some m }) r)
@@ -87,6 +89,8 @@ open_head_keeps e MProto m = in_head_keeps e (put_in e.head m)
 open_head_keeps e MPcproto m =
     either_keeps (has_pcproto e.head) e e (in_head e (put_in e.head m)) (same_end e) (in_head_keeps e (put_in e.head m))
 open_head_keeps e (MIoctl id cmd) m = same_end e
+open_head_keeps e (MSetopts mode prot marks) m =
+    record { is_open = refl; drv_marks = refl; modules = refl; ids = record { next = refl; pending = refl; kept = λ _. refl } }
 open_head_keeps e (MIocack id rval) m = answer_keeps e id m
 open_head_keeps e (MIocnak id errno) m = answer_keeps e id m
 open_head_keeps e (MFlush r w band) m = in_head_keeps e (flushed_if r band e.head)
@@ -106,16 +110,25 @@ line_keeps : {K : Type 0} (e : EndState K) (kind : MsgKind) → SameEnd e (line_
 line_keeps e (MFlush r w band) = in_drv_keeps e (flushed_if r band e.drv)
 line_keeps e kind = same_end e
 
+loop_keeps : {K : Type 0} (e : EndState K) (kind : MsgKind) (m : Msg) → SameEnd e (loop_does e kind m).state
+loop_keeps e (MFlush r w band) m = in_drv_keeps e (flushed_if w band e.drv)
+loop_keeps e MData m = in_drv_keeps e (put_in e.drv m)
+loop_keeps e MProto m = in_drv_keeps e (put_in e.drv m)
+loop_keeps e kind m = same_end e
+
+either_step_keeps : {K : Type 0} (b : Bool) (e : EndState K) (x y : DriverStep K) → SameEnd e x.state → SameEnd e y.state → SameEnd e (cond b x y).state
+either_step_keeps true e x y hx hy = hx
+either_step_keeps false e x y hx hy = hy
+
 echo_keeps : {K : Type 0} (e : EndState K) (kind : MsgKind) (m : Msg) → SameEnd e (echo_does e kind m).state
-echo_keeps e (MFlush r w band) m = in_drv_keeps e (flushed_if w band e.drv)
-echo_keeps e MData m = in_drv_keeps e (put_in e.drv m)
-echo_keeps e MProto m = in_drv_keeps e (put_in e.drv m)
-echo_keeps e kind m = same_end e
+echo_keeps e (MIoctl id cmd) m =
+    either_step_keeps (cmd == SETOPTS) e (record { state = e; sends = options_up id (options_asked m.dat) }) (refuses e id) (same_end e) (same_end e)
+echo_keeps e kind m = loop_keeps e kind m
 
 driver_at_keeps : {K : Type 0} (d : Driver) (e : EndState K) (m : Msg) → SameEnd e (driver_at d e m).state
 driver_at_keeps Line e m = line_keeps e m.kind
 driver_at_keeps Echo e m = echo_keeps e m.kind m
-driver_at_keeps Loop e m = echo_keeps e m.kind m
+driver_at_keeps Loop e m = loop_keeps e m.kind m
 
 driver_step_keeps : {K : Type 0} (d : Driver) (e : EndState K) (m : Msg) (has : Bool) → SameEnd e (cond has (driver_at d e m) (consumes e)).state
 driver_step_keeps d e m true = driver_at_keeps d e m
@@ -164,6 +177,10 @@ driver_sends_keeps up each old e image Nothing = same_image image
 driver_sends_keeps up each old e image (Reply m) = each e (count_of old e) image m
 driver_sends_keeps up each old e image (Across m) =
     let p = partner old.driver e in each p (count_of old p) image m
+driver_sends_keeps up each old e image (Options mode prot marks id) =
+    let n = count_of old e in
+    let there = up e n image (bare (MSetopts mode prot marks)) in
+    same_trans image there (up e n there (ack_msg id 0 None)) (each e n image (bare (MSetopts mode prot marks))) (each e n there (ack_msg id 0 None))
 
 driver_gets_keeps : {K : Type 0} (up : OnwardPast K) → OnwardPastKeeps up → OnwardKeeps (driver_gets up)
 driver_gets_keeps up each e image m =

@@ -1,7 +1,8 @@
 -- Where a message goes, and what it leaves on its way (Programmer's Guide: STREAMS, "Message Processing"; putnext(9F)).
 -- Modules are counted from 1, which is the topmost; on the way up 0 is the head.
 use Rattle.std.specs.Prelude.{ℕ, ◌+◌, ◌-◌, ◌&&◌, nat_le, Bool, true, false, Option, Some, None, fold, suc, zero}
-use Rattle.strm_msg.specs.Message.{Msg}
+use Rattle.strm_msg.specs.Message.{Msg, bare, ack_msg}
+use Rattle.strm_msg.specs.declared.kind.MsgKind.TheVariants.{MSetopts}
 use Rattle.strm_msg.specs.declared.words.End.{End}
 use Rattle.strm_msg.specs.declared.words.Side.{Side}
 use Rattle.strm_msg.specs.declared.words.Side.TheVariants.{Rd, Wr}
@@ -9,7 +10,7 @@ use Rattle.strm_module.specs.Kinds.{OutList, Meaning}
 use Rattle.strm_qpair.specs.End.{EndStep, end_gets}
 use Rattle.strm_qpair.specs.Head.{head_does}
 use Rattle.strm_qpair.specs.declared.driver.DriverSends.{DriverSends}
-use Rattle.strm_qpair.specs.declared.driver.DriverSends.TheVariants.{Nothing, Reply, Across}
+use Rattle.strm_qpair.specs.declared.driver.DriverSends.TheVariants.{Nothing, Reply, Across, Options}
 use Rattle.strm_chain.specs.declared.spot.Spot.{Spot}
 use Rattle.strm_chain.specs.declared.spot.Spot.TheVariants.{Down, Up}
 use Rattle.strm_ends.specs.Image.{Image, end_of, with_end, has_end, partner, count_of, driver_does}
@@ -40,12 +41,15 @@ abbrev pub head_gets : {K : Type 0} → Onward K → Onward K
 head_gets send e image m =
     let h = head_does (end_of image e) m in send_on send e (with_end image e h.state) h.sends
 
--- what a driver sends goes up past all modules: a reply up the same end, and what it carries across up the partner
+-- what a driver sends goes up past all modules: a reply up the same end, what it carries across up the partner, and options
+-- up the same end, to their end before the ack of the ioctl that asked for them
 abbrev pub driver_sends : {K : Type 0} → OnwardPast K → Image K → End → Image K → DriverSends → Image K
 driver_sends up old e image Nothing = image
 driver_sends up old e image (Reply m) = up e (count_of old e) image m
 driver_sends up old e image (Across m) =
     let p = partner old.driver e in up p (count_of old p) image m
+driver_sends up old e image (Options mode prot marks id) =
+    let n = count_of old e in up e n (up e n image (bare (MSetopts mode prot marks))) (ack_msg id 0 None)
 
 -- a message comes to the driver
 abbrev pub driver_gets : {K : Type 0} → OnwardPast K → Onward K

@@ -173,7 +173,7 @@ impl Enabling {
     }
 
     /// Enables the place that waits for a queue, if it must move now.
-    fn wake_behind<M: ModuleOf>(&mut self, ends: &Ends<M>, queue: NextQueue)
+    pub(crate) fn wake_behind<M: ModuleOf>(&mut self, ends: &Ends<M>, queue: NextQueue)
         requires { number_of queue < QUEUES }
         ensures ready { IsReadyBut ends.now.image queue self.old → IsReady ends.now.image self.new }
         ensures places { ArePlaces ends.now.image self.old.run.items → ArePlaces ends.now.image self.new.run.items }

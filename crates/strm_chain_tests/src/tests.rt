@@ -2,7 +2,7 @@
 //! that the clauses state are the ones that were meant. Most are tables of rows, each with its calls and
 //! what they must answer; a row of a chain makes its calls on a new one. What is expected is worked out by
 //! hand from the rules, beside it.
-use Sample::{Ack, Data, Error, Flush, Hangup, Ioctl, Nak, Pcproto, Proto};
+use Sample::{Ack, Data, Error, Flush, Hangup, Ioctl, Nak, Options, Pcproto, Proto};
 use std::alloc::Global;
 use std::process::Abort;
 use std::sync::Arc;
@@ -47,6 +47,8 @@ enum Sample {
     Nak(u64, Errno),
     /// The read side, the write side, and the band, if not all of them.
     Flush(bool, bool, Option<u8>),
+    /// The read mode, and the water marks, as far as they are given.
+    Options(Option<ReadMode>, Option<(u32, u32)>),
     Hangup,
     Error(Errno),
 }
@@ -190,6 +192,7 @@ fn message(rt: &impl Abort, alloc: Global, sample: Sample) -> Message {
         Ack(id, rval, dat) => Ok(Message::of_ack(id, rval, part(rt, alloc, dat))),
         Nak(id, errno) => Ok(Message::of_nak(id, errno)),
         Flush(r, w, band) => Ok(Message::of_flush(r, w, band)),
+        Options(mode, marks) => Ok(Message::of_setopts(mode, None, marks)),
         Hangup => Ok(Message::of_hangup()),
         Error(errno) => Ok(Message::of_error(errno)),
     }

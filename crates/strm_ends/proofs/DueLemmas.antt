@@ -14,7 +14,7 @@ use Rattle.strm_ends.specs.Path.{ahead, front_of}
 use Rattle.strm_ends.specs.Flow.{may_front, may, due_front, is_due}
 use Rattle.strm_ends.specs.Held.{held_by}
 use Rattle.strm_ends.specs.Next.{next_of, marks_by, fill_by, SameWays}
-use Rattle.strm_ends.proofs.NextLemmas.{ahead_is, next_same, marks_same, front_same}
+use Rattle.strm_ends.proofs.NextLemmas.{ahead_is, next_same, front_same}
 
 abbrev due_by : Option Fill → Option Msg → Bool
 due_by queue None = false
@@ -24,17 +24,21 @@ due_is : {K : Type 0} (image : Image K) (p : Place) (front : Option Msg) → due
 due_is image p None = refl
 due_is image p (Some m) = refl
 
+-- a queue has the same marks and messages in two images
+abbrev pub IsLike : {K : Type 0} → Image K → Image K → NextQueue → Type 0
+IsLike x y q = (marks_by y q ≡ marks_by x q) × (held_by y q ≡ held_by x q)
+
 -- the queue that is next, seen in two images
-fill_same : {K : Type 0} (x y : Image K) (o : Option NextQueue) → SameWays x y → ((q : NextQueue) → o ≡ Some q → held_by y q ≡ held_by x q) → fill_by y o ≡ fill_by x o
-fill_same x y None s h = refl
-fill_same x y (Some q) s h = ap (λ m. fill_with m (held_by y q)) (marks_same x y q s) ∙ ap (fill_with (marks_by x q)) (h q refl)
+fill_same : {K : Type 0} (x y : Image K) (o : Option NextQueue) → ((q : NextQueue) → o ≡ Some q → IsLike x y q) → fill_by y o ≡ fill_by x o
+fill_same x y None h = refl
+fill_same x y (Some q) h = ap (λ m. fill_with m (held_by y q)) (h q refl).0 ∙ ap (fill_with (marks_by x q)) (h q refl).1
 
 -- a place must move as before where neither its queue nor the next one changed
-pub due_frame : {K : Type 0} (x y : Image K) (p : Place) → SameWays x y → held_by y (Of p) ≡ held_by x (Of p) → ((q : NextQueue) → next_of x p ≡ Some q → held_by y q ≡ held_by x q) → is_due y p ≡ is_due x p
+pub due_frame : {K : Type 0} (x y : Image K) (p : Place) → SameWays x y → held_by y (Of p) ≡ held_by x (Of p) → ((q : NextQueue) → next_of x p ≡ Some q → IsLike x y q) → is_due y p ≡ is_due x p
 due_frame x y p s own next =
     due_is y p (front_of y p)
     ∙ ap (due_by (ahead y p)) (front_same x y p s own)
-    ∙ ap (λ o. due_by o (front_of x p)) (ahead_is y p ∙ ap (fill_by y) (next_same x y p s) ∙ fill_same x y (next_of x p) s next ∙ sym (ahead_is x p))
+    ∙ ap (λ o. due_by o (front_of x p)) (ahead_is y p ∙ ap (fill_by y) (next_same x y p s) ∙ fill_same x y (next_of x p) next ∙ sym (ahead_is x p))
     ∙ sym (due_is x p (front_of x p))
 
 slack_less : (marks : Option WaterMarks) (old new : List Msg) (b : ℕ) → held_of old b ≤ held_of new b → slack_in (fill_with marks old) b ≡ false → slack_in (fill_with marks new) b ≡ false
@@ -50,10 +54,10 @@ due_less p q None k h = h
 due_less p q (Some m) k h = or_less (is_high m.kind) (slack_in p m.band) (slack_in q m.band) (k m.band) h
 
 -- a place that had not to move has not to where the next queue holds more
-pub due_fuller : {K : Type 0} (x y : Image K) (p : Place) (q : NextQueue) → SameWays x y → held_by y (Of p) ≡ held_by x (Of p) → next_of x p ≡ Some q → ((b : ℕ) → held_of (held_by x q) b ≤ held_of (held_by y q) b) → is_due x p ≡ false → is_due y p ≡ false
-due_fuller x y p q s own next more rests =
+pub due_fuller : {K : Type 0} (x y : Image K) (p : Place) (q : NextQueue) → SameWays x y → held_by y (Of p) ≡ held_by x (Of p) → next_of x p ≡ Some q → marks_by y q ≡ marks_by x q → ((b : ℕ) → held_of (held_by x q) b ≤ held_of (held_by y q) b) → is_due x p ≡ false → is_due y p ≡ false
+due_fuller x y p q s own next marks more rests =
     let before : ahead x p ≡ fill_with (marks_by x q) (held_by x q) = ahead_is x p ∙ ap (fill_by x) next in
-    let after : ahead y p ≡ fill_with (marks_by x q) (held_by y q) = ahead_is y p ∙ ap (fill_by y) (next_same x y p s ∙ next) ∙ ap (λ m. fill_with m (held_by y q)) (marks_same x y q s) in
+    let after : ahead y p ≡ fill_with (marks_by x q) (held_by y q) = ahead_is y p ∙ ap (fill_by y) (next_same x y p s ∙ next) ∙ ap (λ m. fill_with m (held_by y q)) marks in
     due_is y p (front_of y p)
     ∙ ap (due_by (ahead y p)) (front_same x y p s own)
     ∙ ap (λ o. due_by o (front_of x p)) after

@@ -1,10 +1,12 @@
 -- What each change of one queue leaves of the others.
-use Rattle.std.proofs.Common.{◌≡◌, ◌≢◌, ◌∙◌, ◌+◌, ◌≤◌, ◌&&◌, not, ℕ, Bool, true, false, cond, Option, Some, None, List, [], ◌∷◌, length, drop, filter, insert, slice_get, slice_set, refl, sym, ap, subst, arith, suc, zero}
+use Rattle.std.proofs.Common.{◌≡◌, ◌≢◌, ◌∙◌, ◌==◌, ◌+◌, ◌≤◌, ◌&&◌, not, ℕ, Bool, true, false, cond, Option, Some, None, List, [], ◌∷◌, length, drop, filter, insert, slice_get, slice_set, refl, sym, ap, subst, arith, suc, zero}
 use Rattle.std.proofs.lemmas.List.Edits.{length-insert}
 use Rattle.std.proofs.lemmas.List.Sums.{sum_by-insert, prefix_len-le-length, length-filter, count_by-le-length}
 use Rattle.strm_msg.specs.Message.{Msg, rank_of}
+use Rattle.strm_msg.specs.Options.{options_asked}
+use Rattle.strm_msg.specs.declared.options.TheConstants.{SETOPTS}
 use Rattle.strm_msg.specs.declared.kind.MsgKind.{MsgKind}
-use Rattle.strm_msg.specs.declared.kind.MsgKind.TheVariants.{MData, MProto, MPcproto, MIoctl, MIocack, MIocnak, MFlush, MHangup, MError}
+use Rattle.strm_msg.specs.declared.kind.MsgKind.TheVariants.{MData, MProto, MPcproto, MIoctl, MSetopts, MIocack, MIocnak, MFlush, MHangup, MError}
 use Rattle.strm_msg.specs.declared.words.End.{End}
 use Rattle.strm_msg.specs.declared.words.End.TheVariants.{A, B}
 use Rattle.strm_msg.specs.declared.words.Side.{Side}
@@ -18,7 +20,7 @@ use Rattle.strm_module.specs.declared.outs.Put.TheVariants.{Queue as Queued, Sen
 use Rattle.strm_qpair.specs.Pair.{QueuePair, list_on, with_list, flushed_if, flushed_pair, after_put, pair_gets, pair_front, pair_serves}
 use Rattle.strm_qpair.specs.End.{EndState, in_head, in_state, in_drv, pair_at, set_pair, list_found, list_at, found_gets, end_gets, found_serves, end_serves}
 use Rattle.strm_qpair.specs.Head.{kept_answer, open_head, keeps, head_does}
-use Rattle.strm_qpair.specs.Driver.{consumes, line_does, echo_does, driver_at}
+use Rattle.strm_qpair.specs.Driver.{DriverStep, consumes, line_does, loop_does, options_up, refuses, echo_does, driver_at}
 use Rattle.strm_qpair.specs.Modules.{SameIds, SameEnd}
 use Rattle.strm_qpair.specs.declared.driver.Driver.{Driver}
 use Rattle.strm_qpair.specs.declared.driver.Driver.TheVariants.{Echo, Loop, Line}
@@ -29,7 +31,7 @@ use Rattle.strm_ends.specs.declared.place.NextQueue.{NextQueue}
 use Rattle.strm_ends.specs.declared.place.NextQueue.TheVariants.{Of, Head}
 use Rattle.strm_ends.specs.Image.{Image, end_of, with_end, has_end, driver_does, with_head, with_drv}
 use Rattle.strm_ends.specs.Same.{SameModules}
-use Rattle.strm_ends.specs.Held.{module_place, held_by, IsShift, DiffersIn, is_flush}
+use Rattle.strm_ends.specs.Held.{module_place, held_by, IsShift, SameHeadMarks, DiffersIn, is_flush, sets_options, SetsMarks}
 
 -- a list that stays as it is
 pub shift_same : (q : List Msg) → IsShift q q
@@ -121,11 +123,16 @@ beside_head image e s modules drv (Of (Place.Rd x i)) apart =
 beside_head image e s modules drv (Head x) apart =
     kept_at (λ t. t.head) image e s x (λ at. absurd (apart (ap (λ y. Head y) at)))
 
+-- the heads keep their marks where the one of an end does
+marks_kept : {K : Type 0} (image : Image K) (e : End) (s : EndState K) → s.head_marks ≡ (end_of image e).head_marks → SameHeadMarks image (with_end image e s)
+marks_kept image e s marks = λ x. kept_at (λ t. t.head_marks) image e s x (λ at. marks)
+
 -- only the list of a head differs
-pub differs_in_head : {K : Type 0} (image : Image K) (e : End) (s : EndState K) → SameModules image (with_end image e s) → s.modules ≡ (end_of image e).modules → s.drv ≡ (end_of image e).drv → IsShift (end_of image e).head s.head → DiffersIn image (with_end image e s) (Head e)
-differs_in_head image e s same modules drv shift =
+pub differs_in_head : {K : Type 0} (image : Image K) (e : End) (s : EndState K) → SameModules image (with_end image e s) → s.head_marks ≡ (end_of image e).head_marks → s.modules ≡ (end_of image e).modules → s.drv ≡ (end_of image e).drv → IsShift (end_of image e).head s.head → DiffersIn image (with_end image e s) (Head e)
+differs_in_head image e s same marks modules drv shift =
     record {
       same = same;
+      head_marks = marks_kept image e s marks;
       others = λ other apart. beside_head image e s modules drv other apart;
       shift = shift_there (λ t. t.head) image e s shift;
     }
@@ -140,10 +147,11 @@ beside_drv image e s modules head (Of (Place.Rd x i)) apart =
 beside_drv image e s modules head (Head x) apart = kept_at (λ t. t.head) image e s x (λ at. head)
 
 -- only the list of a driver differs
-pub differs_in_drv : {K : Type 0} (image : Image K) (e : End) (s : EndState K) → SameModules image (with_end image e s) → s.modules ≡ (end_of image e).modules → s.head ≡ (end_of image e).head → IsShift (end_of image e).drv s.drv → DiffersIn image (with_end image e s) (Of (Places.Drv e))
-differs_in_drv image e s same modules head shift =
+pub differs_in_drv : {K : Type 0} (image : Image K) (e : End) (s : EndState K) → SameModules image (with_end image e s) → s.head_marks ≡ (end_of image e).head_marks → s.modules ≡ (end_of image e).modules → s.head ≡ (end_of image e).head → IsShift (end_of image e).drv s.drv → DiffersIn image (with_end image e s) (Of (Places.Drv e))
+differs_in_drv image e s same marks modules head shift =
     record {
       same = same;
+      head_marks = marks_kept image e s marks;
       others = λ other apart. beside_drv image e s modules head other apart;
       shift = shift_there (λ t. t.drv) image e s shift;
     }
@@ -165,84 +173,134 @@ shift_on image e s i Rd h = shift_there (λ t. list_at t i Rd) image e s h
 shift_on image e s i Wr h = shift_there (λ t. list_at t i Wr) image e s h
 
 -- only one queue of a module differs
-pub differs_in_module : {K : Type 0} (image : Image K) (e : End) (s : EndState K) (i : ℕ) (side : Side) → SameModules image (with_end image e s) → s.head ≡ (end_of image e).head → s.drv ≡ (end_of image e).drv → ((k : ℕ) (t : Side) → (k ≡ i → t ≡ side → ⊥) → list_at s k t ≡ list_at (end_of image e) k t) → IsShift (list_at (end_of image e) i side) (list_at s i side) → DiffersIn image (with_end image e s) (Of (module_place side e i))
-differs_in_module image e s i side same head drv lists shift =
+pub differs_in_module : {K : Type 0} (image : Image K) (e : End) (s : EndState K) (i : ℕ) (side : Side) → SameModules image (with_end image e s) → s.head_marks ≡ (end_of image e).head_marks → s.head ≡ (end_of image e).head → s.drv ≡ (end_of image e).drv → ((k : ℕ) (t : Side) → (k ≡ i → t ≡ side → ⊥) → list_at s k t ≡ list_at (end_of image e) k t) → IsShift (list_at (end_of image e) i side) (list_at s i side) → DiffersIn image (with_end image e s) (Of (module_place side e i))
+differs_in_module image e s i side same marks head drv lists shift =
     record {
       same = same;
+      head_marks = marks_kept image e s marks;
       others = λ other apart. beside_module image e s i side head drv lists other apart;
       shift = shift_on image e s i side shift;
     }
 
 -- of an end only the list of its head differs
 record HeadAlone {K : Type 0} (old new : EndState K) : Type 0 where
+  marks : new.head_marks ≡ old.head_marks
   modules : new.modules ≡ old.modules
   drv : new.drv ≡ old.drv
   shift : IsShift old.head new.head
 
 head_alone : {K : Type 0} (e : EndState K) (q : List Msg) → IsShift e.head q → HeadAlone e (in_head e q)
-head_alone e q h = record { modules = refl; drv = refl; shift = h }
+head_alone e q h = record { marks = refl; modules = refl; drv = refl; shift = h }
 
 head_stays : {K : Type 0} (e : EndState K) → HeadAlone e e
-head_stays e = record { modules = refl; drv = refl; shift = shift_same e.head }
+head_stays e = record { marks = refl; modules = refl; drv = refl; shift = shift_same e.head }
 
 either_alone : {K : Type 0} (b : Bool) (e x : EndState K) → HeadAlone e x → HeadAlone e (cond b e x)
 either_alone true e x h = head_stays e
 either_alone false e x h = h
 
 state_alone : {K : Type 0} (e : EndState K) (r : Record) → HeadAlone e (in_state e r)
-state_alone e r = record { modules = refl; drv = refl; shift = shift_same e.head }
+state_alone e r = record { marks = refl; modules = refl; drv = refl; shift = shift_same e.head }
 
-open_head_alone : {K : Type 0} (e : EndState K) (kind : MsgKind) (m : Msg) → HeadAlone e (open_head e kind m).state
-open_head_alone e MData m = head_alone e (put_in e.head m) (shift_put e.head m)
-open_head_alone e MProto m = head_alone e (put_in e.head m) (shift_put e.head m)
-open_head_alone e MPcproto m =
+open_head_alone : {K : Type 0} (e : EndState K) (kind : MsgKind) (m : Msg) → sets_options kind ≡ false → HeadAlone e (open_head e kind m).state
+open_head_alone e MData m h = head_alone e (put_in e.head m) (shift_put e.head m)
+open_head_alone e MProto m h = head_alone e (put_in e.head m) (shift_put e.head m)
+open_head_alone e MPcproto m h =
     either_alone (has_pcproto e.head) e (in_head e (put_in e.head m)) (head_alone e (put_in e.head m) (shift_put e.head m))
-open_head_alone e (MIoctl id cmd) m = head_stays e
-open_head_alone e (MIocack id rval) m = state_alone e (kept_answer e.state id m)
-open_head_alone e (MIocnak id errno) m = state_alone e (kept_answer e.state id m)
-open_head_alone e (MFlush r w band) m = head_alone e (flushed_if r band e.head) (shift_flush r band e.head)
-open_head_alone e MHangup m = state_alone e (record e.state { hung = true })
-open_head_alone e (MError errno) m = state_alone e (record e.state { errno = Some errno })
+open_head_alone e (MIoctl id cmd) m h = head_stays e
+open_head_alone e (MSetopts mode prot marks) m h = cc
+open_head_alone e (MIocack id rval) m h = state_alone e (kept_answer e.state id m)
+open_head_alone e (MIocnak id errno) m h = state_alone e (kept_answer e.state id m)
+open_head_alone e (MFlush r w band) m h = head_alone e (flushed_if r band e.head) (shift_flush r band e.head)
+open_head_alone e MHangup m h = state_alone e (record e.state { hung = true })
+open_head_alone e (MError errno) m h = state_alone e (record e.state { errno = Some errno })
 
-head_step_alone : {K : Type 0} (e : EndState K) (m : Msg) (is_open : Bool) → HeadAlone e (cond is_open (open_head e m.kind m) (keeps e)).state
-head_step_alone e m true = open_head_alone e m.kind m
-head_step_alone e m false = head_stays e
+head_step_alone : {K : Type 0} (e : EndState K) (m : Msg) (is_open : Bool) → sets_options m.kind ≡ false → HeadAlone e (cond is_open (open_head e m.kind m) (keeps e)).state
+head_step_alone e m true h = open_head_alone e m.kind m h
+head_step_alone e m false h = head_stays e
 
 head_changes : {K : Type 0} (image : Image K) (e : End) (s : EndState K) (new : Image K) → SameModules image new → new ≡ with_end image e s → HeadAlone (end_of image e) s → DiffersIn image new (Head e)
 head_changes {K = K} image e s new same is h =
-    subst (λ (j : Image K). DiffersIn image j (Head e)) (sym is) (differs_in_head image e s (subst (λ (j : Image K). SameModules image j) is same) h.modules h.drv h.shift)
+    subst (λ (j : Image K). DiffersIn image j (Head e)) (sym is) (differs_in_head image e s (subst (λ (j : Image K). SameModules image j) is same) h.marks h.modules h.drv h.shift)
 
--- a message comes to a head
-pub head_differs : {K : Type 0} (image : Image K) (e : End) (new : Image K) (m : Msg) → SameModules image new → new ≡ with_end image e (head_does (end_of image e) m).state → DiffersIn image new (Head e)
-head_differs image e new m same is =
-    let s = end_of image e in head_changes image e (head_does s m).state new same is (head_step_alone s m s.is_open)
+-- a message that sets no options comes to a head
+pub head_differs : {K : Type 0} (image : Image K) (e : End) (new : Image K) (m : Msg) → sets_options m.kind ≡ false → SameModules image new → new ≡ with_end image e (head_does (end_of image e) m).state → DiffersIn image new (Head e)
+head_differs image e new m none same is =
+    let s = end_of image e in head_changes image e (head_does s m).state new same is (head_step_alone s m s.is_open none)
+
+-- of an end no list differs
+record ListsStay {K : Type 0} (old new : EndState K) : Type 0 where
+  modules : new.modules ≡ old.modules
+  drv : new.drv ≡ old.drv
+  head : new.head ≡ old.head
+
+lists_stay : {K : Type 0} (e : EndState K) → ListsStay e e
+lists_stay e = record { modules = refl; drv = refl; head = refl }
+
+open_head_sets : {K : Type 0} (e : EndState K) (kind : MsgKind) (m : Msg) → sets_options kind ≡ true → ListsStay e (open_head e kind m).state
+open_head_sets e (MSetopts mode prot marks) m h = record { modules = refl; drv = refl; head = refl }
+open_head_sets e kind m h = cc
+
+head_step_sets : {K : Type 0} (e : EndState K) (m : Msg) (is_open : Bool) → sets_options m.kind ≡ true → ListsStay e (cond is_open (open_head e m.kind m) (keeps e)).state
+head_step_sets e m true h = open_head_sets e m.kind m h
+head_step_sets e m false h = lists_stay e
+
+held_stays : {K : Type 0} (image : Image K) (e : End) (s : EndState K) → ListsStay (end_of image e) s → (queue : NextQueue) → held_by (with_end image e s) queue ≡ held_by image queue
+held_stays image e s h (Of (Place.Wr x i)) =
+    kept_at (λ t. list_at t i Wr) image e s x (λ at. list_kept (end_of image e) s i Wr h.modules)
+held_stays image e s h (Of (Place.Drv x)) = kept_at (λ t. t.drv) image e s x (λ at. h.drv)
+held_stays image e s h (Of (Place.Rd x i)) =
+    kept_at (λ t. list_at t i Rd) image e s x (λ at. list_kept (end_of image e) s i Rd h.modules)
+held_stays image e s h (Head x) = kept_at (λ t. t.head) image e s x (λ at. h.head)
+
+-- options come to a head
+pub head_sets : {K : Type 0} (image : Image K) (e : End) (new : Image K) (m : Msg) → sets_options m.kind ≡ true → SameModules image new → new ≡ with_end image e (head_does (end_of image e) m).state → SetsMarks image new e
+head_sets {K = K} image e new m sets same is =
+    let s = (head_does (end_of image e) m).state in
+    let stay = head_step_sets (end_of image e) m (end_of image e).is_open sets in
+    record {
+      same = same;
+      held = λ queue. ap (λ (j : Image K). held_by j queue) is ∙ held_stays image e s stay queue;
+      others = λ x apart.
+          ap (λ (j : Image K). (end_of j x).head_marks) is ∙ kept_at (λ t. t.head_marks) image e s x (λ at. absurd (apart at));
+    }
 
 -- of an end only the list of its driver differs
 record DrvAlone {K : Type 0} (old new : EndState K) : Type 0 where
+  marks : new.head_marks ≡ old.head_marks
   modules : new.modules ≡ old.modules
   head : new.head ≡ old.head
   shift : IsShift old.drv new.drv
 
 drv_alone : {K : Type 0} (e : EndState K) (q : List Msg) → IsShift e.drv q → DrvAlone e (in_drv e q)
-drv_alone e q h = record { modules = refl; head = refl; shift = h }
+drv_alone e q h = record { marks = refl; modules = refl; head = refl; shift = h }
 
 drv_stays : {K : Type 0} (e : EndState K) → DrvAlone e e
-drv_stays e = record { modules = refl; head = refl; shift = shift_same e.drv }
+drv_stays e = record { marks = refl; modules = refl; head = refl; shift = shift_same e.drv }
 
 line_alone : {K : Type 0} (e : EndState K) (kind : MsgKind) → DrvAlone e (line_does e kind).state
 line_alone e (MFlush r w band) = drv_alone e (flushed_if r band e.drv) (shift_flush r band e.drv)
 line_alone e kind = drv_stays e
 
+loop_alone : {K : Type 0} (e : EndState K) (kind : MsgKind) (m : Msg) → DrvAlone e (loop_does e kind m).state
+loop_alone e (MFlush r w band) m = drv_alone e (flushed_if w band e.drv) (shift_flush w band e.drv)
+loop_alone e MData m = drv_alone e (put_in e.drv m) (shift_put e.drv m)
+loop_alone e MProto m = drv_alone e (put_in e.drv m) (shift_put e.drv m)
+loop_alone e kind m = drv_stays e
+
+either_driver : {K : Type 0} (b : Bool) (e : EndState K) (x y : DriverStep K) → DrvAlone e x.state → DrvAlone e y.state → DrvAlone e (cond b x y).state
+either_driver true e x y hx hy = hx
+either_driver false e x y hx hy = hy
+
 echo_alone : {K : Type 0} (e : EndState K) (kind : MsgKind) (m : Msg) → DrvAlone e (echo_does e kind m).state
-echo_alone e (MFlush r w band) m = drv_alone e (flushed_if w band e.drv) (shift_flush w band e.drv)
-echo_alone e MData m = drv_alone e (put_in e.drv m) (shift_put e.drv m)
-echo_alone e MProto m = drv_alone e (put_in e.drv m) (shift_put e.drv m)
-echo_alone e kind m = drv_stays e
+echo_alone e (MIoctl id cmd) m =
+    either_driver (cmd == SETOPTS) e (record { state = e; sends = options_up id (options_asked m.dat) }) (refuses e id) (drv_stays e) (drv_stays e)
+echo_alone e kind m = loop_alone e kind m
 
 driver_at_alone : {K : Type 0} (d : Driver) (e : EndState K) (m : Msg) → DrvAlone e (driver_at d e m).state
 driver_at_alone Line e m = line_alone e m.kind
 driver_at_alone Echo e m = echo_alone e m.kind m
-driver_at_alone Loop e m = echo_alone e m.kind m
+driver_at_alone Loop e m = loop_alone e m.kind m
 
 driver_step_alone : {K : Type 0} (d : Driver) (e : EndState K) (m : Msg) (has : Bool) → DrvAlone e (cond has (driver_at d e m) (consumes e)).state
 driver_step_alone d e m true = driver_at_alone d e m
@@ -250,7 +308,7 @@ driver_step_alone d e m false = drv_stays e
 
 drv_changes : {K : Type 0} (image : Image K) (e : End) (s : EndState K) (new : Image K) → SameModules image new → new ≡ with_end image e s → DrvAlone (end_of image e) s → DiffersIn image new (Of (Places.Drv e))
 drv_changes {K = K} image e s new same is h =
-    subst (λ (j : Image K). DiffersIn image j (Of (Places.Drv e))) (sym is) (differs_in_drv image e s (subst (λ (j : Image K). SameModules image j) is same) h.modules h.head h.shift)
+    subst (λ (j : Image K). DiffersIn image j (Of (Places.Drv e))) (sym is) (differs_in_drv image e s (subst (λ (j : Image K). SameModules image j) is same) h.marks h.modules h.head h.shift)
 
 -- a message comes to a driver
 pub driver_differs : {K : Type 0} (image : Image K) (e : End) (new : Image K) (m : Msg) → SameModules image new → new ≡ with_end image e (driver_does image.driver e (end_of image e) m).state → DiffersIn image new (Of (Places.Drv e))
@@ -267,6 +325,7 @@ take_driver_differs image e new m same first is =
 
 -- of an end only one queue of a module differs
 record QueueAlone {K : Type 0} (old new : EndState K) (i : ℕ) (side : Side) : Type 0 where
+  marks : new.head_marks ≡ old.head_marks
   head : new.head ≡ old.head
   drv : new.drv ≡ old.drv
   lists : (k : ℕ) (t : Side) → (k ≡ i → t ≡ side → ⊥) → list_at new k t ≡ list_at old k t
@@ -274,11 +333,11 @@ record QueueAlone {K : Type 0} (old new : EndState K) (i : ℕ) (side : Side) : 
 
 queue_stays : {K : Type 0} (e : EndState K) (i : ℕ) (side : Side) → QueueAlone e e i side
 queue_stays e i side =
-    record { head = refl; drv = refl; lists = λ k t apart. refl; shift = shift_same (list_at e i side) }
+    record { marks = refl; head = refl; drv = refl; lists = λ k t apart. refl; shift = shift_same (list_at e i side) }
 
 queue_changes : {K : Type 0} (image : Image K) (e : End) (s : EndState K) (i : ℕ) (side : Side) (new : Image K) → SameModules image new → new ≡ with_end image e s → QueueAlone (end_of image e) s i side → DiffersIn image new (Of (module_place side e i))
 queue_changes {K = K} image e s i side new same is h =
-    subst (λ (j : Image K). DiffersIn image j (Of (module_place side e i))) (sym is) (differs_in_module image e s i side (subst (λ (j : Image K). SameModules image j) is same) h.head h.drv h.lists h.shift)
+    subst (λ (j : Image K). DiffersIn image j (Of (module_place side e i))) (sym is) (differs_in_module image e s i side (subst (λ (j : Image K). SameModules image j) is same) h.marks h.head h.drv h.lists h.shift)
 
 -- of a pair only the queue of one side differs
 record PairAlone {K : Type 0} (old new : QueuePair K) (side : Side) : Type 0 where
@@ -314,6 +373,7 @@ both_found side o p old new ho hp h = rw (ho, hp) h
 set_alone : {K : Type 0} (e : EndState K) (i : ℕ) (side : Side) (old new : QueuePair K) → pair_at e.modules i ≡ Some old → PairAlone old new side → QueueAlone e (record e { modules = set_pair e.modules i new }) i side
 set_alone e i side old new at h =
     record {
+      marks = refl;
       head = refl;
       drv = refl;
       lists = λ k t apart. pair_lists e.modules i k t old new at (λ same. h.others t (apart same));
@@ -321,15 +381,8 @@ set_alone e i side old new at h =
     }
 
 pub unflushed : {K : Type 0} (s : QueuePair K) (kind : MsgKind) → is_flush kind ≡ false → flushed_pair s kind ≡ s
-unflushed s MData h = refl
-unflushed s MProto h = refl
-unflushed s MPcproto h = refl
-unflushed s (MIoctl id cmd) h = refl
-unflushed s (MIocack id rval) h = refl
-unflushed s (MIocnak id errno) h = refl
 unflushed s (MFlush r w band) h = cc
-unflushed s MHangup h = refl
-unflushed s (MError errno) h = refl
+unflushed s kind h = refl
 
 beside_list : {K : Type 0} (s : QueuePair K) (shape : Shape K) (side t : Side) (q : List Msg) → (t ≡ side → ⊥) → list_on (record (with_list s side q) { shape = shape }) t ≡ list_on s t
 beside_list s shape Rd Rd q apart = absurd (apart refl)
@@ -401,18 +454,18 @@ same_ids : (r : Record) → SameIds r r
 same_ids r = record { next = refl; pending = refl; kept = λ none. refl }
 
 same_end : {K : Type 0} (e : EndState K) → SameEnd e e
-same_end e = record { is_open = refl; head_marks = refl; drv_marks = refl; modules = refl; ids = same_ids e.state }
+same_end e = record { is_open = refl; drv_marks = refl; modules = refl; ids = same_ids e.state }
 
 same_image : {K : Type 0} (image : Image K) → SameModules image image
 same_image image = record { driver = refl; broken = refl; on_a = same_end image.a; on_b = same_end image.b }
 
 in_head_keeps : {K : Type 0} (e : EndState K) (q : List Msg) → SameEnd e (in_head e q)
 in_head_keeps e q =
-    record { is_open = refl; head_marks = refl; drv_marks = refl; modules = refl; ids = same_ids e.state }
+    record { is_open = refl; drv_marks = refl; modules = refl; ids = same_ids e.state }
 
 in_drv_keeps : {K : Type 0} (e : EndState K) (q : List Msg) → SameEnd e (in_drv e q)
 in_drv_keeps e q =
-    record { is_open = refl; head_marks = refl; drv_marks = refl; modules = refl; ids = same_ids e.state }
+    record { is_open = refl; drv_marks = refl; modules = refl; ids = same_ids e.state }
 
 with_end_keeps : {K : Type 0} (image : Image K) (e : End) (s : EndState K) → SameEnd (end_of image e) s → SameModules image (with_end image e s)
 with_end_keeps image A s h = record { driver = refl; broken = refl; on_a = h; on_b = same_end image.b }
@@ -444,6 +497,15 @@ pub same_differs : {K : Type 0} (image new : Image K) (queue : NextQueue) → ne
 same_differs {K = K} image new queue is =
     subst (λ (j : Image K). DiffersIn image j queue) (sym is) (record {
       same = same_image image;
+      head_marks = λ e. refl;
       others = λ other apart. refl;
       shift = shift_same (held_by image queue);
+    })
+
+pub same_sets : {K : Type 0} (image new : Image K) (e : End) → new ≡ image → SetsMarks image new e
+same_sets {K = K} image new e is =
+    subst (λ (j : Image K). SetsMarks image j e) (sym is) (record {
+      same = same_image image;
+      held = λ queue. refl;
+      others = λ other apart. refl;
     })

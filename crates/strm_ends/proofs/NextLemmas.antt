@@ -21,7 +21,7 @@ use Rattle.strm_ends.specs.declared.place.NextQueue.TheVariants.{Of, Head}
 use Rattle.strm_ends.specs.Image.{Image, end_of, has_end, partner, count_of}
 use Rattle.strm_ends.specs.Same.{SameModules}
 use Rattle.strm_ends.specs.Path.{ahead, front_of}
-use Rattle.strm_ends.specs.Held.{held_by, AreOrdinary}
+use Rattle.strm_ends.specs.Held.{held_by, SameHeadMarks, AreOrdinary}
 use Rattle.strm_ends.specs.Next.{modules_at, past_writes, next_down, next_up, next_of, marks_by, fill_by, IsCounted, SameWays}
 
 down_fill : {K : Type 0} (image : Image K) (e : End) (o : Option ℕ) → or_at (queue_at (end_of image e) Wr) (driver_fill image.driver (end_of image e)) o ≡ fill_by image (next_down image.driver e o)
@@ -66,12 +66,15 @@ next_same x y (Place.Drv e) s =
     ∙ up_same (end_of y p).is_open (end_of x p).is_open (modules_at y p) (modules_at x p) (count_of y p) (count_of x p) p (s.is_open p) (s.modules p) (count_same x y p s)
 next_same x y (Place.Rd e i) s = rw (s.is_open e, s.modules e) refl
 
--- nor what the marks of a queue are
-pub marks_same : {K : Type 0} (x y : Image K) (q : NextQueue) → SameWays x y → marks_by y q ≡ marks_by x q
-marks_same x y (Of (Place.Wr e i)) s = ap (λ ids. marks_at Wr (identity_at ids i)) (s.modules e)
-marks_same x y (Of (Place.Drv e)) s = ap Some (s.drv_marks e)
-marks_same x y (Of (Place.Rd e i)) s = ap (λ ids. marks_at Rd (identity_at ids i)) (s.modules e)
-marks_same x y (Head e) s = ap Some (s.head_marks e)
+-- nor what the marks of a queue are, but for those of a head
+pub marks_but : {K : Type 0} (x y : Image K) (q : NextQueue) → SameWays x y → ((e : End) → q ≡ Head e → (end_of y e).head_marks ≡ (end_of x e).head_marks) → marks_by y q ≡ marks_by x q
+marks_but x y (Of (Place.Wr e i)) s heads = ap (λ ids. marks_at Wr (identity_at ids i)) (s.modules e)
+marks_but x y (Of (Place.Drv e)) s heads = ap Some (s.drv_marks e)
+marks_but x y (Of (Place.Rd e i)) s heads = ap (λ ids. marks_at Rd (identity_at ids i)) (s.modules e)
+marks_but x y (Head e) s heads = ap Some (heads e refl)
+
+pub marks_same : {K : Type 0} (x y : Image K) (q : NextQueue) → SameWays x y → SameHeadMarks x y → marks_by y q ≡ marks_by x q
+marks_same x y q s heads = marks_but x y q s (λ e _. heads e)
 
 -- the first message of a place is that of its queue
 pub front_same : {K : Type 0} (x y : Image K) (p : Place) → SameWays x y → held_by y (Of p) ≡ held_by x (Of p) → front_of y p ≡ front_of x p
@@ -173,7 +176,6 @@ ways_of_same x y s =
     record {
       driver = s.driver;
       is_open = λ e. elim e as (λ e. (end_of y e).is_open ≡ (end_of x e).is_open) [ A ↦ s.on_a.is_open | B ↦ s.on_b.is_open ];
-      head_marks = λ e. elim e as (λ e. (end_of y e).head_marks ≡ (end_of x e).head_marks) [ A ↦ s.on_a.head_marks | B ↦ s.on_b.head_marks ];
       drv_marks = λ e. elim e as (λ e. (end_of y e).drv_marks ≡ (end_of x e).drv_marks) [ A ↦ s.on_a.drv_marks | B ↦ s.on_b.drv_marks ];
       modules = λ e. elim e as (λ e. modules_at y e ≡ modules_at x e) [ A ↦ s.on_a.modules | B ↦ s.on_b.modules ];
     }

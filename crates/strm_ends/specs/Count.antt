@@ -1,9 +1,15 @@
--- How many places there are, and how many messages wait.
-use Rattle.std.specs.Prelude.{ℕ, ◌+◌, Bool, List, [], ◌∷◌, ◌++◌, length, sum_by, is_some, if◌then◌else◌}
+-- How many places there are, how many messages wait, and how many of them set options of a head.
+use Rattle.std.specs.Prelude.{ℕ, ◌+◌, Bool, true, false, List, [], ◌∷◌, ◌++◌, length, sum_by, is_some, if◌then◌else◌}
+use Rattle.strm_msg.specs.Message.{Msg}
 use Rattle.strm_msg.specs.declared.words.End.{End}
 use Rattle.strm_msg.specs.declared.words.End.TheVariants.{A, B}
 use Rattle.strm_msg.specs.declared.words.Side.TheVariants.{Rd, Wr}
+use Rattle.strm_module.specs.Calm.{options_of, options_held}
 use Rattle.strm_qpair.specs.End.{EndState}
+use Rattle.strm_qpair.specs.declared.driver.Driver.{Driver}
+use Rattle.strm_qpair.specs.declared.driver.Driver.TheVariants.{Echo}
+use Rattle.strm_qpair.specs.declared.driver.DriverSends.{DriverSends}
+use Rattle.strm_qpair.specs.declared.driver.DriverSends.TheVariants.{Nothing, Reply, Across, Options}
 use Rattle.strm_qpair.specs.Modules.{Identity}
 use Rattle.strm_qpair.specs.Next.{has_queue}
 use Rattle.strm_ends.specs.declared.place.Place.{Place}
@@ -33,9 +39,29 @@ places_of image = places_at image A ++ places_at image B
 abbrev pub place_count : {K : Type 0} → Image K → ℕ
 place_count image = length (places_of image)
 
-abbrev pub messages_on : {K : Type 0} → EndState K → ℕ
-messages_on e = length e.head + (length e.drv + sum_by (λ s. length s.rd + length s.wr) e.modules)
+-- a measure of the messages of each queue, together
+abbrev pub measured_on : {K : Type 0} → (List Msg → ℕ) → EndState K → ℕ
+measured_on measure e = measure e.head + (measure e.drv + sum_by (λ s. measure s.rd + measure s.wr) e.modules)
+
+abbrev pub measured : {K : Type 0} → (List Msg → ℕ) → Image K → ℕ
+measured measure image = measured_on measure image.a + measured_on measure image.b
 
 -- the messages in all queues
 abbrev pub message_count : {K : Type 0} → Image K → ℕ
-message_count image = messages_on image.a + messages_on image.b
+message_count image = measured (λ q. length q) image
+
+-- whether a driver answers an ioctl that asks for options with them
+abbrev pub answers_options : Driver → Bool
+answers_options Echo = true
+answers_options driver = false
+
+-- how often what a driver sends sets options of a head
+abbrev pub options_driven : Bool → DriverSends → ℕ
+options_driven answered Nothing = 0
+options_driven answered (Reply m) = options_of answered m
+options_driven answered (Across m) = options_of answered m
+options_driven answered (Options mode prot marks id) = 1
+
+-- how often what waits in all queues sets options of a head
+abbrev pub options_count : {K : Type 0} → Image K → ℕ
+options_count image = measured (options_held (answers_options image.driver)) image

@@ -2,7 +2,7 @@
 use Rattle.std.specs.Prelude.{◌≡◌, ◌≢◌, ◌<◌, ◌≤◌, ℕ, Bool, true, false, List, length}
 use Rattle.strm_msg.specs.Message.{Msg}
 use Rattle.strm_msg.specs.declared.kind.MsgKind.{MsgKind}
-use Rattle.strm_msg.specs.declared.kind.MsgKind.TheVariants.{MData, MProto, MPcproto, MIoctl, MIocack, MIocnak, MFlush, MHangup, MError}
+use Rattle.strm_msg.specs.declared.kind.MsgKind.TheVariants.{MSetopts, MFlush}
 use Rattle.strm_msg.specs.declared.words.Side.TheVariants.{Rd, Wr}
 use Rattle.strm_msg.specs.declared.words.End.{End}
 use Rattle.strm_msg.specs.declared.words.Side.{Side}
@@ -33,23 +33,32 @@ pub record IsShift (old new : List Msg) : Type 0 where
   pub still : length new ≡ length old → new ≡ old
   pub fuller : length old < length new → (b : ℕ) → held_of old b ≤ held_of new b
 
+-- the heads have the same marks
+abbrev pub SameHeadMarks : {K : Type 0} → Image K → Image K → Type 0
+SameHeadMarks old new = (e : End) → (end_of new e).head_marks ≡ (end_of old e).head_marks
+
 -- only the messages of one queue differ
 pub record DiffersIn {K : Type 0} (old new : Image K) (queue : NextQueue) : Type 0 where
   pub same : SameModules old new
+  pub head_marks : SameHeadMarks old new
   pub others : (other : NextQueue) → other ≢ queue → held_by new other ≡ held_by old other
   pub shift : IsShift (held_by old queue) (held_by new queue)
 
 -- whether a message is a flush, which may change both queues of a module
 abbrev pub is_flush : MsgKind → Bool
-is_flush MData = false
-is_flush MProto = false
-is_flush MPcproto = false
-is_flush (MIoctl id cmd) = false
-is_flush (MIocack id rval) = false
-is_flush (MIocnak id errno) = false
 is_flush (MFlush r w band) = true
-is_flush MHangup = false
-is_flush (MError errno) = false
+is_flush kind = false
+
+-- whether a message sets options, of which the marks of a head are one
+abbrev pub sets_options : MsgKind → Bool
+sets_options (MSetopts mode prot marks) = true
+sets_options kind = false
+
+-- no queue differs, but the marks of one head may
+pub record SetsMarks {K : Type 0} (old new : Image K) (e : End) : Type 0 where
+  pub same : SameModules old new
+  pub held : (queue : NextQueue) → held_by new queue ≡ held_by old queue
+  pub others : (other : End) → other ≢ e → (end_of new other).head_marks ≡ (end_of old other).head_marks
 
 -- no high message waits below the heads
 pub record AreOrdinary {K : Type 0} (image : Image K) : Type 0 where

@@ -61,10 +61,9 @@ IsCounted (Of (Place.Rd e i)) = i ≤ MOST_MODULES
 IsCounted (Of (Place.Drv e)) = Unit {0}
 IsCounted (Head e) = Unit {0}
 
--- the same queues stand in the same places with the same marks
+-- the same queues stand in the same places, and those of modules and drivers have the same marks
 pub record SameWays {K : Type 0} (old new : Image K) : Type 0 where
   pub driver : new.driver ≡ old.driver
   pub is_open : (e : End) → (end_of new e).is_open ≡ (end_of old e).is_open
-  pub head_marks : (e : End) → (end_of new e).head_marks ≡ (end_of old e).head_marks
   pub drv_marks : (e : End) → (end_of new e).drv_marks ≡ (end_of old e).drv_marks
   pub modules : (e : End) → modules_at new e ≡ modules_at old e

@@ -3,7 +3,7 @@ use Rattle.std.specs.Prelude.{◌≡◌}
 use Rattle.strm_qpair.specs.Modules.{SameEnd}
 use Rattle.strm_ends.specs.Image.{Image}
 
--- both ends are open or closed as before, with the same marks, modules and ids, over the same driver
+-- both ends are open or closed as before, with the same modules and ids, over the same driver with the same marks
 pub record SameModules {K : Type 0} (old new : Image K) : Type 0 where
   pub driver : new.driver ≡ old.driver
   pub broken : new.broken ≡ old.broken

@@ -196,7 +196,6 @@ same_but_drv : {K : Type 0} (e : EndState K) (q : List Msg) → SameEnd e (in_dr
 same_but_drv e q =
     record {
       is_open = refl;
-      head_marks = refl;
       drv_marks = refl;
       modules = refl;
       ids = record { next = refl; pending = refl; kept = λ none. refl };

@@ -1,13 +1,14 @@
--- What a module makes of a calm message is calm: for kinds of any calm meaning, and for the eight.
-use Rattle.std.proofs.Common.{◌≡◌, ◌==◌, ◌&&◌, ℕ, Bool, true, false, cond, nat_lt, List, [], ◌++◌, length, unwrap_or, refl}
+-- What a module makes of a calm message is calm, and sets no more options: for kinds of any calm meaning, and for the eight.
+use Rattle.std.proofs.Common.{◌≡◌, ◌≤◌, ◌==◌, ◌&&◌, ℕ, Bool, true, false, cond, nat_lt, None, List, [], ◌∷◌, ◌++◌, length, option_map, unwrap_or, refl, ap, arith}
+use Rattle.std.proofs.lemmas.List.Sums.{sum_by-cons}
 use Rattle.strm_msg.specs.Kind.{is_high}
-use Rattle.strm_msg.specs.Message.{Msg}
+use Rattle.strm_msg.specs.Message.{Msg, Part, part_len, ack_msg, data_msg}
 use Rattle.strm_msg.specs.declared.kind.MsgKind.{MsgKind}
-use Rattle.strm_msg.specs.declared.kind.MsgKind.TheVariants.{MData, MProto, MPcproto, MIoctl, MIocack, MIocnak, MFlush, MHangup, MError}
+use Rattle.strm_msg.specs.declared.kind.MsgKind.TheVariants.{MData, MProto, MIoctl, MFlush, MError}
 use Rattle.strm_msg.specs.declared.words.Side.{Side}
 use Rattle.strm_msg.specs.declared.words.Side.TheVariants.{Rd, Wr}
-use Rattle.strm_module.specs.Bytes.{rest_len, whole_lines}
-use Rattle.strm_module.specs.Calm.{is_calm, are_calm, puts_calm, IsCalm}
+use Rattle.strm_module.specs.Bytes.{mapped, with_cr, without_cr, rest_len, whole_lines}
+use Rattle.strm_module.specs.Calm.{is_calm, are_calm, puts_calm, options_by, options_of, options_sent, puts_options, IsCalm}
 use Rattle.strm_module.specs.Eight.{line_splits, table_action, crnl_action, line_action, count_action, band_action, tee_action, mute_action, ordinary_action, eight}
 use Rattle.strm_module.specs.Kinds.{OutList, Action, Meaning}
 use Rattle.strm_module.specs.Module.{serve_of, put_of, is_queued}
@@ -19,19 +20,13 @@ use Rattle.strm_module.proofs.ProcedureLemmas.{put_if}
 
 -- no ordinary message flushes
 pub ordinary_calm : (kind : MsgKind) → is_high kind ≡ false → is_calm kind ≡ true
-ordinary_calm MData e = refl
-ordinary_calm MProto e = refl
-ordinary_calm MPcproto e = refl
-ordinary_calm (MIoctl id cmd) e = refl
-ordinary_calm (MIocack id rval) e = refl
-ordinary_calm (MIocnak id errno) e = refl
 ordinary_calm (MFlush r w band) e = cc
-ordinary_calm MHangup e = refl
 ordinary_calm (MError errno) e = cc
+ordinary_calm kind e = refl
 
 -- what a service sends of a calm message is calm
 pub serve_calm : {K : Type 0} (means : Meaning K) (s : Shape K) (side : Side) (m : Msg) → IsCalm means → is_calm m.kind ≡ true → are_calm (serve_of means s side m).outs ≡ true
-serve_calm means s side m calm h = calm s.kind side m h
+serve_calm means s side m calm h = calm.calm s.kind side m h
 
 -- and what a put sends at once
 pub put_calm : {K : Type 0} (means : Meaning K) (s : Shape K) (side : Side) (m : Msg) → IsCalm means → is_calm m.kind ≡ true → puts_calm (put_of means s side m).answer ≡ true
@@ -39,6 +34,17 @@ put_calm means s side m calm h =
     elim (is_queued s side m) as (λ b. puts_calm (put_if means s side m b).answer ≡ true) [
       | true ↦ refl
       | false ↦ serve_calm means s side m calm h
+    ]
+
+-- and neither sets more options
+pub serve_keeps : {K : Type 0} (means : Meaning K) (s : Shape K) (side : Side) (m : Msg) (b : Bool) → IsCalm means → options_sent b (serve_of means s side m).outs ≤ options_of b m
+serve_keeps means s side m b calm = calm.options b s.kind side m
+
+pub put_keeps : {K : Type 0} (means : Meaning K) (s : Shape K) (side : Side) (m : Msg) (b : Bool) → IsCalm means → puts_options b (put_of means s side m).answer ≤ options_of b m
+put_keeps means s side m b calm =
+    elim (is_queued s side m) as (λ c. puts_options b (put_if means s side m c).answer ≤ options_of b m) [
+      | true ↦ omega arith
+      | false ↦ serve_keeps means s side m b calm
     ]
 
 abbrev AreCalm : OutList → Type 0
@@ -115,7 +121,103 @@ acts_calm (Band b) side m h = band_calm b side m.kind m h
 acts_calm Tee side m h = tee_calm side m.kind m h
 acts_calm Mute side m h = mute_calm side m.kind m h
 
--- what the eight kinds make of a calm message is calm
+-- what leaves sets no more options than what came
+abbrev Keeps : Bool → Msg → OutList → Type 0
+Keeps answered m outs = options_sent answered outs ≤ options_of answered m
+
+none_keeps : (b : Bool) (m : Msg) → Keeps b m []
+none_keeps b m = omega arith
+
+pub one_keeps : (b : Bool) (side : Side) (m x : Msg) → options_of b x ≤ options_of b m → Keeps b m ((side, x) ∷ [])
+one_keeps b side m x h = let e = sum_by-cons (λ (out : Side × Msg). options_of b out.1) (side, x) [] in omega (arith, e, h)
+
+pub same_keeps : (b : Bool) (side : Side) (m : Msg) → Keeps b m ((side, m) ∷ [])
+same_keeps b side m = one_keeps b side m m (omega arith)
+
+pub other_keeps : (b : Bool) (side : Side) (m x : Msg) → options_of b x ≡ 0 → Keeps b m ((side, x) ∷ [])
+other_keeps b side m x h = one_keeps b side m x (omega (arith, h))
+
+two_keep : (b : Bool) (m : Msg) → options_of b m ≡ 0 → Keeps b m ((Rd, m) ∷ ((Wr, m) ∷ []))
+two_keep b m h =
+    let f = λ (out : Side × Msg). options_of b out.1 in
+    let e = sum_by-cons f (Rd, m) ((Wr, m) ∷ []) in
+    let k = sum_by-cons f (Wr, m) [] in
+    omega (arith, e, k, h)
+
+if_keeps : (b c : Bool) (m : Msg) (x y : OutList) → Keeps b m x → Keeps b m y → Keeps b m (cond c x y)
+if_keeps b true m x y p q = p
+if_keeps b false m x y p q = q
+
+action_if_keeps : (b c : Bool) (m : Msg) (x y : Action Kind) → Keeps b m x.outs → Keeps b m y.outs → Keeps b m (cond c x y).outs
+action_if_keeps b true m x y p q = p
+action_if_keeps b false m x y p q = q
+
+-- data set no options, and nor do protocol messages
+data_sets_none : (b : Bool) (m : Msg) (dat : Part) → m.kind ≡ MData → options_by b m.kind dat ≡ 0
+data_sets_none b m dat at = ap (λ kind. options_by b kind dat) at
+
+table_keeps : (b : Bool) (table : List ℕ) (side : Side) (kind : MsgKind) (m : Msg) → m.kind ≡ kind → Keeps b m (table_action table side kind m).outs
+table_keeps b table Rd kind m at = same_keeps b Rd m
+table_keeps b table Wr MData m at = other_keeps b Wr m (record m { dat = option_map (mapped table) m.dat }) (data_sets_none b m (option_map (mapped table) m.dat) at)
+table_keeps b table Wr (MIoctl id cmd) m at =
+    action_if_keeps b (cmd == 3) m _ _ (other_keeps b Rd m (ack_msg id (part_len m.dat) (option_map (mapped table) m.dat)) refl) (same_keeps b Wr m)
+table_keeps b table Wr kind m at = same_keeps b Wr m
+
+crnl_keeps : (b : Bool) (side : Side) (kind : MsgKind) (m : Msg) → m.kind ≡ kind → Keeps b m (crnl_action side kind m).outs
+crnl_keeps b Rd MData m at = other_keeps b Rd m (record m { dat = option_map without_cr m.dat }) (data_sets_none b m (option_map without_cr m.dat) at)
+crnl_keeps b Wr MData m at = other_keeps b Wr m (record m { dat = option_map with_cr m.dat }) (data_sets_none b m (option_map with_cr m.dat) at)
+crnl_keeps b Rd kind m at = same_keeps b Rd m
+crnl_keeps b Wr kind m at = same_keeps b Wr m
+
+lines_keep : (b : Bool) (m : Msg) (bytes : List ℕ) → Keeps b m (line_splits bytes).outs
+lines_keep b m bytes =
+    action_if_keeps b (nat_lt MOST_KEPT (rest_len bytes)) m _ _ (other_keeps b Rd m (data_msg 0 bytes) refl)
+    (if_keeps b (length (whole_lines bytes) == 0) m _ _ (none_keeps b m) (other_keeps b Rd m (data_msg 0 (whole_lines bytes)) refl))
+
+line_keeps : (b : Bool) (partial : List ℕ) (side : Side) (kind : MsgKind) (m : Msg) → Keeps b m (line_action partial side kind m).outs
+line_keeps b partial Rd MData m =
+    action_if_keeps b (m.band == 0) m _ _ (lines_keep b m (partial ++ unwrap_or m.dat [])) (same_keeps b Rd m)
+line_keeps b partial Rd kind m = same_keeps b Rd m
+line_keeps b partial Wr kind m = same_keeps b Wr m
+
+count_keeps : (b : Bool) (n : ℕ) (side : Side) (kind : MsgKind) (m : Msg) → Keeps b m (count_action n side kind m).outs
+count_keeps b n Rd kind m = same_keeps b Rd m
+count_keeps b n Wr (MIoctl id cmd) m =
+    action_if_keeps b (cmd == 1) m _ _ (other_keeps b Rd m (ack_msg id n None) refl)
+    (action_if_keeps b (cmd == 2) m _ _ (other_keeps b Rd m (ack_msg id n None) refl) (same_keeps b Wr m))
+count_keeps b n Wr kind m = same_keeps b Wr m
+
+band_keeps : (b : Bool) (band : ℕ) (side : Side) (kind : MsgKind) (m : Msg) → Keeps b m (band_action band side kind m).outs
+band_keeps b band Rd kind m = same_keeps b Rd m
+band_keeps b band Wr MData m = one_keeps b Wr m (record m { band = band }) (omega arith)
+band_keeps b band Wr MProto m = one_keeps b Wr m (record m { band = band }) (omega arith)
+band_keeps b band Wr kind m = same_keeps b Wr m
+
+tee_keeps : (b : Bool) (side : Side) (kind : MsgKind) (m : Msg) → m.kind ≡ kind → Keeps b m (tee_action side kind m).outs
+tee_keeps b Rd kind m at = same_keeps b Rd m
+tee_keeps b Wr MData m at = two_keep b m (data_sets_none b m m.dat at)
+tee_keeps b Wr kind m at = same_keeps b Wr m
+
+mute_keeps : (b : Bool) (side : Side) (kind : MsgKind) (m : Msg) → Keeps b m (mute_action side kind m).outs
+mute_keeps b Rd kind m = same_keeps b Rd m
+mute_keeps b Wr MData m = none_keeps b m
+mute_keeps b Wr kind m = same_keeps b Wr m
+
+acts_keep : (b : Bool) (kind : Kind) (side : Side) (m : Msg) → Keeps b m (ordinary_action kind side m).outs
+acts_keep b Pass side m = same_keeps b side m
+acts_keep b (Table table) side m = table_keeps b table side m.kind m refl
+acts_keep b CrNl side m = crnl_keeps b side m.kind m refl
+acts_keep b (Line partial) side m = line_keeps b partial side m.kind m
+acts_keep b (Count n) side m = count_keeps b n side m.kind m
+acts_keep b (Band band) side m = band_keeps b band side m.kind m
+acts_keep b Tee side m = tee_keeps b side m.kind m refl
+acts_keep b Mute side m = mute_keeps b side m.kind m
+
+-- what the eight kinds make of a calm message is calm, and sets no more options
 pub eight_calm : IsCalm eight
-eight_calm kind side m h =
-    action_if_calm (is_high m.kind) _ _ (one_calm (is_calm m.kind) h) (acts_calm kind side m h)
+eight_calm =
+    record {
+      calm = λ kind side m h.
+          action_if_calm (is_high m.kind) _ _ (one_calm (is_calm m.kind) h) (acts_calm kind side m h);
+      options = λ b kind side m. action_if_keeps b (is_high m.kind) m _ _ (same_keeps b side m) (acts_keep b kind side m);
+    }

@@ -1,9 +1,11 @@
--- Messages that flush nothing on their way, and vocabularies that make no other of them.
-use Rattle.std.specs.Prelude.{◌≡◌, Bool, true, false}
+-- Messages that flush nothing on their way, and vocabularies that make no other of them, and no options for the head.
+use Rattle.std.specs.Prelude.{◌≡◌, ◌≤◌, ◌==◌, ◌&&◌, ℕ, Bool, true, false, List, is_some, sum_by, if◌then◌else◌}
 use Rattle.std.specs.List.{list_all}
-use Rattle.strm_msg.specs.Message.{Msg}
+use Rattle.strm_msg.specs.Message.{Msg, Part}
+use Rattle.strm_msg.specs.Options.{options_asked}
 use Rattle.strm_msg.specs.declared.kind.MsgKind.{MsgKind}
-use Rattle.strm_msg.specs.declared.kind.MsgKind.TheVariants.{MData, MProto, MPcproto, MIoctl, MIocack, MIocnak, MFlush, MHangup, MError}
+use Rattle.strm_msg.specs.declared.kind.MsgKind.TheVariants.{MIoctl, MSetopts, MFlush, MError}
+use Rattle.strm_msg.specs.declared.options.TheConstants.{SETOPTS}
 use Rattle.strm_msg.specs.declared.words.Side.{Side}
 use Rattle.strm_module.specs.Kinds.{OutList, Meaning}
 use Rattle.strm_module.specs.declared.outs.Put.{Put}
@@ -11,15 +13,9 @@ use Rattle.strm_module.specs.declared.outs.Put.TheVariants.{Queue, Sent}
 
 -- all kinds but a flush and an error, which a head answers with a flush
 abbrev pub is_calm : MsgKind → Bool
-is_calm MData = true
-is_calm MProto = true
-is_calm MPcproto = true
-is_calm (MIoctl id cmd) = true
-is_calm (MIocack id rval) = true
-is_calm (MIocnak id errno) = true
 is_calm (MFlush r w band) = false
-is_calm MHangup = true
 is_calm (MError errno) = false
+is_calm kind = true
 
 -- all that leaves is calm
 abbrev pub are_calm : OutList → Bool
@@ -30,7 +26,28 @@ abbrev pub puts_calm : Put → Bool
 puts_calm (Queue m) = true
 puts_calm (Sent outs) = are_calm outs.items
 
--- what the kinds of a vocabulary make of a calm message is calm
-abbrev pub IsCalm : {K : Type 0} → Meaning K → Type 0
-IsCalm {K} means =
-    (kind : K) (side : Side) (m : Msg) → is_calm m.kind ≡ true → are_calm (means kind side m).outs ≡ true
+-- how often a message sets options of a head, where ioctls that ask for it are answered with an M_SETOPTS, or are not
+abbrev pub options_by : Bool → MsgKind → Part → ℕ
+options_by answered (MSetopts mode prot marks) dat = 1
+options_by answered (MIoctl id cmd) dat = if answered && (cmd == SETOPTS) && is_some (options_asked dat) then 1 else 0
+options_by answered kind dat = 0
+
+abbrev pub options_of : Bool → Msg → ℕ
+options_of answered m = options_by answered m.kind m.dat
+
+-- the same of all messages of a queue, and of all that leaves
+abbrev pub options_held : Bool → List Msg → ℕ
+options_held answered q = sum_by (options_of answered) q
+
+abbrev pub options_sent : Bool → OutList → ℕ
+options_sent answered outs = sum_by (λ out. options_of answered out.1) outs
+
+-- the same of what a put queues, and of what it sends at once
+abbrev pub puts_options : Bool → Put → ℕ
+puts_options answered (Queue m) = options_of answered m
+puts_options answered (Sent outs) = options_sent answered outs.items
+
+-- what the kinds of a vocabulary make of a calm message is calm, and options leave only where they came
+pub record IsCalm {K : Type 0} (means : Meaning K) : Type 0 where
+  pub calm : (kind : K) (side : Side) (m : Msg) → is_calm m.kind ≡ true → are_calm (means kind side m).outs ≡ true
+  pub options : (answered : Bool) (kind : K) (side : Side) (m : Msg) → options_sent answered (means kind side m).outs ≤ options_of answered m

@@ -3,7 +3,7 @@ use Rattle.std.proofs.Common.{◌≡◌, ◌<◌, ℕ, ◌&&◌, ◌||◌, not, 
 use Rattle.std.specs.Option.{option_and_then}
 use Rattle.strm_msg.specs.Message.{Msg, bare, data_msg, proto_msg, pcproto_msg}
 use Rattle.strm_msg.specs.Kind.{is_from_line}
-use Rattle.strm_msg.specs.declared.kind.MsgKind.TheVariants.{MFlush, MHangup, MError}
+use Rattle.strm_msg.specs.declared.kind.MsgKind.TheVariants.{MSetopts, MFlush, MHangup, MError}
 use Rattle.strm_call.specs.declared.request.TheConstants.{MAX_CONTROL, MAX_DATA}
 use Rattle.strm_qpair.specs.declared.driver.Driver.{Driver}
 use Rattle.strm_qpair.specs.declared.driver.Driver.TheVariants.{Echo, Loop, Line}
@@ -13,8 +13,8 @@ use Rattle.strm_history.specs.declared.setup.Setup.{Setup}
 use Rattle.strm_history.specs.declared.setup.TheConstants.{MOST_RING}
 use Rattle.strm_text.specs.Text.{number_of, number_from, halves_of}
 use Rattle.strm_verb.specs.Fault.{or_fault}
-use Rattle.strm_verb.specs.Field.{number_at, marks_at, part_upto, optional_upto, errno_at}
-use Rattle.strm_verb.specs.Arrival.{message_at, data_at, proto_at, pcproto_at, flush_at, flush_msg_at, hangup_at, error_at}
+use Rattle.strm_verb.specs.Field.{number_at, marks_at, kept_marks_at, part_upto, optional_upto, errno_at}
+use Rattle.strm_verb.specs.Arrival.{message_at, data_at, proto_at, pcproto_at, kept_mode_at, kept_prot_at, setopts_at, flush_at, flush_msg_at, hangup_at, error_at}
 use Rattle.strm_verb.specs.declared.arrival.MessageWord.{MessageWord}
 use Rattle.strm_verb.specs.declared.fault.Cause.TheVariants as causes
 use Rattle.strm_verb.specs.declared.field.TheConstants.{MOST_BAND, MOST_WORD}
@@ -118,6 +118,17 @@ pcproto_from_line (ctl ∷ dat ∷ []) m is =
     same FromLine (pcproto_msg control bytes) m is refl))
 pcproto_from_line (ctl ∷ dat ∷ more ∷ texts) m is = absurd cc
 
+setopts_from_line : (texts : List (List ℕ)) (m : Msg) → setopts_at texts ≡ Ok m → FromLine m
+setopts_from_line [] m is = absurd cc
+setopts_from_line (mode ∷ []) m is = absurd cc
+setopts_from_line (mode ∷ prot ∷ []) m is = absurd cc
+setopts_from_line (mode ∷ prot ∷ marks ∷ []) m is =
+    through (kept_mode_at mode) _ m is (λ set _ is.
+    through (kept_prot_at prot) _ m is (λ way _ is.
+    through (kept_marks_at marks) _ m is (λ pair _ is.
+    same FromLine (bare (MSetopts set way pair)) m is refl)))
+setopts_from_line (mode ∷ prot ∷ marks ∷ more ∷ texts) m is = absurd cc
+
 flush_from_line : (texts : List (List ℕ)) (m : Msg) → flush_msg_at texts ≡ Ok m → FromLine m
 flush_from_line [] m is = absurd cc
 flush_from_line (flags ∷ []) m is = through (flush_at flags) _ m is (λ sides _ is. same FromLine (bare (MFlush sides.0 sides.1 None)) m is refl)
@@ -137,6 +148,7 @@ pub message_from_line : (word : MessageWord) (texts : List (List ℕ)) (m : Msg)
 message_from_line MessageWord.Data texts m is = data_from_line texts m is
 message_from_line MessageWord.Proto texts m is = proto_from_line texts m is
 message_from_line MessageWord.Pcproto texts m is = pcproto_from_line texts m is
+message_from_line MessageWord.Setopts texts m is = setopts_from_line texts m is
 message_from_line MessageWord.Flush texts m is = flush_from_line texts m is
 message_from_line MessageWord.Hangup texts m is = hangup_from_line texts m is
 message_from_line MessageWord.Error texts m is = error_from_line texts m is

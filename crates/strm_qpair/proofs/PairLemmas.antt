@@ -2,17 +2,10 @@
 use Rattle.std.proofs.Common.{◌≡◌, false, refl}
 use Rattle.strm_msg.specs.Kind.{is_high}
 use Rattle.strm_msg.specs.declared.kind.MsgKind.{MsgKind}
-use Rattle.strm_msg.specs.declared.kind.MsgKind.TheVariants.{MData, MProto, MPcproto, MIoctl, MIocack, MIocnak, MFlush, MHangup, MError}
+use Rattle.strm_msg.specs.declared.kind.MsgKind.TheVariants.{MFlush}
 use Rattle.strm_qpair.specs.Pair.{QueuePair, flushed_pair}
 
 -- only a flush empties queues, and it is high
 pub flushed_pair-ordinary : {K : Type 0} (s : QueuePair K) (kind : MsgKind) → is_high kind ≡ false → flushed_pair s kind ≡ s
-flushed_pair-ordinary s MData h = refl
-flushed_pair-ordinary s MProto h = refl
-flushed_pair-ordinary s MPcproto h = refl
-flushed_pair-ordinary s (MIoctl id cmd) h = refl
-flushed_pair-ordinary s (MIocack id rval) h = refl
-flushed_pair-ordinary s (MIocnak id errno) h = refl
 flushed_pair-ordinary s (MFlush r w band) h = cc
-flushed_pair-ordinary s MHangup h = refl
-flushed_pair-ordinary s (MError errno) h = refl
+flushed_pair-ordinary s kind h = refl

@@ -5,7 +5,7 @@ use Rattle.std.specs.Cmp.Derive.{both_true}
 use Rattle.strm_msg.specs.Message.{Msg}
 use Rattle.strm_msg.specs.Kind.{is_high}
 use Rattle.strm_msg.specs.declared.kind.MsgKind.{MsgKind}
-use Rattle.strm_msg.specs.declared.kind.MsgKind.TheVariants.{MData, MProto, MPcproto, MIoctl, MIocack, MIocnak, MFlush, MHangup, MError}
+use Rattle.strm_msg.specs.declared.kind.MsgKind.TheVariants.{MData, MProto, MFlush}
 use Rattle.strm_msg.specs.declared.words.Side.{Side}
 use Rattle.strm_msg.specs.declared.words.Side.TheVariants.{Rd, Wr}
 use Rattle.strm_msg.specs.Marks.{WaterMarks}
@@ -100,15 +100,8 @@ module _ {K : Type 0} where
   waits-shape s shape rd wr h = rw (rd, wr) h
 
   pub waits-flushed : (s : QueuePair K) (kind : MsgKind) → waits_well s ≡ true → waits_well (flushed_pair s kind) ≡ true
-  waits-flushed s MData h = h
-  waits-flushed s MProto h = h
-  waits-flushed s MPcproto h = h
-  waits-flushed s (MIoctl id cmd) h = h
-  waits-flushed s (MIocack id rval) h = h
-  waits-flushed s (MIocnak id errno) h = h
   waits-flushed s (MFlush r w band) h = both_true (waits-flushed_if s.shape.rd r band s.rd (waits-rd s h)) (waits-flushed_if s.shape.wr w band s.wr (waits-wr s h))
-  waits-flushed s MHangup h = h
-  waits-flushed s (MError errno) h = h
+  waits-flushed s kind h = h
 
   -- a flush after the module has answered
   pub waits-sent : (s : QueuePair K) (shape : Shape K) (kind : MsgKind) (new : QueuePair K) → new ≡ flushed_pair (record s { shape = shape }) kind → shape.rd ≡ s.shape.rd → shape.wr ≡ s.shape.wr → waits_well s ≡ true → waits_well new ≡ true

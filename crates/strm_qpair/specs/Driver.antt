@@ -1,8 +1,10 @@
 -- What a driver does with a message that comes down (Programmer's Guide: STREAMS, "Drivers" and "Loop-Around Driver").
-use Rattle.std.specs.Prelude.{ℕ, Bool, true, false, Option, if◌then◌else◌}
+use Rattle.std.specs.Prelude.{ℕ, ◌==◌, Bool, true, false, Option, Some, if◌then◌else◌}
 use Rattle.strm_msg.specs.Message.{Msg, bare}
+use Rattle.strm_msg.specs.Options.{options_asked}
+use Rattle.strm_msg.specs.declared.options.TheConstants.{SETOPTS}
 use Rattle.strm_msg.specs.declared.kind.MsgKind.{MsgKind}
-use Rattle.strm_msg.specs.declared.kind.MsgKind.TheVariants.{MData, MProto, MPcproto, MIoctl, MIocnak, MFlush}
+use Rattle.strm_msg.specs.declared.kind.MsgKind.TheVariants.{MData, MProto, MPcproto, MIoctl, MSetopts, MIocnak, MFlush}
 use Rattle.strm_msg.specs.declared.errno.Errno.TheVariants.{EINVAL}
 use Rattle.strm_queue.specs.Queue.{put_in}
 use Rattle.strm_qpair.specs.Pair.{flushed_if}
@@ -10,7 +12,7 @@ use Rattle.strm_qpair.specs.End.{EndState, in_drv}
 use Rattle.strm_qpair.specs.declared.driver.Driver.{Driver}
 use Rattle.strm_qpair.specs.declared.driver.Driver.TheVariants.{Echo, Loop, Line}
 use Rattle.strm_qpair.specs.declared.driver.DriverSends.{DriverSends}
-use Rattle.strm_qpair.specs.declared.driver.DriverSends.TheVariants.{Nothing, Reply, Across}
+use Rattle.strm_qpair.specs.declared.driver.DriverSends.TheVariants.{Nothing, Reply, Across, Options}
 
 -- an end afterwards, and what its driver sends up
 pub record DriverStep (K : Type 0) : Type 0 where
@@ -36,15 +38,25 @@ line_does e kind = consumes e
 
 -- the list of an echo or a loop holds what came down, so it is flushed as a write queue; a high protocol message goes on
 -- at once
+abbrev pub loop_does : {K : Type 0} → EndState K → MsgKind → Msg → DriverStep K
+loop_does e (MFlush r w band) m = record { state = in_drv e (flushed_if w band e.drv); sends = flush_up r band }
+loop_does e (MIoctl id cmd) m = refuses e id
+loop_does e MData m = consumes (in_drv e (put_in e.drv m))
+loop_does e MProto m = consumes (in_drv e (put_in e.drv m))
+loop_does e MPcproto m = record { state = e; sends = Across m }
+loop_does e kind m = consumes e
+
+-- options that an ioctl asks for are sent up before its ack; a request that is none is refused
+abbrev pub options_up : ℕ → Option MsgKind → DriverSends
+options_up id (Some (MSetopts mode prot marks)) = Options mode prot marks id
+options_up id asked = Reply (bare (MIocnak id EINVAL))
+
+-- an echo is a loop with one end, that has an ioctl of its own
 abbrev pub echo_does : {K : Type 0} → EndState K → MsgKind → Msg → DriverStep K
-echo_does e (MFlush r w band) m = record { state = in_drv e (flushed_if w band e.drv); sends = flush_up r band }
-echo_does e (MIoctl id cmd) m = refuses e id
-echo_does e MData m = consumes (in_drv e (put_in e.drv m))
-echo_does e MProto m = consumes (in_drv e (put_in e.drv m))
-echo_does e MPcproto m = record { state = e; sends = Across m }
-echo_does e kind m = consumes e
+echo_does e (MIoctl id cmd) m = if cmd == SETOPTS then record { state = e; sends = options_up id (options_asked m.dat) } else refuses e id
+echo_does e kind m = loop_does e kind m
 
 abbrev pub driver_at : {K : Type 0} → Driver → EndState K → Msg → DriverStep K
 driver_at Line e m = line_does e m.kind
 driver_at Echo e m = echo_does e m.kind m
-driver_at Loop e m = echo_does e m.kind m
+driver_at Loop e m = loop_does e m.kind m

@@ -1,11 +1,15 @@
 -- What a stream head does with a message that comes up (Programmer's Guide: STREAMS, "Stream Head"; streamio(7), getmsg(2)).
-use Rattle.std.specs.Prelude.{ℕ, ◌==◌, ◌&&◌, Bool, true, false, Option, Some, None, if◌then◌else◌, is_none}
+use Rattle.std.specs.Prelude.{ℕ, ◌==◌, ◌&&◌, nat_lt, Bool, true, false, Option, Some, None, if◌then◌else◌, is_none, unwrap_or}
+use Rattle.strm_msg.specs.Marks.{WaterMarks}
 use Rattle.strm_msg.specs.Message.{Msg, bare}
 use Rattle.strm_msg.specs.declared.kind.MsgKind.{MsgKind}
-use Rattle.strm_msg.specs.declared.kind.MsgKind.TheVariants.{MData, MProto, MPcproto, MIoctl, MIocack, MIocnak, MFlush, MHangup, MError}
+use Rattle.strm_msg.specs.declared.kind.MsgKind.TheVariants.{MData, MProto, MPcproto, MSetopts, MIocack, MIocnak, MFlush, MHangup, MError}
+use Rattle.strm_msg.specs.declared.words.ReadMode.{ReadMode}
+use Rattle.strm_msg.specs.declared.words.Prot.{Prot}
 use Rattle.strm_queue.specs.Queue.{put_in, has_pcproto}
 use Rattle.strm_qpair.specs.Pair.{flushed_if}
 use Rattle.strm_qpair.specs.End.{EndState, in_head, in_state}
+use Rattle.strm_qpair.specs.Change.{with_mode}
 use Rattle.strm_qpair.specs.declared.record.Record.{Record}
 
 abbrev pub is_id : Option ℕ → ℕ → Bool
@@ -28,19 +32,31 @@ keeps e = record { state = e; sends = None }
 abbrev pub flush_down : Bool → Option ℕ → Option Msg
 flush_down w band = if w then Some (bare (MFlush false true band)) else None
 
+-- marks are taken where the low one is below the high one
+abbrev pub marks_set : WaterMarks → Option (ℕ × ℕ) → WaterMarks
+marks_set old None = old
+marks_set old (Some marks) = if nat_lt marks.1 marks.0 then record { hi = marks.0; lo = marks.1 } else old
+
+-- what is given of how the head reads and of its marks is set, and the rest stays (M_SETOPTS: SO_READOPT, SO_HIWAT, SO_LOWAT)
+abbrev pub with_options : {K : Type 0} → EndState K → Option ReadMode → Option Prot → Option (ℕ × ℕ) → EndState K
+with_options e mode prot marks =
+    record e { head_marks = marks_set e.head_marks marks; state = with_mode e.state (unwrap_or mode e.state.mode) (unwrap_or prot e.state.prot) }
+
 -- the head of an open end: data and protocol messages are put into its list, even a full one; of M_PCPROTO it holds one;
--- an error is kept, a later one in place of it, and all queues are flushed; what else comes is dropped
+-- options are set, and not queued; an error is kept, a later one in place of it, and all queues are flushed; what else comes
+-- is dropped
 abbrev pub open_head : {K : Type 0} → EndState K → MsgKind → Msg → HeadStep K
 open_head e MData m = keeps (in_head e (put_in e.head m))
 open_head e MProto m = keeps (in_head e (put_in e.head m))
 open_head e MPcproto m = keeps (if has_pcproto e.head then e else in_head e (put_in e.head m))
-open_head e (MIoctl id cmd) m = keeps e
+open_head e (MSetopts mode prot marks) m = keeps (with_options e mode prot marks)
 open_head e (MIocack id rval) m = keeps (in_state e (kept_answer e.state id m))
 open_head e (MIocnak id errno) m = keeps (in_state e (kept_answer e.state id m))
 open_head e (MFlush r w band) m = record { state = in_head e (flushed_if r band e.head); sends = flush_down w band }
 open_head e MHangup m = keeps (in_state e (record e.state { hung = true }))
 open_head e (MError errno) m =
     record { state = in_state e (record e.state { errno = Some errno }); sends = Some (bare (MFlush true true None)) }
+open_head e kind m = keeps e
 
 -- the head of a closed end drops everything
 abbrev pub head_does : {K : Type 0} → EndState K → Msg → HeadStep K

@@ -30,10 +30,10 @@ pub record SameIds (old new : Record) : Type 0 where
   pub pending : new.pending ≡ old.pending
   pub kept : old.pending ≡ None → new.kept ≡ old.kept
 
--- an end that is open or closed as before, with the same marks, the same modules and the same ids
+-- an end that is open or closed as before, over the same driver's marks, with the same modules and the same ids; the head's
+-- marks are set by messages
 pub record SameEnd {K : Type 0} (old new : EndState K) : Type 0 where
   pub is_open : new.is_open ≡ old.is_open
-  pub head_marks : new.head_marks ≡ old.head_marks
   pub drv_marks : new.drv_marks ≡ old.drv_marks
   pub modules : identities_of new.modules ≡ identities_of old.modules
   pub ids : SameIds old.state new.state

@@ -1,10 +1,11 @@
 //! The driver at the bottom of a stream.
-use strm_msg::Message;
+use strm_msg::{Message, Prot, ReadMode};
 
 /// What stands at the bottom of a stream.
 #[derive(Clone, Copy, Debug, PartialEq, Eq)]
 pub enum Driver {
-    /// Sends what comes down back up the same end.
+    /// Sends what comes down back up the same end, and the options for the head up that an ioctl of command `SETOPTS`
+    /// asks for.
     Echo,
     /// Sends what comes down one end up the other.
     Loop,
@@ -22,4 +23,15 @@ pub enum DriverSends {
     Reply(Message),
     /// A message on, up the read side that what came down this end goes up.
     Across(Message),
+    /// Options up the end on which the ioctl came that asked for them, and then its ack, without value and data.
+    Options {
+        /// How read treats the bounds of messages, where it is given.
+        mode: Option<ReadMode>,
+        /// How read treats control parts, where it is given.
+        prot: Option<Prot>,
+        /// The high and the low water mark of the head, where they are given, in bytes.
+        marks: Option<(u32, u32)>,
+        /// Which ioctl asked for them.
+        id: u64,
+    },
 }

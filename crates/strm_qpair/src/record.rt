@@ -1,5 +1,5 @@
 //! What a head remembers beside its list.
-ghost use Rattle.std.specs.Prelude.{◌≡◌};
+ghost use Rattle.std.specs.Prelude.{◌≡◌, unwrap_or};
 ghost use Rattle.strm_qpair.specs.Change.{fresh_record, with_mode, begun, undone, ended};
 ghost use Rattle.strm_qpair.specs.Head.{kept_answer};
 ghost use Rattle.strm_qpair.specs.Modules.{SameIds};
@@ -57,6 +57,14 @@ impl Record {
     {
         self.mode = mode;
         self.prot = prot;
+    }
+
+    /// Sets what is given of how read treats messages.
+    pub(crate) fn set_given(&mut self, mode: Option<ReadMode>, prot: Option<Prot>)
+        ensures { self.new ≡ with_mode self.old (unwrap_or mode self.old.mode) (unwrap_or prot self.old.prot) }
+    {
+        self.mode = mode.unwrap_or(self.mode);
+        self.prot = prot.unwrap_or(self.prot);
     }
 
     /// Takes the next id, whose answer is then awaited.

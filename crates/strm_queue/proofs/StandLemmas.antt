@@ -9,7 +9,7 @@ use Rattle.std.proofs.lemmas.List.Sums.{sum_by-cons}
 use Rattle.strm_msg.specs.Message.{Msg, rank_of, weight_of}
 use Rattle.strm_msg.specs.Kind.{is_high}
 use Rattle.strm_msg.specs.declared.kind.MsgKind.{MsgKind}
-use Rattle.strm_msg.specs.declared.kind.MsgKind.TheVariants.{MData, MProto, MPcproto, MIoctl, MIocack, MIocnak, MFlush, MHangup, MError}
+use Rattle.strm_msg.specs.declared.kind.MsgKind.TheVariants.{MPcproto}
 use Rattle.strm_queue.specs.Queue.{is_flushed, is_of_band, is_pcproto, weight_in, held_of, flush_band_of}
 use Rattle.strm_queue.specs.Lanes.{stands_in}
 use Rattle.strm_queue.proofs.ListLemmas.{all_so, filter_so, filter_true, filter_false, filter_ext, filter_twice}
@@ -141,14 +141,7 @@ pcproto_stands m h = by_kind m.kind h
   where
     by_kind : (kind : MsgKind) → is_pcproto kind ≡ true → (if is_high kind then 256 == 256 else (nat_lt 256 256 && (m.band == 256))) ≡ true
     by_kind MPcproto h = refl
-    by_kind MData h = cc
-    by_kind MProto h = cc
-    by_kind (MIoctl id cmd) h = cc
-    by_kind (MIocack id rval) h = refl
-    by_kind (MIocnak id errno) h = refl
-    by_kind (MFlush r w band) h = refl
-    by_kind MHangup h = refl
-    by_kind (MError errno) h = refl
+    by_kind kind h = cc
 
 -- an ordinary message of a band is there where one stands in its lane
 pub has-band : (band : ℕ) (q : List Msg) → band < 256 → list_any (λ m. not (is_high m.kind) && (m.band == band)) q ≡ not (length (filter (stands_in band) q) == 0)

@@ -5,7 +5,7 @@ use Rattle.strm_msg.specs.Marks.{WaterMarks}
 use Rattle.strm_msg.specs.Message.{Msg, rank_of, weight_of}
 use Rattle.strm_msg.specs.Kind.{is_high}
 use Rattle.strm_msg.specs.declared.kind.MsgKind.{MsgKind}
-use Rattle.strm_msg.specs.declared.kind.MsgKind.TheVariants.{MData, MProto, MPcproto, MIoctl, MIocack, MIocnak, MFlush, MHangup, MError}
+use Rattle.strm_msg.specs.declared.kind.MsgKind.TheVariants.{MData, MProto, MPcproto}
 
 -- a queue: its marks, its messages in the order in which they are taken, and for each rank how many
 -- more it takes without memory
@@ -40,12 +40,7 @@ abbrev pub is_flushed : MsgKind → Bool
 is_flushed MData = true
 is_flushed MProto = true
 is_flushed MPcproto = true
-is_flushed (MIoctl id cmd) = false
-is_flushed (MIocack id rval) = false
-is_flushed (MIocnak id errno) = false
-is_flushed (MFlush r w band) = false
-is_flushed MHangup = false
-is_flushed (MError errno) = false
+is_flushed kind = false
 
 -- what a flush leaves
 abbrev pub flush_of : List Msg → List Msg

@@ -56,6 +56,13 @@ impl BandQueue {
         }
     }
 
+    /// Sets the water marks, and changes nothing else (M_SETOPTS). Takes no memory.
+    pub fn set_marks(&mut self, marks: Marks)
+        ensures { self.new ≡ record self.old { marks = marks } }
+    {
+        self.marks = marks;
+    }
+
     /// Puts a message behind those of its rank (putq(9F)). The marks hold nothing back: a full queue
     /// takes messages too.
     ///

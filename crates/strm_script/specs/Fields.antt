@@ -6,12 +6,12 @@ use Rattle.std.specs.Fmt.{decimal}
 use Rattle.strm_msg.specs.Message.{Msg}
 use Rattle.strm_msg.specs.Text.{name_of}
 use Rattle.strm_msg.specs.declared.kind.MsgKind.{MsgKind}
-use Rattle.strm_msg.specs.declared.kind.MsgKind.TheVariants.{MData, MProto, MPcproto, MFlush, MHangup, MError}
+use Rattle.strm_msg.specs.declared.kind.MsgKind.TheVariants.{MData, MProto, MPcproto, MSetopts, MFlush, MHangup, MError}
 use Rattle.strm_msg.specs.Marks.{WaterMarks}
 use Rattle.strm_module.specs.declared.kind.Kind.{Kind}
 use Rattle.strm_module.specs.declared.shape.Shape.{Shape}
 use Rattle.strm_text.specs.Spelling.{part_text}
-use Rattle.strm_verb.specs.Words.{flush_word}
+use Rattle.strm_verb.specs.Words.{mode_word, prot_word, flush_word}
 use Rattle.strm_verb.specs.Field.{Field, Bytes, Number, Pair, Word, part_field}
 use Rattle.strm_verb.specs.Push.{kind_word}
 use Rattle.strm_verb.specs.Table.{Asked, Told, Pushed}
@@ -83,6 +83,16 @@ fields_of (Pushed shape) = push_fields shape
 
 -- ---- messages that came in
 
+-- a word of a choice, or `-` where it stays as it is
+abbrev pub kept_field : {X : Type 0} → (X → List ℕ) → Option X → Field
+kept_field word None = Word (codes "-")
+kept_field word (Some x) = Word (word x)
+
+-- the high and the low mark, or `-` where they stay
+abbrev pub kept_marks : Option (ℕ × ℕ) → Field
+kept_marks None = Word (codes "-")
+kept_marks (Some marks) = Pair marks.0 marks.1
+
 -- of a flush of all bands, or of one, which alone has a word of its own
 abbrev pub flush_fields : Option ℕ → List ℕ → List Field
 flush_fields None flags = Word (message_word MessageWord.Flush) ∷ Word flags ∷ []
@@ -92,6 +102,8 @@ abbrev pub message_fields_by : MsgKind → Msg → List Field
 message_fields_by MData m = Word (message_word MessageWord.Data) ∷ Number m.band ∷ part_field m.dat ∷ []
 message_fields_by MProto m = Word (message_word MessageWord.Proto) ∷ Number m.band ∷ part_field m.ctl ∷ part_field m.dat ∷ []
 message_fields_by MPcproto m = Word (message_word MessageWord.Pcproto) ∷ part_field m.ctl ∷ part_field m.dat ∷ []
+message_fields_by (MSetopts mode prot marks) m =
+    Word (message_word MessageWord.Setopts) ∷ kept_field mode_word mode ∷ kept_field prot_word prot ∷ kept_marks marks ∷ []
 message_fields_by (MFlush r w band) m = flush_fields band (flush_word r w)
 message_fields_by MHangup m = Word (message_word MessageWord.Hangup) ∷ []
 message_fields_by (MError errno) m = Word (message_word MessageWord.Error) ∷ Word (name_of errno) ∷ []

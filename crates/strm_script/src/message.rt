@@ -2,13 +2,15 @@
 ghost use Rattle.std.specs.Prelude.{◌∷◌, [], OnOk};
 ghost use Rattle.std.specs.Io.KnownBytes.{Appends};
 ghost use Rattle.strm_verb.specs.Field.{Number, Word};
+ghost use Rattle.strm_verb.specs.Arrival.{message_word};
+ghost use Rattle.strm_verb.specs.declared.arrival.MessageWord.TheVariants as message_words;
 ghost use Rattle.strm_verb.specs.Words as words;
 ghost use Rattle.strm_script.specs.Fields as text;
 
-use crate::field::{put_number, put_part_or_none, put_word};
+use crate::field::{put_number, put_pair, put_part_or_none, put_word};
 use std::io::{self, Write};
-use strm_msg::{Message, MsgKind};
-use strm_verb::{MessageWord, Verb, flush_word};
+use strm_msg::{Message, MsgKind, Prot, ReadMode};
+use strm_verb::{MessageWord, Verb, flush_word, mode_word, prot_word};
 
 /// Writes a band, and the sides of a flush.
 #[tactic(auto, using(strm_text::proofs::WriteLemmas::appends_then))]
@@ -36,6 +38,52 @@ fn put_flush<W: Write>(w: &mut W, band: Option<u8>, read: bool, write: bool) -> 
     }
 }
 
+/// Writes a word of how reads treat the bounds of messages, or `-` where there is none.
+fn put_mode<W: Write>(w: &mut W, mode: Option<ReadMode>) -> io::Result<()>
+    ensures { OnOk result (Appends (W.contents w.old) (W.contents w.new) (text.spaced (text.kept_field words.mode_word mode ∷ []))) }
+{
+    match mode {
+        None => put_word(w, b"-"),
+        Some(mode) => put_word(w, mode_word(mode)),
+    }
+}
+
+/// Writes a word of how reads treat control, or `-` where there is none.
+fn put_prot<W: Write>(w: &mut W, prot: Option<Prot>) -> io::Result<()>
+    ensures { OnOk result (Appends (W.contents w.old) (W.contents w.new) (text.spaced (text.kept_field words.prot_word prot ∷ []))) }
+{
+    match prot {
+        None => put_word(w, b"-"),
+        Some(prot) => put_word(w, prot_word(prot)),
+    }
+}
+
+/// Writes marks, or `-` where there are none.
+fn put_marks<W: Write>(w: &mut W, marks: Option<(u32, u32)>) -> io::Result<()>
+    ensures { OnOk result (Appends (W.contents w.old) (W.contents w.new) (text.spaced (text.kept_marks marks ∷ []))) }
+{
+    match marks {
+        None => put_word(w, b"-"),
+        Some((high, low)) => put_pair(w, high, low),
+    }
+}
+
+/// Writes options for the head.
+#[tactic(auto, using(strm_text::proofs::WriteLemmas::appends_then))]
+fn put_options<W: Write>(
+    w: &mut W,
+    mode: Option<ReadMode>,
+    prot: Option<Prot>,
+    marks: Option<(u32, u32)>,
+) -> io::Result<()>
+    ensures { OnOk result (Appends (W.contents w.old) (W.contents w.new) (text.spaced (Word (message_word message_words.Setopts) ∷ text.kept_field words.mode_word mode ∷ text.kept_field words.prot_word prot ∷ text.kept_marks marks ∷ []))) }
+{
+    put_word(w, MessageWord::Setopts.word())?;
+    put_mode(w, mode)?;
+    put_prot(w, prot)?;
+    put_marks(w, marks)
+}
+
 /// Writes a message as a feed has it.
 #[tactic(auto, using(strm_text::proofs::WriteLemmas::appends_then))]
 pub(crate) fn put_message<W: Write>(w: &mut W, m: &Message) -> io::Result<()>
@@ -58,6 +106,7 @@ pub(crate) fn put_message<W: Write>(w: &mut W, m: &Message) -> io::Result<()>
             put_part_or_none(w, &m.ctl)?;
             put_part_or_none(w, &m.dat)
         }
+        MsgKind::MSetopts { mode, prot, marks } => put_options(w, mode, prot, marks),
         MsgKind::MFlush { r, w: write, band } => put_flush(w, band, r, write),
         MsgKind::MHangup => put_word(w, MessageWord::Hangup.word()),
         MsgKind::MError { errno } => {

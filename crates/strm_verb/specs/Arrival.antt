@@ -1,13 +1,17 @@
 -- The messages of a feed, whose parts are no greater than those that a call may send.
-use Rattle.std.specs.Prelude.{ℕ, Bool, true, false, List, [], ◌∷◌, Option, None, Result, Ok, Err, codes, if◌then◌else◌}
+use Rattle.std.specs.Prelude.{ℕ, Bool, true, false, List, [], ◌∷◌, Option, Some, None, Result, Ok, Err, codes, if◌then◌else◌}
 use Rattle.std.specs.Str.{bytes_eq}
 use Rattle.std.specs.List.{find}
 use Rattle.strm_msg.specs.Message.{Msg, bare, data_msg, proto_msg, pcproto_msg}
-use Rattle.strm_msg.specs.declared.kind.MsgKind.TheVariants.{MFlush, MHangup, MError}
+use Rattle.strm_msg.specs.declared.kind.MsgKind.TheVariants.{MSetopts, MFlush, MHangup, MError}
+use Rattle.strm_msg.specs.declared.words.ReadMode.{ReadMode}
+use Rattle.strm_msg.specs.declared.words.ReadMode.TheVariants.{Rnorm, Rmsgn, Rmsgd}
+use Rattle.strm_msg.specs.declared.words.Prot.{Prot}
+use Rattle.strm_msg.specs.declared.words.Prot.TheVariants as prots
 use Rattle.strm_call.specs.declared.request.TheConstants.{MAX_CONTROL, MAX_DATA}
 use Rattle.strm_verb.specs.Fault.{◌>>=◌}
-use Rattle.strm_verb.specs.Words.{flush_word}
-use Rattle.strm_verb.specs.Field.{number_at, part_upto, optional_upto, errno_at}
+use Rattle.strm_verb.specs.Words.{mode_word, prot_word, flush_word}
+use Rattle.strm_verb.specs.Field.{number_at, part_upto, optional_upto, kept_marks_at, errno_at}
 use Rattle.strm_verb.specs.declared.fault.Cause.{Cause}
 use Rattle.strm_verb.specs.declared.fault.Cause.TheVariants as causes
 use Rattle.strm_verb.specs.declared.arrival.MessageWord.{MessageWord}
@@ -18,16 +22,37 @@ abbrev pub message_word : MessageWord → List ℕ
 message_word MessageWord.Data = codes "data"
 message_word MessageWord.Proto = codes "proto"
 message_word MessageWord.Pcproto = codes "pcproto"
+message_word MessageWord.Setopts = codes "setopts"
 message_word MessageWord.Flush = codes "flush"
 message_word MessageWord.Hangup = codes "hangup"
 message_word MessageWord.Error = codes "error"
 
 abbrev pub all_messages : List MessageWord
-all_messages = MessageWord.Data ∷ MessageWord.Proto ∷ MessageWord.Pcproto ∷ MessageWord.Flush ∷ MessageWord.Hangup ∷ MessageWord.Error ∷ []
+all_messages = MessageWord.Data ∷ MessageWord.Proto ∷ MessageWord.Pcproto ∷ MessageWord.Setopts ∷ MessageWord.Flush ∷ MessageWord.Hangup ∷ MessageWord.Error ∷ []
 
 -- the message that a word names
 abbrev pub message_named : List ℕ → Option MessageWord
 message_named text = find (λ word. bytes_eq (message_word word) text) all_messages
+
+-- how reads treat the bounds of messages, and control
+abbrev pub mode_at : List ℕ → Result ReadMode Cause
+mode_at text =
+    if bytes_eq text (mode_word Rnorm) then Ok Rnorm
+    else (if bytes_eq text (mode_word Rmsgn) then Ok Rmsgn
+    else (if bytes_eq text (mode_word Rmsgd) then Ok Rmsgd else Err causes.UnknownWord))
+
+abbrev pub prot_at : List ℕ → Result Prot Cause
+prot_at text =
+    if bytes_eq text (prot_word prots.Norm) then Ok prots.Norm
+    else (if bytes_eq text (prot_word prots.Dat) then Ok prots.Dat
+    else (if bytes_eq text (prot_word prots.Dis) then Ok prots.Dis else Err causes.UnknownWord))
+
+-- the same, or `-` where it stays
+abbrev pub kept_mode_at : List ℕ → Result (Option ReadMode) Cause
+kept_mode_at text = if bytes_eq text (codes "-") then Ok None else (mode_at text >>= λ mode. Ok (Some mode))
+
+abbrev pub kept_prot_at : List ℕ → Result (Option Prot) Cause
+kept_prot_at text = if bytes_eq text (codes "-") then Ok None else (prot_at text >>= λ prot. Ok (Some prot))
 
 -- the sides that a flush is for, read and write
 abbrev pub flush_at : List ℕ → Result (Bool × Bool) Cause
@@ -62,6 +87,15 @@ pcproto_at (ctl ∷ dat ∷ []) = do
   Ok (pcproto_msg control bytes)
 pcproto_at texts = Err causes.Fields
 
+-- MODE PROT HI/LO, where `-` leaves each as it is
+abbrev pub setopts_at : List (List ℕ) → Result Msg Cause
+setopts_at (mode ∷ prot ∷ marks ∷ []) = do
+  m ← kept_mode_at mode
+  p ← kept_prot_at prot
+  w ← kept_marks_at marks
+  Ok (bare (MSetopts m p w))
+setopts_at texts = Err causes.Fields
+
 -- FLAGS
 abbrev pub flush_msg_at : List (List ℕ) → Result Msg Cause
 flush_msg_at (flags ∷ []) = flush_at flags >>= λ sides. Ok (bare (MFlush sides.0 sides.1 None))
@@ -81,6 +115,7 @@ abbrev pub message_at : MessageWord → List (List ℕ) → Result Msg Cause
 message_at MessageWord.Data texts = data_at texts
 message_at MessageWord.Proto texts = proto_at texts
 message_at MessageWord.Pcproto texts = pcproto_at texts
+message_at MessageWord.Setopts texts = setopts_at texts
 message_at MessageWord.Flush texts = flush_msg_at texts
 message_at MessageWord.Hangup texts = hangup_at texts
 message_at MessageWord.Error texts = error_at texts

@@ -91,6 +91,10 @@ marks_at text = do
   low ← number_at MOST_WORD halves.1
   if nat_lt low high then Ok (high, low) else Err causes.Marks
 
+-- marks, or `-` where they stay
+abbrev pub kept_marks_at : List ℕ → Result (Option (ℕ × ℕ)) Cause
+kept_marks_at text = if bytes_eq text (codes "-") then Ok None else (marks_at text >>= λ marks. Ok (Some marks))
+
 -- marks as a pair, the high one first
 abbrev pub pair_of : WaterMarks → ℕ × ℕ
 pair_of marks = (marks.hi, marks.lo)

@@ -5,11 +5,11 @@ ghost use Rattle.strm_verb.specs.Fault.{Gives};
 ghost use Rattle.strm_verb.specs.Arrival as arrivals;
 
 use crate::fault::{Cause, ReadError};
-use crate::field::{byte_at, optional_upto, part_upto};
-use crate::words::{errno_at, flush_at};
+use crate::field::{byte_at, kept_marks_at, optional_upto, part_upto};
+use crate::words::{errno_at, flush_at, mode_at, prot_at};
 use std::alloc::Global;
 use strm_call::{MAX_CONTROL, MAX_DATA};
-use strm_msg::{Message, MsgKind};
+use strm_msg::{Message, MsgKind, Prot, ReadMode};
 
 /// The kind of a message that comes in from a line, by its word alone.
 #[derive(Clone, Copy, Debug, PartialEq, Eq)]
@@ -20,6 +20,8 @@ pub enum MessageWord {
     Proto,
     /// High-priority protocol information (M_PCPROTO).
     Pcproto,
+    /// Options for the head (M_SETOPTS).
+    Setopts,
     /// A flush (M_FLUSH).
     Flush,
     /// A hangup (M_HANGUP).
@@ -29,10 +31,11 @@ pub enum MessageWord {
 }
 
 /// Each kind of message.
-const MESSAGES: [MessageWord; 6] = [
+const MESSAGES: [MessageWord; 7] = [
     MessageWord::Data,
     MessageWord::Proto,
     MessageWord::Pcproto,
+    MessageWord::Setopts,
     MessageWord::Flush,
     MessageWord::Hangup,
     MessageWord::Error,
@@ -47,6 +50,7 @@ impl MessageWord {
             MessageWord::Data => b"data",
             MessageWord::Proto => b"proto",
             MessageWord::Pcproto => b"pcproto",
+            MessageWord::Setopts => b"setopts",
             MessageWord::Flush => b"flush",
             MessageWord::Hangup => b"hangup",
             MessageWord::Error => b"error",
@@ -121,6 +125,40 @@ fn pcproto(alloc: Global, texts: &[&[u8]]) -> Result<Message, ReadError>
     })
 }
 
+/// How reads treat the bounds of messages, or none for `-`. Refused where no mode has this word.
+fn kept_mode_at(text: &[u8]) -> Result<Option<ReadMode>, ReadError>
+    ensures { Gives (λ mode. mode) result (arrivals.kept_mode_at text.now) }
+{
+    if text == b"-".as_slice() {
+        return Ok(None);
+    }
+    Ok(Some(mode_at(text)?))
+}
+
+/// How reads treat control, or none for `-`. Refused where no such way has this word.
+fn kept_prot_at(text: &[u8]) -> Result<Option<Prot>, ReadError>
+    ensures { Gives (λ prot. prot) result (arrivals.kept_prot_at text.now) }
+{
+    if text == b"-".as_slice() {
+        return Ok(None);
+    }
+    Ok(Some(prot_at(text)?))
+}
+
+/// `setopts MODE PROT HI/LO`, where `-` leaves each as it is.
+fn setopts(texts: &[&[u8]]) -> Result<Message, ReadError>
+    ensures message { Gives (λ m. m) result (arrivals.setopts_at (map (λ text. text.now) texts.now)) }
+    ensures line { IfOk result (λ m. is_from_line m.kind ≡ true) }
+{
+    let [mode, prot, marks] = texts else {
+        return Err(ReadError::Fault(Cause::Fields));
+    };
+    let mode = kept_mode_at(mode)?;
+    let prot = kept_prot_at(prot)?;
+    let marks = kept_marks_at(marks)?;
+    Ok(Message::of_setopts(mode, prot, marks))
+}
+
 /// `flush FLAGS`.
 fn flush(texts: &[&[u8]]) -> Result<Message, ReadError>
     ensures message { Gives (λ m. m) result (arrivals.flush_msg_at (map (λ text. text.now) texts.now)) }
@@ -166,6 +204,7 @@ pub fn message_at(alloc: Global, word: MessageWord, texts: &[&[u8]]) -> Result<M
         MessageWord::Data => data(alloc, texts),
         MessageWord::Proto => proto(alloc, texts),
         MessageWord::Pcproto => pcproto(alloc, texts),
+        MessageWord::Setopts => setopts(texts),
         MessageWord::Flush => flush(texts),
         MessageWord::Hangup => hangup(texts),
         MessageWord::Error => error(texts),

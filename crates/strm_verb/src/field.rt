@@ -121,6 +121,16 @@ pub fn marks_at(text: &[u8]) -> Result<(u32, u32), ReadError>
     Ok((marks.hi, marks.lo))
 }
 
+/// The high and the low mark of `HI/LO`, or none for `-`. Refused as marks are.
+pub(crate) fn kept_marks_at(text: &[u8]) -> Result<Option<(u32, u32)>, ReadError>
+    ensures { Gives (λ marks. marks) result (fields.kept_marks_at text.now) }
+{
+    if text == b"-".as_slice() {
+        return Ok(None);
+    }
+    Ok(Some(marks_at(text)?))
+}
+
 /// The water marks of a side, or none for `-`. Refused as marks are.
 pub(crate) fn side_at(text: &[u8]) -> Result<Option<Marks>, ReadError>
     ensures { Gives (λ side. side) result (fields.side_at text.now) }

@@ -149,7 +149,8 @@ pub(crate) fn get_at(text: &[u8]) -> Result<GetFlag, ReadError>
 
 /// How reads treat the bounds of messages. Refused where no mode has this word.
 pub(crate) fn mode_at(text: &[u8]) -> Result<ReadMode, ReadError>
-    ensures { Gives words.mode_word result (fields.choice_at words.mode_words text.now) }
+    ensures choice { Gives words.mode_word result (fields.choice_at words.mode_words text.now) }
+    ensures mode { Gives (λ mode. mode) result (arrivals.mode_at text.now) }
 {
     if text == b"rnorm".as_slice() {
         return Ok(ReadMode::Rnorm);
@@ -165,7 +166,8 @@ pub(crate) fn mode_at(text: &[u8]) -> Result<ReadMode, ReadError>
 
 /// How reads treat control. Refused where no such way has this word.
 pub(crate) fn prot_at(text: &[u8]) -> Result<Prot, ReadError>
-    ensures { Gives words.prot_word result (fields.choice_at words.prot_words text.now) }
+    ensures choice { Gives words.prot_word result (fields.choice_at words.prot_words text.now) }
+    ensures prot { Gives (λ prot. prot) result (arrivals.prot_at text.now) }
 {
     if text == b"norm".as_slice() {
         return Ok(Prot::Norm);

@@ -6,7 +6,7 @@ ghost use Rattle.strm_ends.specs.Image.{end_of, with_end, partner, count_of};
 ghost use Rattle.strm_chain.specs.Deliver.{put_at, up, down};
 ghost use Rattle.strm_ends.specs.Same.{SameModules};
 ghost use Rattle.strm_module.specs.Calm.{is_calm, IsCalm};
-ghost use Rattle.strm_chain.specs.Count.{Grows, are_calm_hops};
+ghost use Rattle.strm_chain.specs.Count.{options_in, options_carried, Grows, are_calm_hops};
 ghost use Rattle.strm_chain.specs.Hop.{carry, carry_all, load, up_hop, down_hop, hop_of, next_module};
 
 use super::Chain;
@@ -110,7 +110,7 @@ impl<M: ModuleOf> Chain<M> {
         ensures err { OnErr result (self.new.image ≡ self.old.image) }
         ensures same { SameModules self.old.image self.new.image }
         ensures given { self.new.run.given ≡ self.old.run.given }
-        ensures grows { OnOk result (IsCalm M.Kind.means → is_calm m.kind ≡ true → are_calm_hops hops.old.items ≡ true → Grows self.old self.new × (are_calm_hops hops.new.items ≡ true)) }
+        ensures grows { OnOk result (IsCalm M.Kind.means → is_calm m.kind ≡ true → are_calm_hops hops.old.items ≡ true → Grows self.old (options_in self.old.image m + options_carried self.old.image hops.old.items) self.new (options_carried self.old.image hops.new.items) × (are_calm_hops hops.new.items ≡ true)) }
     {
         let sends = self.head_does(end, m)?;
         if head_sent {
@@ -131,13 +131,13 @@ impl<M: ModuleOf> Chain<M> {
         end: End,
         m: Message,
     ) -> Result<(), NoMem>
-        requires { deque_len hops.old < deque_capacity hops.old }
+        requires { deque_len hops.old + 2 ≤ deque_capacity hops.old }
         ensures image { OnOk result (carry_all M.Kind.means self.new.image hops.new.items ≡ carry_all M.Kind.means (down M.Kind.means head_sent end 0 self.old.image m) hops.old.items) }
         ensures falls { OnOk result (load hops.new.items < load (down_hop head_sent end 0 m ∷ hops.old.items)) }
         ensures err { OnErr result (self.new.image ≡ self.old.image) }
         ensures same { SameModules self.old.image self.new.image }
         ensures given { self.new.run.given ≡ self.old.run.given }
-        ensures grows { OnOk result (IsCalm M.Kind.means → is_calm m.kind ≡ true → are_calm_hops hops.old.items ≡ true → Grows self.old self.new × (are_calm_hops hops.new.items ≡ true)) }
+        ensures grows { OnOk result (IsCalm M.Kind.means → is_calm m.kind ≡ true → are_calm_hops hops.old.items ≡ true → Grows self.old (options_in self.old.image m + options_carried self.old.image hops.old.items) self.new (options_carried self.old.image hops.new.items) × (are_calm_hops hops.new.items ≡ true)) }
     {
         let partner = partner_of(self.driver(), end);
         let own = self.count(end);
@@ -147,6 +147,17 @@ impl<M: ModuleOf> Chain<M> {
             DriverSends::Reply(m) => hops.push_front_reserved(Hop::up(head_sent, end, own, m)),
             DriverSends::Across(m) => {
                 hops.push_front_reserved(Hop::up(head_sent, partner, across, m))
+            }
+            DriverSends::Options {
+                mode,
+                prot,
+                marks,
+                id,
+            } => {
+                let ack = Message::of_ack(id, 0, None);
+                hops.push_front_reserved(Hop::up(head_sent, end, own, ack));
+                let options = Message::of_setopts(mode, prot, marks);
+                hops.push_front_reserved(Hop::up(head_sent, end, own, options));
             }
         }
         Ok(())
@@ -173,7 +184,7 @@ impl<M: ModuleOf> Chain<M> {
         ensures err { OnErr result (self.new.image ≡ self.old.image) }
         ensures same { SameModules self.old.image self.new.image }
         ensures given { self.new.run.given ≡ self.old.run.given }
-        ensures grows { OnOk result (IsCalm M.Kind.means → is_calm hop.m.kind ≡ true → are_calm_hops hops.old.items ≡ true → Grows self.old self.new × (are_calm_hops hops.new.items ≡ true)) }
+        ensures grows { OnOk result (IsCalm M.Kind.means → is_calm hop.m.kind ≡ true → are_calm_hops hops.old.items ≡ true → Grows self.old (options_in self.old.image hop.m + options_carried self.old.image hops.old.items) self.new (options_carried self.old.image hops.new.items) × (are_calm_hops hops.new.items ≡ true)) }
     {
         let Hop {
             head_sent,
@@ -196,7 +207,7 @@ impl<M: ModuleOf> Chain<M> {
         ensures err { OnErr result (self.new.image ≡ self.old.image) }
         ensures same { SameModules self.old.image self.new.image }
         ensures given { self.new.run.given ≡ self.old.run.given }
-        ensures grows { OnOk result (IsCalm M.Kind.means → is_calm hop.m.kind ≡ true → are_calm_hops hops.old.items ≡ true → Grows self.old self.new × (are_calm_hops hops.new.items ≡ true)) }
+        ensures grows { OnOk result (IsCalm M.Kind.means → is_calm hop.m.kind ≡ true → are_calm_hops hops.old.items ≡ true → Grows self.old (options_in self.old.image hop.m + options_carried self.old.image hops.old.items) self.new (options_carried self.old.image hops.new.items) × (are_calm_hops hops.new.items ≡ true)) }
     {
         hops.reserve(2)?;
         if hop.ahead > 0 {
@@ -220,7 +231,7 @@ impl<M: ModuleOf> Chain<M> {
         ensures ok { OnOk result (self.new.image ≡ carry_all M.Kind.means self.old.image hops.items) }
         ensures same { SameModules self.old.image self.new.image }
         ensures given { self.new.run.given ≡ self.old.run.given }
-        ensures grows { OnOk result (IsCalm M.Kind.means → are_calm_hops hops.items ≡ true → Grows self.old self.new) }
+        ensures grows { OnOk result (IsCalm M.Kind.means → are_calm_hops hops.items ≡ true → Grows self.old (options_carried self.old.image hops.items) self.new 0) }
     {
         while let Some(hop) = hops.pop_front() {
             self.hop(&mut hops, hop)?;

@@ -5,7 +5,7 @@ ghost use Rattle.strm_qpair.specs.End.{pair_at};
 ghost use Rattle.strm_qpair.specs.Modules.{HoldsOrdinary};
 ghost use Rattle.strm_qpair.specs.Head.{head_does};
 ghost use Rattle.strm_ends.specs.Image.{end_of, with_end, with_drv, driver_does};
-ghost use Rattle.strm_ends.specs.Held.{is_flush};
+ghost use Rattle.strm_ends.specs.Held.{is_flush, sets_options};
 ghost use Rattle.strm_ends.specs.Same.{SameModules};
 ghost use Rattle.strm_ends.specs.declared.place.NextQueue.TheVariants.{Of};
 ghost use Rattle.strm_chain.specs.declared.number.TheConstants.{QUEUES};
@@ -14,7 +14,8 @@ ghost use Rattle.strm_ends.specs.Held.{module_place};
 ghost use Rattle.strm_module.specs.Calm.{is_calm, IsCalm};
 ghost use Rattle.strm_ends.specs.declared.place.Place.TheVariants as Places;
 ghost use Rattle.strm_chain.specs.Enabled.{is_enabled};
-ghost use Rattle.strm_chain.specs.Count.{Grows, HasMoved};
+ghost use Rattle.strm_chain.specs.Count.{options_in, options_out, Grows, HasMoved};
+ghost use Rattle.strm_ends.specs.Count.{answers_options, options_driven};
 ghost use Rattle.strm_chain.specs.Deliver.{put_at};
 ghost use Rattle.strm_chain.specs.Service.{serve_at};
 
@@ -30,6 +31,16 @@ fn is_flush(kind: MsgKind) -> bool
 {
     match kind {
         MsgKind::MFlush { .. } => true,
+        _ => false,
+    }
+}
+
+/// Whether a message sets options of a head.
+fn sets_options(kind: MsgKind) -> bool
+    ensures { result ≡ sets_options kind }
+{
+    match kind {
+        MsgKind::MSetopts { .. } => true,
         _ => false,
     }
 }
@@ -54,18 +65,24 @@ impl<M: ModuleOf> Chain<M> {
         Some(NextQueue::Of { place })
     }
 
-    /// What a head does with a message, and what it sends down.
+    /// What a head does with a message, and what it sends down. Options may change its marks, and then the place that waits
+    /// for it is looked at again.
     pub(super) fn head_does(&mut self, end: End, m: Message) -> Result<Option<Message>, NoMem>
         ensures state { OnOk result (self.new.image ≡ with_end self.old.image end (head_does (end_of self.old.image end) m).state) }
         ensures sends { IfOk result (λ sends. sends ≡ (head_does (end_of self.old.image end) m).sends) }
         ensures err { OnErr result (self.new.image ≡ self.old.image) }
         ensures same { SameModules self.old.image self.new.image }
         ensures given { self.new.run.given ≡ self.old.run.given }
-        ensures grows { OnOk result (is_calm m.kind ≡ true → Grows self.old self.new) }
+        ensures grows { OnOk result (is_calm m.kind ≡ true → Grows self.old (options_in self.old.image m) self.new 0) }
     {
         let queue = NextQueue::Head { end };
         let before = self.ends.len(queue);
+        let sets = sets_options(m.kind);
         let answer = self.ends.head_does(end, m);
+        if sets {
+            self.enabling.wake_behind(&self.ends, queue);
+            return answer;
+        }
         self.enabling.wake(&self.ends, queue, before);
         answer
     }
@@ -77,7 +94,7 @@ impl<M: ModuleOf> Chain<M> {
         ensures err { OnErr result (self.new.image ≡ self.old.image) }
         ensures same { SameModules self.old.image self.new.image }
         ensures given { self.new.run.given ≡ self.old.run.given }
-        ensures grows { OnOk result (is_calm m.kind ≡ true → Grows self.old self.new) }
+        ensures grows { IfOk result (λ sends. is_calm m.kind ≡ true → Grows self.old (options_in self.old.image m) self.new (options_driven (answers_options self.old.image.driver) sends)) }
     {
         let queue = NextQueue::Of {
             place: Place::Drv { end },
@@ -102,7 +119,7 @@ impl<M: ModuleOf> Chain<M> {
         ensures err { OnErr result (self.new.image ≡ self.old.image) }
         ensures same { SameModules self.old.image self.new.image }
         ensures given { self.new.run.given ≡ self.old.run.given }
-        ensures grows { OnOk result (IsCalm M.Kind.means → is_calm m.kind ≡ true → Grows self.old self.new) }
+        ensures grows { IfOk result (λ outs. IsCalm M.Kind.means → is_calm m.kind ≡ true → Grows self.old (options_in self.old.image m) self.new (options_out self.old.image outs.items)) }
     {
         let Some(queue) = self.module_queue(end, i, side) else {
             return Ok(Outs::new());
@@ -124,7 +141,7 @@ impl<M: ModuleOf> Chain<M> {
         ensures outs { IfOk result (λ outs. outs.items ≡ (serve_at M.Kind.means self.old.image end i side).outs) }
         ensures same { SameModules self.old.image self.new.image }
         ensures given { self.new.run.given ≡ self.old.run.given }
-        ensures moves { OnOk result (IsCalm M.Kind.means → is_enabled self.old.run (module_place side end i) ≡ true → HasMoved self.old self.new) }
+        ensures moves { IfOk result (λ outs. IsCalm M.Kind.means → is_enabled self.old.run (module_place side end i) ≡ true → HasMoved self.old self.new (options_out self.old.image outs.items)) }
     {
         let Some(queue) = self.module_queue(end, i, side) else {
             return Ok(Outs::new());
@@ -148,7 +165,8 @@ impl<M: ModuleOf> Chain<M> {
         ensures none { IfNone result (((end_of self.old.image end).drv ≡ []) × (self.new.image ≡ self.old.image)) }
         ensures same { SameModules self.old.image self.new.image }
         ensures given { self.new.run.given ≡ self.old.run.given }
-        ensures moves { is_enabled self.old.run (Places.Drv end) ≡ true → HasMoved self.old self.new }
+        ensures moves { IfSome result (λ m. is_enabled self.old.run (Places.Drv end) ≡ true → HasMoved self.old self.new (options_in self.old.image m)) }
+        ensures rests { IfNone result (is_enabled self.old.run (Places.Drv end) ≡ true → HasMoved self.old self.new 0) }
     {
         let queue = NextQueue::Of {
             place: Place::Drv { end },

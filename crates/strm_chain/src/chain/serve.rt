@@ -53,7 +53,7 @@ impl<M: ModuleOf> Chain<M> {
         ensures ok { OnOk result (self.new.image ≡ move M.Kind.means self.old.image (module_place side end i)) }
         ensures same { SameModules self.old.image self.new.image }
         ensures given { self.new.run.given ≡ self.old.run.given }
-        ensures moves { OnOk result (IsCalm M.Kind.means → is_enabled self.old.run (module_place side end i) ≡ true → HasMoved self.old self.new) }
+        ensures moves { OnOk result (IsCalm M.Kind.means → is_enabled self.old.run (module_place side end i) ≡ true → HasMoved self.old self.new 0) }
     {
         let below = self.count(end).saturating_sub(i);
         let outs = self.serve_at(end, i, side)?;
@@ -68,7 +68,7 @@ impl<M: ModuleOf> Chain<M> {
         ensures ok { OnOk result (self.new.image ≡ move M.Kind.means self.old.image (Places.Drv end)) }
         ensures same { SameModules self.old.image self.new.image }
         ensures given { self.new.run.given ≡ self.old.run.given }
-        ensures moves { OnOk result (IsCalm M.Kind.means → is_enabled self.old.run (Places.Drv end) ≡ true → HasMoved self.old self.new) }
+        ensures moves { OnOk result (IsCalm M.Kind.means → is_enabled self.old.run (Places.Drv end) ≡ true → HasMoved self.old self.new 0) }
     {
         let partner = partner_of(self.driver(), end);
         let ahead = self.count(partner);
@@ -90,7 +90,7 @@ impl<M: ModuleOf> Chain<M> {
         ensures ok { OnOk result (self.new.image ≡ move M.Kind.means self.old.image place) }
         ensures same { SameModules self.old.image self.new.image }
         ensures given { self.new.run.given ≡ self.old.run.given }
-        ensures moves { OnOk result (IsCalm M.Kind.means → is_enabled self.old.run place ≡ true → HasMoved self.old self.new) }
+        ensures moves { OnOk result (IsCalm M.Kind.means → is_enabled self.old.run place ≡ true → HasMoved self.old self.new 0) }
     {
         match place {
             Place::Wr { end, i } => self.move_module(hops, end, usize::from(i), Side::Wr),
@@ -111,7 +111,7 @@ impl<M: ModuleOf> Chain<M> {
         ensures same { OnOk result (SameModules self.old.image self.new.image) }
         ensures refused { IfErr result (λ fault. Refuses fault self.old.image self.new.image) }
         ensures given { self.new.run.given ≡ self.old.run.given }
-        ensures moves { OnOk result (IsCalm M.Kind.means → is_enabled self.old.run place ≡ true → HasMoved self.old self.new) }
+        ensures moves { OnOk result (IsCalm M.Kind.means → is_enabled self.old.run place ≡ true → HasMoved self.old self.new 0) }
     {
         if self.ends.is_broken() {
             return Err(ChainFault::Broken);

@@ -89,7 +89,7 @@ impl<M: ModuleOf> Chain<M> {
         ensures moves { OnOk result (moves.new ≡ moves.old ++ place ∷ []) }
         ensures given { OnOk result (self.new.run.given ≡ self.old.run.given) }
         ensures few { OnOk result (length self.new.run.items ≤ QUEUES) }
-        ensures more { OnOk result (IsCalm M.Kind.means → is_enabled self.old.run place ≡ true → HasMoved self.old self.new) }
+        ensures more { OnOk result (IsCalm M.Kind.means → is_enabled self.old.run place ≡ true → HasMoved self.old self.new 0) }
         ensures counted { OnOk result (length moves.new < 18446744073709551616) }
         ensures same { OnOk result (SameModules self.old.image self.new.image) }
         ensures refused { IfErr result (λ fault. Refuses fault self.old.image self.new.image) }

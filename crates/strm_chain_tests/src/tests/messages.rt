@@ -1,10 +1,10 @@
 //! Messages: their fields, what is answered of them, and which are equal.
-use super::Sample::{Ack, Data, Error, Flush, Hangup, Ioctl, Nak, Pcproto, Proto};
+use super::Sample::{Ack, Data, Error, Flush, Hangup, Ioctl, Nak, Options, Pcproto, Proto};
 use super::{Part, Sample, bytes, message};
 use std::alloc::Global;
 use std::process::Abort;
 use strm_msg::Class::{High, Ordinary};
-use strm_msg::{Bytes, Class, Errno, Message, MsgKind};
+use strm_msg::{Bytes, Class, Errno, Message, MsgKind, ReadMode};
 
 /// A message, and its kind, band, control part and data part.
 type Fields = (Sample, MsgKind, u8, Part, Part);
@@ -20,11 +20,17 @@ const FLUSH: MsgKind = MsgKind::MFlush {
     band: Some(9),
 };
 
+const OPTIONS: MsgKind = MsgKind::MSetopts {
+    mode: Some(ReadMode::Rmsgn),
+    prot: None,
+    marks: Some((4, 9)),
+};
+
 const ERROR: MsgKind = MsgKind::MError { errno: Errno::EIO };
 
 // The fields are those that the table of kinds gives each kind: which parts it has, and band 0 for
 // all but data and protocol messages.
-const FIELDS: [Fields; 10] = [
+const FIELDS: [Fields; 11] = [
     (Data(7, b"wxyz"), MsgKind::MData, 7, None, Some(b"wxyz")),
     (
         Proto(255, b"ab", Some(b"")),
@@ -63,6 +69,13 @@ const FIELDS: [Fields; 10] = [
     ),
     (Nak(3, Errno::EINVAL), NAK, 0, None, None),
     (Flush(true, false, Some(9)), FLUSH, 0, None, None),
+    (
+        Options(Some(ReadMode::Rmsgn), Some((4, 9))),
+        OPTIONS,
+        0,
+        None,
+        None,
+    ),
     (Hangup, MsgKind::MHangup, 0, None, None),
     (Error(Errno::EIO), ERROR, 0, None, None),
 ];
@@ -92,16 +105,17 @@ fn each_call_fills_the_fields_of_its_kind(rt: HostRuntime) {
 /// A message, and its class, rank and weight.
 type Facts = (Sample, Class, u16, u128);
 
-// Worked out by hand from the rules: only data, protocol messages and ioctls are ordinary; an ordinary
+// Worked out by hand from the rules: only data, protocol messages, ioctls and options are ordinary; an ordinary
 // message has its band as rank, a high one 256; the weight is the bytes of control and data together,
 // and 1 where there is none.
-const FACTS: [Facts; 13] = [
+const FACTS: [Facts; 14] = [
     (Data(7, b"wxyz"), Ordinary, 7, 4),
     (Data(255, b""), Ordinary, 255, 1),
     (Proto(3, b"c", Some(b"d")), Ordinary, 3, 2),
     (Proto(0, b"abc", None), Ordinary, 0, 3),
     (Ioctl(1, 9, Some(b"xy")), Ordinary, 0, 2),
     (Ioctl(1, 9, None), Ordinary, 0, 1),
+    (Options(None, Some((16, 4))), Ordinary, 0, 1),
     (Pcproto(b"hi", Some(b"data")), High, 256, 6),
     (Pcproto(b"", None), High, 256, 1),
     (Ack(1, 9, Some(b"xyz")), High, 256, 3),
@@ -128,13 +142,14 @@ fn class_rank_and_weight_of_each_kind(rt: HostRuntime) {
 }
 
 // By the rule that ioctls and their answers never come in from a line.
-const FROM_LINE: [(Sample, bool); 9] = [
+const FROM_LINE: [(Sample, bool); 10] = [
     (Data(7, b"x"), true),
     (Proto(3, b"c", None), true),
     (Pcproto(b"c", None), true),
     (Ioctl(1, 9, None), false),
     (Ack(1, 9, None), false),
     (Nak(1, Errno::EINVAL), false),
+    (Options(None, None), true),
     (Flush(true, true, None), true),
     (Hangup, true),
     (Error(Errno::EIO), true),
@@ -152,7 +167,7 @@ fn ioctls_do_not_come_in_from_a_line(rt: HostRuntime) {
     }
 }
 
-const COPIED: [Sample; 10] = [
+const COPIED: [Sample; 11] = [
     Data(7, b"wxyz"),
     Proto(3, b"c", Some(b"d")),
     Proto(3, b"", None),
@@ -161,6 +176,7 @@ const COPIED: [Sample; 10] = [
     Ack(1, 9, None),
     Nak(1, Errno::EINVAL),
     Flush(false, true, None),
+    Options(Some(ReadMode::Rmsgd), Some((4, 4))),
     Hangup,
     Error(Errno::EPROTO),
 ];
@@ -211,12 +227,13 @@ const FLUSH_OF_ALL: MsgKind = MsgKind::MFlush {
     band: None,
 };
 
-// By the table of kinds: five kinds can have data, and all but three are high.
-const KINDS: [(MsgKind, Class, bool); 9] = [
+// By the table of kinds: five kinds can have data, and all but four are high.
+const KINDS: [(MsgKind, Class, bool); 10] = [
     (MsgKind::MData, Ordinary, true),
     (MsgKind::MProto, Ordinary, true),
     (MsgKind::MPcproto, High, true),
     (MsgKind::MIoctl { id: 1, cmd: 9 }, Ordinary, true),
+    (OPTIONS, Ordinary, false),
     (MsgKind::MIocack { id: 1, rval: 9 }, High, true),
     (NAK_OF_1, High, false),
     (FLUSH_OF_ALL, High, false),

@@ -1,5 +1,5 @@
 //! Queues of messages, with the marks 16 and 4: examples of calls and what they answer, in order.
-use super::Sample::{Ack, Data, Error, Flush, Hangup, Ioctl, Nak, Pcproto, Proto};
+use super::Sample::{Ack, Data, Error, Flush, Hangup, Ioctl, Nak, Options, Pcproto, Proto};
 use super::{Sample, message, wanted};
 use Step::{
     At, First, FlushAll, FlushBand, Get, HasBand, HasPcproto, Held, Holds, Len, Level, MakeRoom,
@@ -50,6 +50,8 @@ const PROTO: Sample = Proto(3, b"c", None);
 
 const IOCTL: Sample = Ioctl(1, 9, None);
 
+const OPTIONS: Sample = Options(None, Some((16, 4)));
+
 const ACK: Sample = Ack(1, 0, None);
 
 const NAK: Sample = Nak(2, Errno::EINVAL);
@@ -58,7 +60,7 @@ const FLUSH: Sample = Flush(true, true, None);
 
 const ERROR: Sample = Error(Errno::EIO);
 
-const NINE: &[Sample] = &[A, IOCTL, PROTO, ACK, NAK, H, FLUSH, Hangup, ERROR];
+const TEN: &[Sample] = &[A, IOCTL, OPTIONS, PROTO, ACK, NAK, H, FLUSH, Hangup, ERROR];
 
 // Worked out by hand from the rules of order: high before bands, a greater band before a lesser one,
 // put behind equals and put back before them.
@@ -102,23 +104,26 @@ const ORDER: [Example; 6] = [
 const FLUSHES: [Example; 5] = [
     (
         "a flush takes data and protocol messages alone",
-        NINE,
-        &[FlushAll, Holds(&[ACK, NAK, FLUSH, Hangup, ERROR, IOCTL])],
+        TEN,
+        &[
+            FlushAll,
+            Holds(&[ACK, NAK, FLUSH, Hangup, ERROR, IOCTL, OPTIONS]),
+        ],
     ),
     (
         "a flush of band 0 takes the high protocol message too",
-        NINE,
+        TEN,
         &[
             FlushBand(0),
-            Holds(&[ACK, NAK, FLUSH, Hangup, ERROR, PROTO, IOCTL]),
+            Holds(&[ACK, NAK, FLUSH, Hangup, ERROR, PROTO, IOCTL, OPTIONS]),
         ],
     ),
     (
         "a flush of band 3 takes what is of that band",
-        NINE,
+        TEN,
         &[
             FlushBand(3),
-            Holds(&[ACK, NAK, H, FLUSH, Hangup, ERROR, A, IOCTL]),
+            Holds(&[ACK, NAK, H, FLUSH, Hangup, ERROR, A, IOCTL, OPTIONS]),
         ],
     ),
     (

@@ -2,18 +2,19 @@
 ghost use Rattle.std.specs.Prelude.{◌≡◌, ◌∷◌, [], ◌<◌, ◌≤◌, false, OnOk, OnErr, IfOk, IfErr, IfSome, IfNone, IsOk};
 ghost use Rattle.strm_msg.specs.Kind.{is_high};
 ghost use Rattle.strm_msg.specs.Message.{rank_of};
+ghost use Rattle.strm_msg.specs.Options.{options_asked};
 ghost use Rattle.strm_queue.specs.Queue.{put_in};
 ghost use Rattle.strm_queue.specs.Room.{room_for};
 ghost use Rattle.strm_qpair.specs.End.{KeepsRoom, SpendsOne, in_drv};
 ghost use Rattle.strm_qpair.specs.Modules.{SameEnd};
 ghost use Rattle.strm_qpair.specs.Pair.{flushed_if};
-ghost use Rattle.strm_qpair.specs.Driver.{flush_up, line_does, echo_does, driver_at};
+ghost use Rattle.strm_qpair.specs.Driver.{flush_up, line_does, loop_does, options_up, echo_does, driver_at};
 
 use super::StreamEnd;
 use super::head::{flush_list, put_in_list};
 use crate::driver::{Driver, DriverSends};
 use strm_module::ModuleOf;
-use strm_msg::{Errno, Message, MsgKind, NoMem};
+use strm_msg::{Bytes, Errno, Message, MsgKind, NoMem, SETOPTS, options_asked};
 use strm_queue::BandQueue;
 
 /// A flush of read queues that came down goes back up.
@@ -24,6 +25,21 @@ fn flush_back(r: bool, band: Option<u8>) -> DriverSends
         DriverSends::Reply(Message::of_flush(true, false, band))
     } else {
         DriverSends::Nothing
+    }
+}
+
+/// The answer to an ioctl by which options are asked for: they go up, or it is refused.
+fn options_up(id: u64, dat: &Option<Bytes>) -> DriverSends
+    ensures { result ≡ options_up id (options_asked dat.now) }
+{
+    match options_asked(dat) {
+        Some(MsgKind::MSetopts { mode, prot, marks }) => DriverSends::Options {
+            mode,
+            prot,
+            marks,
+            id,
+        },
+        _ => DriverSends::Reply(Message::of_nak(id, Errno::EINVAL)),
     }
 }
 
@@ -53,11 +69,11 @@ impl<M: ModuleOf> StreamEnd<M> {
         }
     }
 
-    /// What an echo or a loop does: it keeps what is written, and its list is flushed as a write
-    /// queue. Refused for want of memory alone: then nothing is changed.
-    fn echo_does(&mut self, m: Message) -> Result<DriverSends, NoMem>
-        ensures state { OnOk result (self.new.state ≡ (echo_does self.old.state m.kind m).state) }
-        ensures sends { IfOk result (λ sends. sends ≡ (echo_does self.old.state m.kind m).sends) }
+    /// What a loop does: it keeps what is written, and its list is flushed as a write queue. Refused
+    /// for want of memory alone: then nothing is changed.
+    fn loop_does(&mut self, m: Message) -> Result<DriverSends, NoMem>
+        ensures state { OnOk result (self.new.state ≡ (loop_does self.old.state m.kind m).state) }
+        ensures sends { IfOk result (λ sends. sends ≡ (loop_does self.old.state m.kind m).sends) }
         ensures err { OnErr result (self.new.state ≡ self.old.state) }
         ensures same { SameEnd self.old.state self.new.state }
     {
@@ -78,6 +94,20 @@ impl<M: ModuleOf> StreamEnd<M> {
         }
     }
 
+    /// What an echo does: the same as a loop, but that an ioctl of command `SETOPTS` makes it send options up. Refused for
+    /// want of memory alone: then nothing is changed.
+    fn echo_does(&mut self, m: Message) -> Result<DriverSends, NoMem>
+        ensures state { OnOk result (self.new.state ≡ (echo_does self.old.state m.kind m).state) }
+        ensures sends { IfOk result (λ sends. sends ≡ (echo_does self.old.state m.kind m).sends) }
+        ensures err { OnErr result (self.new.state ≡ self.old.state) }
+        ensures same { SameEnd self.old.state self.new.state }
+    {
+        match m.kind {
+            MsgKind::MIoctl { id, cmd } if cmd == SETOPTS => Ok(options_up(id, &m.dat)),
+            _ => self.loop_does(m),
+        }
+    }
+
     /// What a driver does with a message from above, and what it sends up. Refused for want of
     /// memory alone: then nothing is changed.
     pub fn driver_does(&mut self, driver: Driver, m: Message) -> Result<DriverSends, NoMem>
@@ -89,7 +119,7 @@ impl<M: ModuleOf> StreamEnd<M> {
         match driver {
             Driver::Line => Ok(self.line_does(m)),
             Driver::Echo => self.echo_does(m),
-            Driver::Loop => self.echo_does(m),
+            Driver::Loop => self.loop_does(m),
         }
     }
 

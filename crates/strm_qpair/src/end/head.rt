@@ -5,7 +5,7 @@ ghost use Rattle.strm_queue.specs.Queue.{put_in, put_back_in};
 ghost use Rattle.strm_queue.specs.Room.{room_for};
 ghost use Rattle.strm_qpair.specs.End.{KeepsRoom, SpendsOne, in_head, in_state};
 ghost use Rattle.strm_qpair.specs.Modules.{SameEnd};
-ghost use Rattle.strm_qpair.specs.Head.{head_does};
+ghost use Rattle.strm_qpair.specs.Head.{marks_set, with_options, head_does};
 ghost use Rattle.strm_qpair.specs.Change.{with_mode, begun, undone, ended};
 ghost use Rattle.strm_qpair.specs.Pair.{flushed_if};
 
@@ -13,7 +13,7 @@ use super::StreamEnd;
 use crate::record::Record;
 use std::alloc::Global;
 use strm_module::ModuleOf;
-use strm_msg::{Message, MsgKind, NoMem, Prot, ReadMode};
+use strm_msg::{Marks, Message, MsgKind, NoMem, Prot, ReadMode};
 use strm_queue::BandQueue;
 
 /// A flush of a whole list or of one band, where the flush names the list.
@@ -38,6 +38,17 @@ pub(super) fn put_in_list(queue: &mut BandQueue, m: Message) -> Result<(), NoMem
     match queue.put(m) {
         Ok(()) => Ok(()),
         Err(_) => Err(NoMem),
+    }
+}
+
+/// Sets the marks of a list, where they are given and the low one is below the high one.
+fn set_fit_marks(queue: &mut BandQueue, marks: Option<(u32, u32)>)
+    ensures { queue.new ≡ record queue.old { marks = marks_set queue.old.marks marks } }
+{
+    if let Some((hi, lo)) = marks {
+        if let Some(marks) = Marks::new(hi, lo) {
+            queue.set_marks(marks);
+        }
     }
 }
 
@@ -85,7 +96,20 @@ impl<M: ModuleOf> StreamEnd<M> {
                 Ok(Some(Message::of_flush(true, true, None)))
             }
             MsgKind::MIoctl { .. } => Ok(None),
+            MsgKind::MSetopts { mode, prot, marks } => {
+                self.set_options(mode, prot, marks);
+                Ok(None)
+            }
         }
+    }
+
+    /// Sets how the head reads and its water marks, as far as they are given. Marks of which the low one is not below the
+    /// high one are not taken.
+    fn set_options(&mut self, mode: Option<ReadMode>, prot: Option<Prot>, marks: Option<(u32, u32)>)
+        ensures { self.new ≡ record self.old { state = with_options self.old.state mode prot marks } }
+    {
+        self.state.set_given(mode, prot);
+        set_fit_marks(&mut self.head, marks);
     }
 
     /// The list of the head.

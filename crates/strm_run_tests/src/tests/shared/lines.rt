@@ -11,7 +11,7 @@ use std::sync::Wait;
 use strm_head::{Answer, Refusal, Reply, Request, Wanted};
 use strm_history::Entry;
 use strm_module::{Boxed, Kind, Plain};
-use strm_msg::{Errno, Message};
+use strm_msg::{Errno, Message, Prot, ReadMode};
 use strm_shared::{EndFault, Feeder, Ring, Runs, Seat, Shared};
 
 /// What is done, in order, and what comes of it.
@@ -23,12 +23,16 @@ enum Step {
     Hangup,
     /// An error is offered, and accepted.
     Error,
+    /// A read mode for the head is offered, and accepted.
+    Options(ReadMode),
     /// The data of a message are taken.
     Getmsg(&'static [u8]),
     /// At most so many bytes are read.
     Read(u16, &'static [u8]),
     /// How many messages there are, and how many bytes the first has.
     Nread(u64, u64),
+    /// How reads treat the bounds of messages.
+    GetRead(ReadMode),
     /// The end is closed.
     Close,
     /// A read is refused.
@@ -83,6 +87,21 @@ const ERROR: Row = Row {
     left: &[],
 };
 
+/// Options come in as data do, and are there before the call that follows.
+const OPTIONS: Row = Row {
+    marks: (16, 4),
+    ring: 2,
+    steps: &[
+        Step::Options(ReadMode::Rmsgn),
+        Step::Data(b"xy", true),
+        Step::Read(1, b"x"),
+        Step::Read(9, b"y"),
+        Step::GetRead(ReadMode::Rmsgn),
+    ],
+    history: &[Some(b""), Some(b"xy"), None, None, None],
+    left: &[],
+};
+
 /// A message that finds the line's list full is held back, and none comes in before it.
 const HELD_BACK: Row = Row {
     marks: (5, 4),
@@ -132,7 +151,7 @@ const ALL_LEFT: Row = Row {
     left: &[b"ccccc", b"d", b"e"],
 };
 
-const ROWS: [Row; 5] = [FULL_RING, ERROR, HELD_BACK, NO_CALL, ALL_LEFT];
+const ROWS: [Row; 6] = [FULL_RING, ERROR, OPTIONS, HELD_BACK, NO_CALL, ALL_LEFT];
 
 /// Whether a message is accepted.
 fn offers<N: Runs<Kind>>(rt: &impl Abort, feeder: &mut Feeder<Kind, N>, m: Message) -> bool
@@ -145,7 +164,7 @@ fn offers<N: Runs<Kind>>(rt: &impl Abort, feeder: &mut Feeder<Kind, N>, m: Messa
 /// What a step asks, if it asks something.
 fn request_of(step: Step) -> Option<Request<Boxed<Plain>>> {
     match step {
-        Step::Data(_, _) | Step::Hangup | Step::Error => None,
+        Step::Data(_, _) | Step::Hangup | Step::Error | Step::Options(_) => None,
         Step::Getmsg(_) => Some(Request::Getmsg {
             maxctl: Some(64),
             maxdat: Some(64),
@@ -154,6 +173,7 @@ fn request_of(step: Step) -> Option<Request<Boxed<Plain>>> {
         Step::Read(max, _) => Some(Request::Read { max }),
         Step::NoRead(_) => Some(Request::Read { max: 8 }),
         Step::Nread(_, _) => Some(Request::Nread),
+        Step::GetRead(_) => Some(Request::GetRead),
         Step::Close => Some(Request::Close),
         Step::NoLook(_) => Some(Request::Look),
     }
@@ -168,6 +188,9 @@ fn is_answer(step: Step, answer: &Answer) -> bool {
         (Step::Read(_, wanted), Answer::Done(Reply::Read { dat })) => dat.as_slice() == wanted,
         (Step::Nread(many, size), Answer::Done(Reply::Nread { messages, bytes })) => {
             *messages == many && *bytes == size
+        }
+        (Step::GetRead(wanted), Answer::Done(Reply::GetRead { mode, prot })) => {
+            *mode == wanted && *prot == Prot::Norm
         }
         (Step::Close, Answer::Done(Reply::Close { .. })) => true,
         (Step::NoRead(wanted) | Step::NoLook(wanted), Answer::Refused(refusal)) => {
@@ -186,6 +209,7 @@ fn message_of(rt: &impl Abort, alloc: Global, step: Step) -> Option<(Message, bo
         }
         Step::Hangup => Some((Message::of_hangup(), true)),
         Step::Error => Some((Message::of_error(Errno::EIO), true)),
+        Step::Options(mode) => Some((Message::of_setopts(Some(mode), None, None), true)),
         _ => None,
     }
 }

@@ -1,7 +1,7 @@
 use Rattle.std.proofs.Common.{◌≡◌, true}
 use Rattle.strm_ends.specs.Same.{SameModules}
 use Rattle.strm_module.specs.Calm.{IsCalm}
-use Rattle.strm_chain.specs.Count.{Grows, are_calm_hops}
+use Rattle.strm_chain.specs.Count.{options_carried, Grows, are_calm_hops}
 use Rattle.strm_chain.specs.Hop.{carry_all, load}
 use Rattle.strm_chain.proofs.chain.Chain.carry_all.Given as goal
 
@@ -9,7 +9,7 @@ abbrev pub invariant-loop-hop : goal.invariant-loop-hop
 invariant-loop-hop g l = record {
   image : carry_all g.M.Kind.Kinds.means l.self.image l.hops.items ≡ carry_all g.M.Kind.Kinds.means l.initial.self.image l.initial.hops.items;
   same : SameModules l.initial.self.image l.self.image;
-  grows : IsCalm g.M.Kind.Kinds.means → are_calm_hops l.initial.hops.items ≡ true → Grows l.initial.self l.self × (are_calm_hops l.hops.items ≡ true);
+  grows : IsCalm g.M.Kind.Kinds.means → are_calm_hops l.initial.hops.items ≡ true → Grows l.initial.self (options_carried l.initial.self.image l.initial.hops.items) l.self (options_carried l.initial.self.image l.hops.items) × (are_calm_hops l.hops.items ≡ true);
   given : l.self.run.given ≡ l.initial.self.run.given;
 }
 

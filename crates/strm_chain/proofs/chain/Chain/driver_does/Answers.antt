@@ -6,9 +6,11 @@ use Rattle.strm_chain.proofs.CaseLemmas.{on_result}
 use Rattle.strm_chain.proofs.EnablingLemmas.{places_same}
 use Rattle.strm_ends.proofs.FrameLemmas.{driver_differs, same_differs}
 use Rattle.std.proofs.Common.{◌+◌, ◌≤◌, length, arith}
+use Rattle.strm_module.specs.Calm.{options_of}
+use Rattle.strm_ends.specs.Count.{answers_options, options_driven}
 use Rattle.strm_ends.specs.Held.{held_by}
-use Rattle.strm_chain.proofs.CaseLemmas.{on_ok}
-use Rattle.strm_chain.proofs.CountLemmas.{driver_grows, count_put}
+use Rattle.strm_chain.proofs.CaseLemmas.{if_ok}
+use Rattle.strm_chain.proofs.CountLemmas.{driver_grows, driver_sets_less, count_put}
 use Rattle.strm_chain.proofs.chain.Chain.driver_does.Goals as goal
 
 pub invariant_of-self : goal.invariant_of-self
@@ -28,10 +30,12 @@ returns-clause-grows g c =
     let old = c.self.inside.ends.image in
     let new = c.driver_does-answer.new.self.image in
     let queue = Of (Places.Drv c.args.end) in
-    on_ok c.driver_does-answer.result _ _ c.driver_does-answer.ensures.state
-    (λ e calm.
+    rw (← c.self.view_is)
+    (if_ok c.driver_does-answer.result _ _ _ c.driver_does-answer.ensures.state c.driver_does-answer.ensures.sends
+    (λ sends e sent calm.
+    let b = answers_options old.driver in
     let grow = driver_grows old new c.args.end c.args.m calm e in
     let was = c.len-before.ensures in
     let put = c.wake.ensures.put (omega (arith, was, grow)) in
     let less : length c.wake.new.self.run.items + length (held_by old queue) ≤ length c.self.inside.enabling.run.items + length (held_by new queue) = omega (arith, put, was) in
-    rw (← c.self.view_is) (count_put old new queue (length c.self.inside.enabling.run.items) (length c.wake.new.self.run.items) (driver_differs old c.args.end new c.args.m c.driver_does-answer.ensures.same e) less))
+    count_put old new queue (length c.self.inside.enabling.run.items) (length c.wake.new.self.run.items) (options_of b c.args.m) (options_driven b sends) (driver_differs old c.args.end new c.args.m c.driver_does-answer.ensures.same e) less (driver_sets_less old new c.args.end c.args.m sends calm e sent)))

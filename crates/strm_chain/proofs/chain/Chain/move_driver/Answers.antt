@@ -9,9 +9,11 @@ use Rattle.strm_module.specs.Calm.{is_calm}
 use Rattle.strm_module.proofs.CalmLemmas.{ordinary_calm}
 use Rattle.strm_qpair.proofs.NextLemmas.{drv_ordinary}
 use Rattle.strm_chain.specs.Hop.{up_hop}
-use Rattle.strm_chain.specs.Count.{are_calm_hops}
+use Rattle.strm_module.specs.Calm.{options_of}
+use Rattle.strm_ends.specs.Count.{answers_options}
+use Rattle.strm_chain.specs.Count.{options_carried, are_calm_hops}
 use Rattle.strm_chain.proofs.CaseLemmas.{on_ok}
-use Rattle.strm_chain.proofs.CountLemmas.{one_calm}
+use Rattle.strm_chain.proofs.CountLemmas.{one_calm, hop_adds}
 use Rattle.strm_chain.proofs.chain.Chain.move_driver.Goals as goal
 
 pub returns-in-Some-clause-ok : goal.returns-in-Some-clause-ok
@@ -41,5 +43,9 @@ returns-in-Some-clause-moves g c =
     let calm : is_calm m.kind ≡ true = ordinary_calm m.kind (drv_ordinary (end_of old c.args.end) m c.count.ensures.ordinary first) in
     let hops : are_calm_hops c.push_front_reserved.new.self.items ≡ true =
     rw (c.push_front_reserved.ensures.items, c.up.ensures, c.requires.empty) (one_calm (up_hop false c.partner_of-partner.result c.count-ahead.result m) [] calm refl) in
+    let mid = c.take_driver.new.self.image in
+    let set = ap (options_carried mid) c.push_front_reserved.ensures.items ∙ hop_adds (answers_options mid.driver) c.up.result c.args.hops.items in
+    let one : options_of (answers_options mid.driver) c.up.result.m ≡ options_of (answers_options old.driver) m = rw (c.up.ensures, c.take_driver.ensures.same.driver) refl in
+    let none = ap (options_carried mid) c.requires.empty in
     on_ok c.carry_all.result _ _ c.carry_all.ensures.grows
-    (λ grow kinds enabled. let taken = c.in-Some.ensures.moves enabled in let more = grow kinds hops in omega (arith, taken, more))
+    (λ grow kinds enabled. let taken = c.in-Some.ensures.moves enabled in let more = grow kinds hops in omega (arith, taken, more, set, one, none))

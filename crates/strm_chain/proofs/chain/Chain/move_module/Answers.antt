@@ -8,9 +8,11 @@ use Rattle.std.proofs.Common.{true, [], refl, arith}
 use Rattle.strm_ends.specs.Image.{end_of}
 use Rattle.strm_ends.proofs.CalmLemmas.{serves_calm}
 use Rattle.strm_chain.specs.Service.{serve_at}
-use Rattle.strm_chain.specs.Count.{are_calm_hops}
+use Rattle.strm_module.specs.Calm.{options_sent}
+use Rattle.strm_ends.specs.Count.{answers_options}
+use Rattle.strm_chain.specs.Count.{options_carried, are_calm_hops}
 use Rattle.strm_chain.proofs.CaseLemmas.{on_ok}
-use Rattle.strm_chain.proofs.CountLemmas.{outs_calm}
+use Rattle.strm_chain.proofs.CountLemmas.{outs_calm, outs_set}
 use Rattle.strm_chain.proofs.chain.Chain.move_module.Goals as goal
 
 pub returns-clause-ok : goal.returns-clause-ok
@@ -40,4 +42,9 @@ returns-clause-moves g c =
     (outs_calm false c.args.side c.args.end c.args.i below (serve_at means old c.args.end c.args.i c.args.side).outs [] outs refl) in
     let served = c.in_ok-outs.ensures.moves kinds enabled in
     let more = grow kinds hops in
-    omega (arith, served, more))
+    let mid = c.serve_at.new.self.image in
+    let sent = c.in_ok-outs.outs.items in
+    let set = ap (options_carried mid) c.push_outs.ensures.items ∙ outs_set (answers_options mid.driver) false c.args.side c.args.end c.args.i below sent c.args.hops.items in
+    let same : options_sent (answers_options mid.driver) sent ≡ options_sent (answers_options old.driver) sent = rw (c.serve_at.ensures.same.driver) refl in
+    let none = ap (options_carried mid) c.requires.empty in
+    omega (arith, served, more, set, same, none))

@@ -8,9 +8,11 @@ use Rattle.strm_ends.specs.Held.{is_flush}
 use Rattle.strm_ends.proofs.FrameLemmas.{gets_differs, same_differs}
 use Rattle.strm_ends.specs.Held.{module_place}
 use Rattle.std.proofs.Common.{◌+◌, ◌≤◌, length, ap, arith}
+use Rattle.strm_module.specs.Calm.{options_of, options_sent}
+use Rattle.strm_ends.specs.Count.{answers_options}
 use Rattle.strm_ends.specs.Held.{held_by}
-use Rattle.strm_chain.proofs.CaseLemmas.{on_ok}
-use Rattle.strm_chain.proofs.CountLemmas.{gets_grows, count_put}
+use Rattle.strm_chain.proofs.CaseLemmas.{if_ok}
+use Rattle.strm_chain.proofs.CountLemmas.{gets_grows, gets_sets_less, count_put}
 use Rattle.strm_chain.proofs.chain.Chain.put_at.Goals as goal
 
 pub invariant_of-self-2 : goal.invariant_of-self-2
@@ -34,11 +36,13 @@ returns-clause-grows g c =
     let calm_kind : is_flush c.args.m.kind ≡ false = rw (← c.m.view_is) (sym c.is_flush-flushes.ensures ∙ c.if-flushes.false) in
     let queue = Of (module_place c.args.side c.args.end c.args.i) in
     let is = c.in-Some.ensures.some in
-    on_ok c.put_at-answer.result _ _ c.put_at-answer.ensures.state
-    (λ e kinds calm.
+    rw (← c.self.view_is)
+    (if_ok c.put_at-answer.result _ _ _ c.put_at-answer.ensures.state c.put_at-answer.ensures.outs
+    (λ outs e sent kinds calm.
+    let b = answers_options old.driver in
     let grow = gets_grows g.M.Kind.Kinds.means old new c.args.end c.args.i c.args.side c.args.m kinds calm e in
     let was : c.len-before.result ≡ length (held_by old queue) = c.len-before.ensures ∙ ap (λ q. length (held_by old q)) is in
     let now : length (held_by new c.in-Some.queue) ≡ length (held_by new queue) = ap (λ q. length (held_by new q)) is in
     let put = c.wake.ensures.put (omega (arith, was, now, grow)) in
     let less : length c.wake.new.self.run.items + length (held_by old queue) ≤ length c.self.inside.enabling.run.items + length (held_by new queue) = omega (arith, put, was, now) in
-    rw (← c.self.view_is) (count_put old new queue (length c.self.inside.enabling.run.items) (length c.wake.new.self.run.items) (gets_differs g.M.Kind.Kinds.means old c.args.end new c.args.i c.args.side c.args.m c.put_at-answer.ensures.same calm_kind e) less))
+    count_put old new queue (length c.self.inside.enabling.run.items) (length c.wake.new.self.run.items) (options_of b c.args.m) (options_sent b outs.items) (gets_differs g.M.Kind.Kinds.means old c.args.end new c.args.i c.args.side c.args.m c.put_at-answer.ensures.same calm_kind e) less (gets_sets_less g.M.Kind.Kinds.means b old new c.args.end c.args.i c.args.side c.args.m outs.items kinds calm e sent)))

@@ -7,8 +7,10 @@ use Rattle.strm_qpair.specs.Modules.{HoldsOrdinary}
 use Rattle.strm_ends.specs.Image.{end_of}
 use Rattle.strm_ends.specs.declared.place.NextQueue.TheVariants.{Of}
 use Rattle.strm_ends.specs.Held.{module_place}
+use Rattle.strm_module.specs.Calm.{options_sent}
+use Rattle.strm_ends.specs.Count.{answers_options}
 use Rattle.strm_chain.specs.Enabled.{ChainValue, is_enabled}
-use Rattle.strm_chain.proofs.CountLemmas.{serves_one, count_take}
+use Rattle.strm_chain.proofs.CountLemmas.{serves_one, serves_sets_less, count_take}
 use Rattle.strm_chain.proofs.chain.Chain.serve_at.Goals as goal
 
 pub invariant_of-self : goal.invariant_of-self
@@ -32,4 +34,5 @@ returns-in-Ok-clause-moves g c =
     let was : is_enabled c.self.inside.enabling.run (module_place c.args.side c.args.end c.args.i) ≡ true = ap (λ (v : ChainValue _). is_enabled v.run (module_place c.args.side c.args.end c.args.i)) c.self.view_is ∙ enabled in
     let less = c.wake.ensures.taken (module_place c.args.side c.args.end c.args.i) is was in
     let served = serves_one g.M.Kind.Kinds.means old new c.args.end c.args.i c.args.side kinds ordinary c.in-Ok.ensures.state in
-    rw (← c.self.view_is) (count_take old new queue (length c.self.inside.enabling.run.items) (length c.wake.new.self.run.items) (serves_differs g.M.Kind.Kinds.means old c.args.end new c.args.i c.args.side c.serve_at.ensures.same c.in-Ok.ensures.state) served less)
+    let b = answers_options old.driver in
+    rw (← c.self.view_is) (count_take old new queue (length c.self.inside.enabling.run.items) (length c.wake.new.self.run.items) (options_sent b c.in-Ok.outs.items) (serves_differs g.M.Kind.Kinds.means old c.args.end new c.args.i c.args.side c.serve_at.ensures.same c.in-Ok.ensures.state) served less (serves_sets_less g.M.Kind.Kinds.means b old new c.args.end c.args.i c.args.side c.in-Ok.outs.items kinds c.in-Ok.ensures.state c.in-Ok.ensures.outs))

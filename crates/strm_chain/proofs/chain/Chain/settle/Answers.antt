@@ -1,6 +1,7 @@
 use Rattle.std.proofs.Common.{◌≡◌, ◌+◌, ◌∷◌, ◌++◌, [], true, false, length, length-append, ◌∙◌, ap, sym, arith}
 use Rattle.strm_ends.specs.Flow.{may}
-use Rattle.strm_ends.specs.Count.{message_count}
+use Rattle.strm_ends.specs.Count.{message_count, place_count, options_count}
+use Rattle.strm_chain.specs.Enabled.{ChainValue}
 use Rattle.strm_chain.proofs.QuietLemmas.{Leads-snoc, same_trans, leads_to, same_to}
 use Rattle.strm_chain.proofs.chain.Chain.settle.Goals as goal
 
@@ -21,7 +22,8 @@ loop-place-preserved g c =
           let before = l.most kinds in
           let rested = c.in-Some.ensures.rests c.if-may.false in
           let same = ap message_count c.look.ensures.image in
-          omega (arith, before, rested, same, counted);
+          let options = ap options_count c.look.ensures.image in
+          omega (arith, before, rested, same, options, counted);
       own = omega (arith, l.own, c.in-Some.ensures.rests c.if-may.false, counted);
       counted = l.counted;
     }
@@ -54,8 +56,22 @@ loop-place-preserved-in-Continue-1 g c =
           let before = l.most kinds in
           let looked = c.in-Some.ensures.moves c.if-may.true in
           let same = ap message_count c.look.ensures.image in
+          let options = ap options_count c.look.ensures.image in
           let more = c.in_ok-move_one.ensures.more kinds (c.in-Some.ensures.enabled c.if-may.true) in
-          omega (arith, before, looked, same, counted, kept, more, long, all);
+          omega (arith, before, looked, same, options, counted, kept, more, long, all);
       own = omega (arith, l.own, counted, kept, c.in_ok-move_one.ensures.few, long, all);
       counted = few;
     }
+
+pub returns-clause-most : goal.returns-clause-most
+returns-clause-most g c =
+    let began = c.restart.ensures.image in
+    λ kinds.
+    let most = c.loop-place.invariant.most kinds in
+    let looked = ap message_count c.look.ensures.image in
+    let set = ap options_count c.look.ensures.image in
+    let places = ap place_count began in
+    let messages = ap message_count began in
+    let options = ap options_count began in
+    let given : c.looks-looks.result ≡ c.loop-place.self.run.given = c.looks-looks.ensures ∙ ap (λ (v : ChainValue _). v.run.given) c.self-3.view_is ∙ ap (λ (v : ChainValue _). v.run.given) c.in_default.ensures.still in
+    omega (arith, most, looked, set, places, messages, options, given)

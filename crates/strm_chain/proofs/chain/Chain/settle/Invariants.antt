@@ -2,7 +2,7 @@ use Rattle.std.proofs.Common.{◌≡◌, ◌<◌, ◌≤◌, ◌+◌, ◌-◌, �
 use Rattle.strm_ends.specs.Same.{SameModules}
 use Rattle.strm_ends.specs.Flow.{NoneMay}
 use Rattle.strm_module.specs.Calm.{IsCalm}
-use Rattle.strm_ends.specs.Count.{message_count, place_count}
+use Rattle.strm_ends.specs.Count.{message_count, place_count, options_count}
 use Rattle.strm_chain.specs.Count.{looks_at_most}
 use Rattle.strm_chain.specs.Service.{Leads}
 use Rattle.strm_chain.proofs.chain.Chain.settle.Given as goal
@@ -14,7 +14,7 @@ invariant-loop-place g l = record {
   whole : l.initial.self.image.broken ≡ false;
   still : NoneMay l.initial.self.image → l.self.image ≡ l.initial.self.image;
   least : length l.moves ≤ l.self.run.given;
-  most : IsCalm g.M.Kind.Kinds.means → l.self.run.given + length l.self.run.items + message_count l.initial.self.image ≤ place_count l.initial.self.image + 3 * length l.moves + message_count l.self.image;
+  most : IsCalm g.M.Kind.Kinds.means → l.self.run.given + length l.self.run.items + message_count l.initial.self.image + options_count l.self.image ≤ place_count l.initial.self.image + 3 * length l.moves + message_count l.self.image + options_count l.initial.self.image;
   own : l.self.run.given + length l.self.run.items ≤ looks_at_most l.moves;
   counted : length l.moves < 18446744073709551616;
 }

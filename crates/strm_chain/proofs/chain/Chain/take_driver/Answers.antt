@@ -1,8 +1,12 @@
 use Rattle.strm_ends.specs.declared.place.NextQueue.TheVariants.{Of}
 use Rattle.strm_ends.specs.declared.place.Place.TheVariants as Places
-use Rattle.strm_ends.specs.Held.{DiffersIn}
+use Rattle.strm_ends.specs.Held.{held_by, DiffersIn}
 use Rattle.strm_ends.proofs.NextLemmas.{ways_of_same}
-use Rattle.strm_chain.proofs.CaseLemmas.{on_option}
+use Rattle.std.proofs.Common.{length, refl, ap, arith}
+use Rattle.strm_module.specs.Calm.{options_of, options_held}
+use Rattle.strm_ends.specs.Count.{answers_options}
+use Rattle.strm_chain.proofs.CaseLemmas.{on_option, if_some, if_none}
+use Rattle.strm_chain.proofs.CountLemmas.{drv_served, drv_sets_less, count_take}
 use Rattle.strm_chain.proofs.EnablingLemmas.{places_same}
 use Rattle.strm_ends.proofs.FrameLemmas.{take_driver_differs, same_differs}
 use Rattle.strm_chain.proofs.chain.Chain.take_driver.Goals as goal
@@ -18,3 +22,29 @@ invariant_of-self g c =
       c.wake.ensures.ready old c.len-before.ensures c.self.invariant.0 differs,
       c.wake.ensures.places (places_same old new c.self.inside.enabling.run.items (ways_of_same old new differs.same) c.self.invariant.1),
     )
+
+pub returns-clause-moves : goal.returns-clause-moves
+returns-clause-moves g c =
+    let old = c.self.inside.ends.image in
+    let new = c.take_driver-first.new.self.image in
+    let place = Places.Drv c.args.end in
+    rw (← c.self.view_is)
+    (if_some c.take_driver-first.result _ _ c.take_driver-first.ensures.some
+    (λ m e enabled.
+    let less = c.wake.ensures.taken place refl enabled in
+    let b = answers_options old.driver in
+    count_take old new (Of place) (length c.self.inside.enabling.run.items) (length c.wake.new.self.run.items) (options_of b m) (take_driver_differs old c.args.end new m c.take_driver-first.ensures.same e.0 e.1) (drv_served old new c.args.end m e.0) less (drv_sets_less b old new c.args.end m e.0)))
+
+pub returns-clause-rests : goal.returns-clause-rests
+returns-clause-rests g c =
+    let old = c.self.inside.ends.image in
+    let new = c.take_driver-first.new.self.image in
+    let place = Places.Drv c.args.end in
+    rw (← c.self.view_is)
+    (if_none c.take_driver-first.result _ _ c.take_driver-first.ensures.none
+    (λ e enabled.
+    let less = c.wake.ensures.taken place refl enabled in
+    let b = answers_options old.driver in
+    let held = ap (λ i. options_held b (held_by i (Of place))) e.1 in
+    let long = ap (λ i. length (held_by i (Of place))) e.1 in
+    count_take old new (Of place) (length c.self.inside.enabling.run.items) (length c.wake.new.self.run.items) 0 (same_differs old new (Of place) e.1) (record { fewer = omega (arith, long); one = omega (arith, long) }) less (omega (arith, held))))

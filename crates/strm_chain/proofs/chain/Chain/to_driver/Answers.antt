@@ -1,8 +1,18 @@
 use Rattle.std.proofs.Common.{◌≡◌, ◌≤◌, ◌<◌, ◌∙◌, ap, sym, arith}
+use Rattle.std.proofs.Common.{true, None, refl}
+use Rattle.strm_module.specs.Calm.{is_calm, options_of}
+use Rattle.strm_qpair.specs.declared.driver.DriverSends.TheVariants.{Reply, Across}
+use Rattle.strm_ends.specs.Count.{answers_options, options_driven}
+use Rattle.strm_ends.specs.Image.{end_of, driver_does}
+use Rattle.strm_ends.proofs.CalmLemmas.{sends_calm, driver_calm}
+use Rattle.strm_chain.specs.Count.{options_carried}
+use Rattle.strm_chain.proofs.CountLemmas.{one_calm, hop_adds}
+use Rattle.strm_msg.specs.Message.{bare, ack_msg}
+use Rattle.strm_msg.specs.declared.kind.MsgKind.TheVariants.{MSetopts}
 use Rattle.strm_ends.specs.Image.{partner}
 use Rattle.strm_chain.specs.Hop.{carry_all, up_hop, down_hop, rank}
-use Rattle.strm_chain.proofs.HopLemmas.{carries_up, driver_nothing, driver_reply, driver_across}
-use Rattle.strm_chain.proofs.LoadLemmas.{none_falls, one_falls}
+use Rattle.strm_chain.proofs.HopLemmas.{carries_up, carries_two, driver_nothing, driver_reply, driver_across, driver_options}
+use Rattle.strm_chain.proofs.LoadLemmas.{none_falls, one_falls, two_fall}
 use Rattle.strm_chain.proofs.chain.Chain.to_driver.Goals as goal
 
 pub returns-in-Nothing-clause-image : goal.returns-in-Nothing-clause-image
@@ -55,3 +65,60 @@ returns-in-Across-clause-falls g c =
 pub returns-in-Nothing-clause-falls : goal.returns-in-Nothing-clause-falls
 returns-in-Nothing-clause-falls g c =
     none_falls (down_hop c.args.head_sent c.args.end 0 c.args.m) c.args.hops.now.items
+
+pub returns-in-Options-clause-image : goal.returns-in-Options-clause-image
+returns-in-Options-clause-image g c =
+    let means = g.M.Kind.Kinds.means in
+    let old = c.args.self.now.image in
+    let new = c.driver_does.new.self.image in
+    let n = c.count-own.result in
+    let x = bare (MSetopts c.in-Options.mode c.in-Options.prot c.in-Options.marks) in
+    let y = ack_msg c.in-Options.id 0 None in
+    rw (c.push_front_reserved-in-Options-2.ensures.items, c.up-in-Options-2.ensures, c.of_setopts-options.ensures, c.push_front_reserved-in-Options.ensures.items, c.up-in-Options.ensures, c.of_ack-ack.ensures)
+    (ap (λ i. carry_all means i c.args.hops.now.items)
+    (carries_two means new c.args.head_sent c.args.end n x y ∙ driver_options means c.args.head_sent c.args.end n old new c.args.m c.in-Options.mode c.in-Options.prot c.in-Options.marks c.in-Options.id c.count-own.ensures.value (sym c.in-Options.is ∙ c.in_ok-driver_does.ensures.sends) c.in_ok-driver_does.ensures.state))
+
+pub returns-in-Options-clause-falls : goal.returns-in-Options-clause-falls
+returns-in-Options-clause-falls g c =
+    let n = c.count-own.result in
+    let few : n ≤ 8 = c.count-own.ensures.few in
+    let x = up_hop c.args.head_sent c.args.end n (bare (MSetopts c.in-Options.mode c.in-Options.prot c.in-Options.marks)) in
+    let y = up_hop c.args.head_sent c.args.end n (ack_msg c.in-Options.id 0 None) in
+    let less_x : rank x < rank (down_hop c.args.head_sent c.args.end 0 c.args.m) = omega arith in
+    let less_y : rank y < rank (down_hop c.args.head_sent c.args.end 0 c.args.m) = omega arith in
+    rw (c.push_front_reserved-in-Options-2.ensures.items, c.up-in-Options-2.ensures, c.of_setopts-options.ensures, c.push_front_reserved-in-Options.ensures.items, c.up-in-Options.ensures, c.of_ack-ack.ensures)
+    (two_fall (down_hop c.args.head_sent c.args.end 0 c.args.m) x y c.args.hops.now.items less_x less_y)
+
+pub returns-in-Reply-clause-grows : goal.returns-in-Reply-clause-grows
+returns-in-Reply-clause-grows g c =
+    let old = c.args.self.now.image in
+    let e = end_of old c.args.end in
+    let b = answers_options old.driver in
+    let m = c.in-Reply.m in
+    let sent : Reply m ≡ (driver_does old.driver c.args.end e c.args.m).sends = sym c.in-Reply.is ∙ c.in_ok-driver_does.ensures.sends in
+    λ kinds calm rest.
+    let still : is_calm m.kind ≡ true = ap sends_calm sent ∙ (driver_calm old.driver c.args.end e c.args.m calm).0 in
+    let grow = c.in_ok-driver_does.ensures.grows calm in
+    let by = ap (options_driven b) c.in-Reply.is in
+    let set = ap (options_carried old) c.push_front_reserved.ensures.items ∙ hop_adds b c.up.result c.args.hops.now.items in
+    let one : options_of b c.up.result.m ≡ options_of b m = rw c.up.ensures refl in (
+      omega (arith, grow, by, set, one),
+      rw (c.push_front_reserved.ensures.items, c.up.ensures) (one_calm (up_hop c.args.head_sent c.args.end c.count-own.result m) c.args.hops.now.items still rest),
+    )
+
+pub returns-in-Across-clause-grows : goal.returns-in-Across-clause-grows
+returns-in-Across-clause-grows g c =
+    let old = c.args.self.now.image in
+    let e = end_of old c.args.end in
+    let b = answers_options old.driver in
+    let m = c.in-Across.m in
+    let sent : Across m ≡ (driver_does old.driver c.args.end e c.args.m).sends = sym c.in-Across.is ∙ c.in_ok-driver_does.ensures.sends in
+    λ kinds calm rest.
+    let still : is_calm m.kind ≡ true = ap sends_calm sent ∙ (driver_calm old.driver c.args.end e c.args.m calm).0 in
+    let grow = c.in_ok-driver_does.ensures.grows calm in
+    let by = ap (options_driven b) c.in-Across.is in
+    let set = ap (options_carried old) c.push_front_reserved-in-Across.ensures.items ∙ hop_adds b c.up-in-Across.result c.args.hops.now.items in
+    let one : options_of b c.up-in-Across.result.m ≡ options_of b m = rw c.up-in-Across.ensures refl in (
+      omega (arith, grow, by, set, one),
+      rw (c.push_front_reserved-in-Across.ensures.items, c.up-in-Across.ensures) (one_calm (up_hop c.args.head_sent c.partner_of-partner.result c.count-across.result m) c.args.hops.now.items still rest),
+    )

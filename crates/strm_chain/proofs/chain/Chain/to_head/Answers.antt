@@ -1,4 +1,6 @@
-use Rattle.std.proofs.Common.{◌≤◌, ◌<◌, ◌∙◌, true, false, ap, sym, arith}
+use Rattle.std.proofs.Common.{◌≡◌, ◌≤◌, ◌<◌, ◌∙◌, true, false, Some, None, ap, sym, arith}
+use Rattle.strm_ends.specs.Image.{end_of}
+use Rattle.strm_ends.proofs.CalmLemmas.{head_calm}
 use Rattle.strm_chain.specs.Hop.{carry_all, up_hop, down_hop, rank}
 use Rattle.strm_chain.proofs.HopLemmas.{carries_down, head_again, head_none, head_some}
 use Rattle.strm_chain.proofs.LoadLemmas.{none_falls, one_falls}
@@ -38,3 +40,9 @@ returns-then-head_sent-clause-falls g c =
 pub returns-in-None-clause-falls : goal.returns-in-None-clause-falls
 returns-in-None-clause-falls g c =
     none_falls (up_hop c.args.head_sent c.args.end 0 c.args.m) c.args.hops.now.items
+
+pub returns-in-Some-clause-grows : goal.returns-in-Some-clause-grows
+returns-in-Some-clause-grows g c =
+    λ kinds calm rest.
+    let nothing : Some c.in-Some.m ≡ None = sym c.in-Some.is ∙ c.in_ok-sends.ensures.sends ∙ (head_calm (end_of c.args.self.now.image c.args.end) c.args.m calm).0 in
+    cc

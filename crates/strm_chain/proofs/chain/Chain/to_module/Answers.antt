@@ -7,7 +7,10 @@ use Rattle.std.proofs.Common.{◌-◌}
 use Rattle.strm_ends.specs.Image.{end_of}
 use Rattle.strm_ends.proofs.CalmLemmas.{gets_calm}
 use Rattle.strm_chain.specs.Deliver.{put_at}
-use Rattle.strm_chain.proofs.CountLemmas.{outs_calm}
+use Rattle.std.proofs.Common.{arith}
+use Rattle.strm_ends.specs.Count.{answers_options}
+use Rattle.strm_chain.specs.Count.{options_carried}
+use Rattle.strm_chain.proofs.CountLemmas.{outs_calm, outs_set}
 use Rattle.strm_chain.proofs.chain.Chain.to_module.Goals as goal
 
 pub returns-clause-image : goal.returns-clause-image
@@ -35,9 +38,12 @@ returns-clause-grows g c =
     let old = c.args.self.now.image in
     let h = c.args.hop in
     let i = c.next_module-i.result in
+    let sent = c.in_ok-outs.outs.items in
     λ kinds calm rest.
-    let outs = (gets_calm means (end_of old h.end) i h.side h.m kinds calm).0 in (
-      c.in_ok-outs.ensures.grows kinds calm,
+    let outs = (gets_calm means (end_of old h.end) i h.side h.m kinds calm).0 in
+    let grow = c.in_ok-outs.ensures.grows kinds calm in
+    let set = ap (options_carried old) c.push_outs.ensures.items ∙ outs_set (answers_options old.driver) h.head_sent h.side h.end i (h.ahead - 1) sent c.args.hops.now.items in (
+      omega (arith, grow, set),
       rw (c.push_outs.ensures.items, c.in_ok-outs.ensures.outs)
           (outs_calm h.head_sent h.side h.end i (h.ahead - 1) (put_at means old h.end i h.side h.m).outs c.args.hops.now.items outs rest),
     )

@@ -41,7 +41,6 @@ returns-clause-same g c =
     rw (← c.self.view_is)
     (record {
       is_open = refl;
-      head_marks = refl;
       drv_marks = refl;
       modules = identities-set c.self.inside.pairs.items (c.args.i - 1) c.serve.new.self c.index_mut.result.now c.index_mut.ensures.value c.serve.ensures.identity;
       ids = record { next = refl; pending = refl; kept = λ _. refl };

@@ -1,7 +1,7 @@
 use Rattle.std.proofs.Common.{◌≡◌, false, refl}
 use Rattle.strm_msg.specs.Kind.{is_high}
 use Rattle.strm_qpair.proofs.WaitLemmas.{ordinary-put, ordinary-kind}
-use Rattle.strm_qpair.proofs.end.StreamEnd.echo_does.Goals as goal
+use Rattle.strm_qpair.proofs.end.StreamEnd.loop_does.Goals as goal
 
 pub invariant_of-self-in-MData : goal.invariant_of-self-in-MData
 invariant_of-self-in-MData g c =
@@ -22,7 +22,6 @@ returns-in_ok-put_in_list-in-MData-clause-same g c =
     rw (← c.self.view_is)
     (record {
       is_open = refl;
-      head_marks = refl;
       drv_marks = c.put_in_list.ensures.marks;
       modules = refl;
       ids = record { next = refl; pending = refl; kept = λ _. refl };

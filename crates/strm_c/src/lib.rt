@@ -6,34 +6,23 @@
 
 ghost use Rattle.std.specs.Prelude.{◌≡◌, true, false, [], Ok};
 ghost use Rattle.strm_call.specs.declared.request.Request.TheVariants as Requests;
-ghost use Rattle.strm_c.specs.Numbers.{driver_of};
-ghost use Rattle.strm_c.specs.Asked as asks;
-ghost use Rattle.strm_c.specs.Told.{HasTaken, IsValue, AreValues, IsNamed, Nothing};
-ghost use Rattle.strm_c.specs.Call.{Calls, CopiesAndCalls, Opens};
-ghost use Rattle.strm_c.specs.Arrival.{message_of, CopiesAndHandsIn};
+ghost use Rattle.strm_handle.specs.Codes.{driver_of};
+ghost use Rattle.strm_handle.specs.Asked as asks;
+ghost use Rattle.strm_handle.specs.Told.{HasTaken, IsValue, AreValues, IsNamed, Nothing};
+ghost use Rattle.strm_handle.specs.Call.{Calls, CopiesAndCalls, Opens};
+ghost use Rattle.strm_abi.specs.Messages.{message_of};
+ghost use Rattle.strm_handle.specs.Arrival.{CopiesAndHandsIn};
 
-mod arrival;
-mod asked;
-mod calls;
-mod handle;
-mod held;
-mod numbers;
-mod opening;
-mod parts;
-mod told;
-
-use arrival::{hand_in, message_of};
-use asked::{
-    find_of, flush_of, flushband_of, getmsg_of, getpmsg_of, kind_of, marks_of, part_of, peek_of,
-    push_of, putmsg_of, putpmsg_of, read_of, setread_of, str_of, write_of,
-};
-use calls::{call, call_for_name, call_for_value, call_for_values, call_taking};
-pub use handle::Handle;
-use numbers::{driver_of, number_of};
-use opening::opened;
 use std::alloc::Global;
+use strm_abi::message_of;
 use strm_call::Request;
-pub use told::Got;
+pub use strm_handle::{Got, Handle};
+use strm_handle::{
+    call, call_for_name, call_for_value, call_for_values, call_taking, driver_of, find_of,
+    flush_of, flushband_of, free_stream, getmsg_of, getpmsg_of, hand_in, kind_of, marks_of,
+    open_stream, part_of, peek_of, push_of, putmsg_of, putpmsg_of, read_of, setread_of, str_of,
+    write_of,
+};
 
 /// Opens a stream into a closed handle.
 #[unsafe(no_mangle)]
@@ -49,16 +38,8 @@ pub extern "C" fn strm_open(
     requires { s.old.is_open ≡ false }
     ensures { Opens (driver_of driver) (head_hi, head_lo) (drv_hi, drv_lo) result (s.new ≡ s.old) s.new.is_open s.new.held.stream }
 {
-    let Some(driver) = driver_of(driver) else {
-        return 22;
-    };
-    match opened(alloc, driver, (head_hi, head_lo), (drv_hi, drv_lo)) {
-        Ok(held) => {
-            s.put(held);
-            0
-        }
-        Err(errno) => number_of(errno),
-    }
+    let driver = driver_of(driver);
+    open_stream(alloc, s, driver, (head_hi, head_lo), (drv_hi, drv_lo))
 }
 
 /// Frees the stream of an open handle, whatever stands there, and closes the handle.
@@ -67,8 +48,7 @@ pub extern "C" fn strm_free(alloc: Global, s: &mut Handle)
     requires { s.old.is_open ≡ true }
     ensures { s.new.is_open ≡ false }
 {
-    let held = s.take(alloc);
-    drop(held);
+    free_stream(alloc, s);
 }
 
 /// Sends a message (putmsg(2)).

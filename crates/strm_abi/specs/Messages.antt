@@ -1,0 +1,38 @@
+-- The message that is handed in from a line, by the numbers of its kind and of what it says.
+use Rattle.std.specs.Prelude.{ℕ, ◌-◌, nat_eq, nat_le, Option, Some, None, if◌then◌else◌, option_map}
+use Rattle.strm_msg.specs.Message.{Msg, Part, bare, data_msg, proto_msg, pcproto_msg}
+use Rattle.strm_msg.specs.declared.kind.MsgKind.TheVariants.{MFlush, MHangup, MError}
+use Rattle.strm_msg.specs.declared.errno.Errno.{Errno}
+use Rattle.strm_msg.specs.declared.errno.Errno.TheVariants.{EBADF, ENOSR, EINVAL, ERANGE, ENXIO, EBADMSG, ENODATA, EAGAIN, ETIME, EIO, EPROTO}
+use Rattle.strm_abi.specs.Numbers.{sides_of}
+
+-- the errno of a number of errno.h
+abbrev pub errno_of : ℕ → Option Errno
+errno_of n =
+    if nat_eq n 9 then Some EBADF else if nat_eq n 63 then Some ENOSR else if nat_eq n 22 then Some EINVAL
+    else if nat_eq n 34 then Some ERANGE else if nat_eq n 6 then Some ENXIO else if nat_eq n 74 then Some EBADMSG
+    else if nat_eq n 61 then Some ENODATA else if nat_eq n 11 then Some EAGAIN else if nat_eq n 62 then Some ETIME
+    else if nat_eq n 5 then Some EIO else if nat_eq n 71 then Some EPROTO else None
+
+-- a flush of the sides that flags name; FLUSHBAND, which is 4, makes it one of a band
+abbrev pub flush_msg : ℕ → ℕ → Option Msg
+flush_msg band flags =
+    if nat_le flags 3 then option_map (λ sides. bare (MFlush sides.0 sides.1 None)) (sides_of flags)
+    else option_map (λ sides. bare (MFlush sides.0 sides.1 (Some band))) (sides_of (flags - 4))
+
+-- a message without parts, by the number of its kind; a further number says what a flush flushes, and which errno an error has
+abbrev pub bare_of : ℕ → ℕ → ℕ → Option Msg
+bare_of kind band number =
+    if nat_eq kind 134 then flush_msg band number
+    else if nat_eq kind 137 then Some (bare MHangup)
+    else if nat_eq kind 138 then option_map (λ errno. bare (MError errno)) (errno_of number)
+    else None
+
+-- the message of a kind by its number in sys/stream.h: M_DATA is 0x00, M_PROTO 0x01, M_PCPROTO 0x83, M_FLUSH 0x86, M_HANGUP 0x89
+-- and M_ERROR 0x8a
+abbrev pub message_of : ℕ → ℕ → Part → Part → ℕ → Option Msg
+message_of kind band ctl dat number =
+    if nat_eq kind 0 then option_map (λ bytes. data_msg band bytes) dat
+    else if nat_eq kind 1 then option_map (λ bytes. proto_msg band bytes dat) ctl
+    else if nat_eq kind 131 then option_map (λ bytes. pcproto_msg bytes dat) ctl
+    else bare_of kind band number

@@ -1,0 +1,65 @@
+-- What errors, sides, modes and lengths are as numbers of C (errno(3), stropts.h of System V Release 4).
+use Rattle.std.specs.Prelude.{ℕ, ◌+◌, nat_eq, min, Bool, true, false, Option, Some, None, length, if◌then◌else◌, ℤ, pos, negsuc}
+use Rattle.strm_msg.specs.Message.{Part}
+use Rattle.strm_msg.specs.declared.errno.Errno.{Errno}
+use Rattle.strm_msg.specs.declared.errno.Errno.TheVariants.{EBADF, ENOSR, EINVAL, ERANGE, ENXIO, EBADMSG, ENODATA, EAGAIN, ETIME, EIO, EPROTO}
+use Rattle.strm_msg.specs.declared.words.End.{End}
+use Rattle.strm_msg.specs.declared.words.End.TheVariants as Ends
+use Rattle.strm_msg.specs.declared.words.ReadMode.{ReadMode}
+use Rattle.strm_msg.specs.declared.words.ReadMode.TheVariants.{Rnorm, Rmsgn, Rmsgd}
+use Rattle.strm_msg.specs.declared.words.Prot.{Prot}
+use Rattle.strm_msg.specs.declared.words.Prot.TheVariants as Prots
+
+-- the numbers of errno.h on Linux
+abbrev pub number_of : Errno → ℕ
+number_of EBADF = 9
+number_of ENOSR = 63
+number_of EINVAL = 22
+number_of ERANGE = 34
+number_of ENXIO = 6
+number_of EBADMSG = 74
+number_of ENODATA = 61
+number_of EAGAIN = 11
+number_of ETIME = 62
+number_of EIO = 5
+number_of EPROTO = 71
+
+-- the end of a number
+abbrev pub end_of : ℕ → Option End
+end_of n = if nat_eq n 0 then Some Ends.A else if nat_eq n 1 then Some Ends.B else None
+
+-- the sides that are flushed, the read side first: FLUSHR is 1 and FLUSHW is 2
+abbrev pub sides_of : ℕ → Option (Bool × Bool)
+sides_of flags =
+    if nat_eq flags 0 then Some (false, false) else if nat_eq flags 1 then Some (true, false) else if nat_eq flags 2 then Some (false, true)
+    else if nat_eq flags 3 then Some (true, true) else None
+
+-- how reads treat messages: RNORM is 0, RMSGD is 1 and RMSGN is 2
+abbrev pub mode_of : ℕ → Option ReadMode
+mode_of n = if nat_eq n 0 then Some Rnorm else if nat_eq n 1 then Some Rmsgd else if nat_eq n 2 then Some Rmsgn else None
+
+-- and control: in fours, RPROTDAT is 1, RPROTDIS is 2 and RPROTNORM is 4, as if none is given
+abbrev pub prot_of : ℕ → Option Prot
+prot_of n =
+    if nat_eq n 0 then Some Prots.Norm else if nat_eq n 1 then Some Prots.Dat else if nat_eq n 2 then Some Prots.Dis
+    else if nat_eq n 4 then Some Prots.Norm else None
+
+abbrev pub mode_number : ReadMode → ℕ
+mode_number Rnorm = 0
+mode_number Rmsgd = 1
+mode_number Rmsgn = 2
+
+-- both as one number
+abbrev pub read_number : ReadMode → Prot → ℕ
+read_number mode Prots.Norm = mode_number mode + 16
+read_number mode Prots.Dat = mode_number mode + 4
+read_number mode Prots.Dis = mode_number mode + 8
+
+-- a number as an int: the greatest int where it is greater
+abbrev pub int_of : ℕ → ℤ
+int_of n = pos (min n 2147483647)
+
+-- the length of a part, -1 where there is none
+abbrev pub length_of : Part → ℤ
+length_of None = negsuc 0
+length_of (Some bytes) = int_of (length bytes)

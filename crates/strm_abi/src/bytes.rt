@@ -1,0 +1,29 @@
+//! Bytes are written at the front of a buffer.
+ghost use Rattle.std.specs.Prelude.{◌≡◌};
+ghost use Rattle.strm_abi.specs.Numbers as numbers;
+ghost use Rattle.strm_abi.specs.Bytes.{filled, filled_if};
+
+use crate::numbers::int_of;
+use strm_msg::Bytes;
+
+/// Puts bytes at the front of a buffer, as many as it has room for.
+pub fn fill(buffer: &mut [u8], bytes: &[u8])
+    ensures { buffer.new ≡ filled bytes.now buffer.old }
+{
+    let n = buffer.len().min(bytes.len());
+    buffer[..n].copy_from_slice(&bytes[..n]);
+}
+
+/// Puts a part at the front of a buffer, if there is one, and tells its length: -1 where there is none.
+pub fn fill_part(buffer: &mut [u8], part: &Option<Bytes>) -> i32
+    ensures bytes { buffer.new ≡ filled_if part.now buffer.old }
+    ensures length { result ≡ numbers.length_of part.now }
+{
+    match part {
+        Some(bytes) => {
+            fill(buffer, bytes.as_slice());
+            int_of(bytes.len() as u64)
+        }
+        None => -1,
+    }
+}

@@ -1,0 +1,14 @@
+use Rattle.strm_module.specs.Eight.{eight}
+use Rattle.strm_head.specs.Begin.{out_of}
+use Rattle.strm_handle.proofs.FitsLemmas.{step_fits}
+use Rattle.strm_handle.proofs.calls.step.Goals as goal
+
+pub returns : goal.returns
+returns c =
+    let out = out_of eight c.args.stream.now c.args.end c.args.request c.apply-outcome.result.answer in
+    record {
+      moves = c.apply-outcome.result.moves;
+      step = c.apply-outcome.ensures.step;
+      memory = c.apply-outcome.ensures.memory;
+      fits = step_fits c.args.stream.now c.apply-outcome.new.self c.args.end c.args.request c.apply-outcome.result.answer c.apply-outcome.result.moves out c.apply-outcome.ensures.step;
+    }

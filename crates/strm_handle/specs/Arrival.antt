@@ -1,0 +1,37 @@
+-- What becomes of a message that is handed in from a line.
+use Rattle.std.specs.Prelude.{◌≡◌, ℕ, Option, Some, None, ◌⊎◌, ℤ, pos}
+use Rattle.strm_msg.specs.Message.{Msg}
+use Rattle.strm_msg.specs.declared.errno.Errno.{Errno}
+use Rattle.strm_msg.specs.declared.errno.Errno.TheVariants.{ENOSR, EINVAL, EAGAIN}
+use Rattle.strm_module.specs.Eight.{eight}
+use Rattle.strm_module.specs.declared.kind.Kind.{Kind}
+use Rattle.strm_ends.specs.Image.{Image}
+use Rattle.strm_head.specs.declared.outcome.Arrived.{Arrived}
+use Rattle.strm_head.specs.declared.outcome.Arrived.TheVariants.{Taken, Full, NoMem, Broke}
+use Rattle.strm_head.specs.Arrive.{Arrives}
+use Rattle.strm_abi.specs.Numbers.{number_of}
+
+abbrev pub arrived_code : Arrived → ℕ
+arrived_code (Taken moves looks) = 0
+arrived_code (Full m) = number_of EAGAIN
+arrived_code (NoMem m) = number_of ENOSR
+arrived_code Broke = number_of ENOSR
+
+-- a message comes in from a line, or comes back
+pub record Lands (old : Image Kind) (m : Msg) (code : ℤ) (new : Image Kind) : Type 0 where
+  pub arrived : Arrived
+  pub arrives : Arrives eight old m arrived new
+  pub code_is : code ≡ pos (arrived_code arrived)
+
+-- no message came in, and the stream is as it was
+abbrev pub IsNotIn : Errno → Image Kind → ℤ → Image Kind → Type 0
+IsNotIn errno old code new = (code ≡ pos (number_of errno)) × (new ≡ old)
+
+-- what is handed in: EINVAL where it is no message
+abbrev pub HandsIn : Image Kind → Option Msg → ℤ → Image Kind → Type 0
+HandsIn old None code new = IsNotIn EINVAL old code new
+HandsIn old (Some m) code new = Lands old m code new
+
+-- the same, unless memory is wanting for the message
+abbrev pub CopiesAndHandsIn : Image Kind → Option Msg → ℤ → Image Kind → Type 0
+CopiesAndHandsIn old asked code new = IsNotIn ENOSR old code new ⊎ HandsIn old asked code new

@@ -1,0 +1,96 @@
+-- What the arguments of a call ask for, or why they ask for nothing.
+use Rattle.std.specs.Prelude.{◌≡◌, ℕ, ◌/◌, ◌%◌, nat_eq, nat_le, min, Bool, Option, Some, None, Result, Ok, Err, ◌⊎◌, List, [], length, if◌then◌else◌}
+use Rattle.strm_msg.specs.Message.{Part}
+use Rattle.strm_module.specs.Shape.{MarkPair, make_fault, new_shape}
+use Rattle.strm_module.specs.declared.shape.MakeFault.{MakeFault}
+use Rattle.strm_module.specs.declared.kind.Kind.{Kind}
+use Rattle.strm_module.specs.declared.kind.Kind.TheVariants as Kinds
+use Rattle.strm_module.specs.declared.shape.Shape.{Shape}
+use Rattle.strm_call.specs.declared.refusal.Refusal.{Refusal}
+use Rattle.strm_call.specs.declared.refusal.Refusal.TheVariants.{Invalid, NoMemory}
+use Rattle.strm_call.specs.declared.request.Request.{Request}
+use Rattle.strm_call.specs.declared.request.Request.TheVariants as Requests
+use Rattle.strm_abi.specs.Numbers.{sides_of, mode_of, prot_of}
+use Rattle.strm_handle.specs.Codes.{priority_of, wanted_of, put_flag_of, get_flag_of}
+
+-- a request, or the refusal that arguments have which make none
+abbrev pub Asked : Type 0
+Asked = Result (Request (Shape Kind)) Refusal
+
+-- a request of what the arguments say, and EINVAL where they say nothing
+abbrev pub ask : {X : Type 0} → Option X → (X → Asked) → Asked
+ask None asked = Err Invalid
+ask (Some x) asked = asked x
+
+-- a request whose arguments were copied: want of memory may take its place
+abbrev pub IsMade : Asked → Asked → Type 0
+IsMade asked made = (made ≡ asked) ⊎ (made ≡ Err NoMemory)
+
+abbrev pub part_of : Bool → List ℕ → Part
+part_of has bytes = if has then Some bytes else None
+
+-- the most bytes that are asked for: those of the buffer, up to the greatest u16
+abbrev pub most_of : Bool → List ℕ → Option ℕ
+most_of has buffer = if has then Some (min (length buffer) 65535) else None
+
+abbrev pub band_of : ℕ → Option ℕ
+band_of band = if nat_le band 255 then Some band else None
+
+abbrev pub putmsg_of : Bool → List ℕ → Bool → List ℕ → ℕ → Asked
+putmsg_of has_ctl ctl has_dat dat flags =
+    ask (priority_of flags) (λ flag. Ok (Requests.Putmsg (part_of has_ctl ctl) (part_of has_dat dat) flag))
+
+abbrev pub putpmsg_of : Bool → List ℕ → Bool → List ℕ → ℕ → ℕ → Asked
+putpmsg_of has_ctl ctl has_dat dat band flags =
+    ask (put_flag_of flags) (λ flag. ask (band_of band) (λ b. Ok (Requests.Putpmsg (part_of has_ctl ctl) (part_of has_dat dat) b flag)))
+
+abbrev pub getmsg_of : Bool → List ℕ → Bool → List ℕ → ℕ → Asked
+getmsg_of has_ctl ctl has_dat dat flags =
+    ask (wanted_of flags) (λ flag. Ok (Requests.Getmsg (most_of has_ctl ctl) (most_of has_dat dat) flag))
+
+abbrev pub getpmsg_of : Bool → List ℕ → Bool → List ℕ → ℕ → ℕ → Asked
+getpmsg_of has_ctl ctl has_dat dat band flags =
+    ask (get_flag_of flags) (λ flag. ask (band_of band) (λ b. Ok (Requests.Getpmsg (most_of has_ctl ctl) (most_of has_dat dat) b flag)))
+
+abbrev pub peek_of : Bool → List ℕ → Bool → List ℕ → ℕ → Asked
+peek_of has_ctl ctl has_dat dat flags =
+    ask (wanted_of flags) (λ flag. Ok (Requests.Peek (most_of has_ctl ctl) (most_of has_dat dat) flag))
+
+abbrev pub read_of : List ℕ → Asked
+read_of buffer = Ok (Requests.Read (min (length buffer) 65535))
+
+abbrev pub flush_of : ℕ → Asked
+flush_of flags = ask (sides_of flags) (λ sides. Ok (Requests.Flush sides.0 sides.1))
+
+abbrev pub flushband_of : ℕ → ℕ → Asked
+flushband_of band flags = ask (sides_of flags) (λ sides. Ok (Requests.FlushBand band sides.0 sides.1))
+
+-- the mode and the treatment of control, which are given as one number
+abbrev pub setread_of : ℕ → Asked
+setread_of n = ask (mode_of (n % 4)) (λ mode. ask (prot_of (n / 4)) (λ prot. Ok (Requests.SetRead mode prot)))
+
+-- the kind of a number. A table has 256 bytes, and nothing else asks for any
+abbrev pub kind_of : ℕ → ℕ → List ℕ → Option Kind
+kind_of kind band table =
+    if nat_eq kind 0 then Some Kinds.Pass
+    else if nat_eq kind 1 then (if nat_eq (length table) 256 then Some (Kinds.Table table) else None)
+    else if nat_eq kind 2 then Some Kinds.CrNl
+    else if nat_eq kind 3 then Some (Kinds.Line [])
+    else if nat_eq kind 4 then Some (Kinds.Count 0)
+    else if nat_eq kind 5 then Some (Kinds.Band band)
+    else if nat_eq kind 6 then Some Kinds.Tee
+    else if nat_eq kind 7 then Some Kinds.Mute
+    else None
+
+-- the marks of a side, which has no queue where the high one is 0
+abbrev pub marks_of : ℕ → ℕ → MarkPair
+marks_of hi lo = if nat_eq hi 0 then None else Some (hi, lo)
+
+-- a module that has a name and marks as modules have
+abbrev pub push_if : Option MakeFault → Shape Kind → Asked
+push_if None shape = Ok (Requests.Push shape)
+push_if (Some fault) shape = Err Invalid
+
+-- a new module of serial 0
+abbrev pub push_of : List ℕ → MarkPair → MarkPair → Option Kind → Asked
+push_of name rd wr kind = ask kind (λ k. push_if (make_fault name rd wr) (new_shape 0 name rd wr k))

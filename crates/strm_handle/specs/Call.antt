@@ -1,0 +1,75 @@
+-- What an exported call does: a step of the stream, whose answer has the code that the call returns and is written where the
+-- caller has room for it.
+use Rattle.std.specs.Prelude.{◌≡◌, ℕ, Bool, true, false, ◌⊎◌, Option, Some, None, Result, Ok, Err, List, ℤ, pos}
+use Rattle.strm_msg.specs.declared.words.End.{End}
+use Rattle.strm_module.specs.Eight.{eight}
+use Rattle.strm_module.specs.declared.kind.Kind.{Kind}
+use Rattle.strm_module.specs.declared.shape.Shape.{Shape}
+use Rattle.strm_ends.specs.Image.{Image, fresh}
+use Rattle.strm_ends.specs.declared.place.Place.{Place}
+use Rattle.strm_qpair.specs.declared.driver.Driver.{Driver}
+use Rattle.strm_call.specs.declared.request.Request.{Request}
+use Rattle.strm_call.specs.declared.refusal.Refusal.{Refusal}
+use Rattle.strm_call.specs.declared.refusal.Refusal.TheVariants.{Closed}
+use Rattle.strm_call.specs.declared.answer.Answer.{Answer}
+use Rattle.strm_call.specs.declared.answer.Answer.TheVariants.{Refused}
+use Rattle.strm_head.specs.declared.event.Event.TheVariants.{Asked as Call}
+use Rattle.strm_head.specs.Begin.{out_of, takes_no_memory, wants_memory}
+use Rattle.strm_head.specs.Inside.{are_marks}
+use Rattle.strm_head.specs.Step.{Step}
+use Rattle.strm_abi.specs.Numbers.{end_of}
+use Rattle.strm_handle.specs.Codes.{code_of}
+use Rattle.strm_handle.specs.Asked.{Asked, IsMade}
+use Rattle.strm_handle.specs.Fits.{Fits}
+
+-- the stream took the step of a request, which this answers, with no part that is longer than was asked for
+pub record IsStep (old : Image Kind) (e : End) (request : Request (Shape Kind)) (answer : Answer) (new : Image Kind) : Type 0 where
+  pub moves : List Place
+  pub step : Step eight old e (Call request) answer moves (out_of eight old e request answer) new
+  pub memory : takes_no_memory request ≡ true → wants_memory answer ≡ false
+  pub fits : Fits request answer
+
+-- what is to be done: a request at an end, or the refusal of a number that is no end, which counts as a closed one, or of arguments
+-- that make no request
+abbrev pub admitted : Option End → Asked → Result (End × Request (Shape Kind)) Refusal
+admitted None asked = Err Closed
+admitted (Some e) (Err refusal) = Err refusal
+admitted (Some e) (Ok request) = Ok (e, request)
+
+-- the answer to what is to be done: that of a step, or the refusal that came before any, which leaves the stream as it is
+abbrev pub Answers : Image Kind → Result (End × Request (Shape Kind)) Refusal → Answer → Image Kind → Type 0
+Answers old (Ok call) answer new = IsStep old call.0 call.1 answer new
+Answers old (Err refusal) answer new = (answer ≡ Refused refusal) × (new ≡ old)
+
+-- an exported call: the answer to what was asked at an end, its code, and what is written of it
+pub record Calls (old : Image Kind) (end : ℕ) (asked : Asked) (writes : Answer → Type 0) (code : ℤ) (new : Image Kind) : Type 0 where
+  pub answer : Answer
+  pub answers : Answers old (admitted (end_of end) asked) answer new
+  pub code_is : code ≡ pos (code_of answer)
+  pub written : writes answer
+
+-- an exported call whose arguments are copied first, for which memory may be wanting
+pub record CopiesAndCalls (old : Image Kind) (end : ℕ) (asked : Asked) (writes : Answer → Type 0) (code : ℤ) (new : Image Kind) : Type 0 where
+  pub made : Asked
+  pub is_made : IsMade asked made
+  pub calls : Calls old end made writes code new
+
+-- a stream was not opened, for this errno, and the handle is as it was
+abbrev pub IsNotOpened : ℕ → ℤ → Type 0 → Type 0
+IsNotOpened errno code same = (code ≡ pos errno) × same
+
+-- a handle leads to a new stream
+pub record IsFresh (driver : Driver) (head drv : ℕ × ℕ) (code : ℤ) (is_open : Bool) (new : Image Kind) : Type 0 where
+  pub code_is : code ≡ pos 0
+  pub opened : is_open ≡ true
+  pub is_fresh : new ≡ fresh driver (record { hi = head.0; lo = head.1 }) (record { hi = drv.0; lo = drv.1 })
+
+-- with marks that a stream can have: a new stream, or ENOSR
+abbrev pub OpensWith : Bool → Driver → ℕ × ℕ → ℕ × ℕ → ℤ → Type 0 → Bool → Image Kind → Type 0
+OpensWith true driver head drv code same is_open new = IsNotOpened 63 code same ⊎ IsFresh driver head drv code is_open new
+OpensWith false driver head drv code same is_open new = IsNotOpened 22 code same
+
+-- an open: EINVAL for a number that is no driver, and for marks of which a low one is not below its high one
+abbrev pub Opens : Option Driver → ℕ × ℕ → ℕ × ℕ → ℤ → Type 0 → Bool → Image Kind → Type 0
+Opens None head drv code same is_open new = IsNotOpened 22 code same
+Opens (Some driver) head drv code same is_open new = OpensWith (are_marks head drv) driver head drv code same is_open new

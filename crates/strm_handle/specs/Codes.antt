@@ -1,0 +1,74 @@
+-- What answers, drivers and flags are as numbers of C (stropts.h of System V Release 4).
+use Rattle.std.specs.Prelude.{ℕ, nat_eq, Bool, true, false, Option, Some, None, if◌then◌else◌}
+use Rattle.strm_msg.specs.declared.errno.Errno.TheVariants.{ENOSR, ETIME}
+use Rattle.strm_qpair.specs.declared.driver.Driver.{Driver}
+use Rattle.strm_qpair.specs.declared.driver.Driver.TheVariants as Drivers
+use Rattle.strm_call.specs.Refusal.{errno_of}
+use Rattle.strm_call.specs.declared.request.Priority.{Priority}
+use Rattle.strm_call.specs.declared.request.Priority.TheVariants as Priorities
+use Rattle.strm_call.specs.declared.request.PutFlag.{PutFlag}
+use Rattle.strm_call.specs.declared.request.PutFlag.TheVariants as PutFlags
+use Rattle.strm_call.specs.declared.request.Wanted.{Wanted}
+use Rattle.strm_call.specs.declared.request.Wanted.TheVariants as Wanteds
+use Rattle.strm_call.specs.declared.request.GetFlag.{GetFlag}
+use Rattle.strm_call.specs.declared.request.GetFlag.TheVariants as GetFlags
+use Rattle.strm_call.specs.declared.answer.More.{More}
+use Rattle.strm_call.specs.declared.answer.More.TheVariants as Mores
+use Rattle.strm_call.specs.declared.answer.Acknowledged.{Acknowledged}
+use Rattle.strm_call.specs.declared.answer.Acknowledged.TheVariants.{Ack, Nak, Timeout}
+use Rattle.strm_call.specs.declared.answer.Reply.{Reply}
+use Rattle.strm_call.specs.declared.answer.Reply.TheVariants.{Str}
+use Rattle.strm_call.specs.declared.answer.Answer.{Answer}
+use Rattle.strm_call.specs.declared.answer.Answer.TheVariants.{Done, Refused, Broke}
+use Rattle.strm_abi.specs.Numbers.{number_of}
+
+-- the code of an ioctl's answer: 0, the errno that it was refused with, or ETIME
+abbrev pub ack_code : Acknowledged → ℕ
+ack_code (Ack rval dat) = 0
+ack_code (Nak errno) = number_of errno
+ack_code Timeout = number_of ETIME
+
+abbrev pub reply_code : Reply → ℕ
+reply_code (Str answer) = ack_code answer
+reply_code reply = 0
+
+-- the code that a call returns: 0 where it was done, else the number of an errno; a stream that breaks wants memory
+abbrev pub code_of : Answer → ℕ
+code_of (Done reply) = reply_code reply
+code_of (Refused refusal) = number_of (errno_of refusal)
+code_of Broke = number_of ENOSR
+
+abbrev pub driver_of : ℕ → Option Driver
+driver_of n = if nat_eq n 0 then Some Drivers.Echo else if nat_eq n 1 then Some Drivers.Loop else if nat_eq n 2 then Some Drivers.Line else None
+
+-- RS_HIPRI is 1
+abbrev pub priority_of : ℕ → Option Priority
+priority_of flags = if nat_eq flags 0 then Some Priorities.Norm else if nat_eq flags 1 then Some Priorities.Hipri else None
+
+abbrev pub wanted_of : ℕ → Option Wanted
+wanted_of flags = if nat_eq flags 0 then Some Wanteds.Any else if nat_eq flags 1 then Some Wanteds.Hipri else None
+
+-- MSG_HIPRI is 1, MSG_ANY is 2 and MSG_BAND is 4
+abbrev pub put_flag_of : ℕ → Option PutFlag
+put_flag_of flags =
+    if nat_eq flags 0 then Some PutFlags.Zero else if nat_eq flags 1 then Some PutFlags.Hipri else if nat_eq flags 4 then Some PutFlags.Band else None
+
+abbrev pub get_flag_of : ℕ → Option GetFlag
+get_flag_of flags =
+    if nat_eq flags 0 then Some GetFlags.Zero else if nat_eq flags 1 then Some GetFlags.Hipri else if nat_eq flags 2 then Some GetFlags.Any
+    else if nat_eq flags 4 then Some GetFlags.Band else None
+
+abbrev pub priority_number : Priority → ℕ
+priority_number Priorities.Norm = 0
+priority_number Priorities.Hipri = 1
+
+-- MORECTL is 1 and MOREDATA is 2
+abbrev pub more_number : More → ℕ
+more_number Mores.Nothing = 0
+more_number Mores.Ctl = 1
+more_number Mores.Data = 2
+more_number Mores.Both = 3
+
+abbrev pub bit_number : Bool → ℕ
+bit_number false = 0
+bit_number true = 1

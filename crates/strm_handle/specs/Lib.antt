@@ -1,0 +1,7 @@
+pub mod Owned
+pub mod Codes
+pub mod Asked
+pub mod Told
+pub mod Fits
+pub mod Call
+pub mod Arrival

@@ -1,0 +1,129 @@
+-- What an answer writes where its caller has room for it.
+use Rattle.std.specs.Prelude.{◌≡◌, ℕ, Some, None, List, [], ◌∷◌, length, slice_get, option_map, ℤ, pos}
+use Rattle.strm_msg.specs.Message.{Part}
+use Rattle.strm_call.specs.declared.answer.Acknowledged.TheVariants.{Ack}
+use Rattle.strm_call.specs.declared.answer.Received.{Received}
+use Rattle.strm_call.specs.declared.answer.Received.TheVariants as Receiveds
+use Rattle.strm_call.specs.declared.answer.Reply.{Reply}
+use Rattle.strm_call.specs.declared.answer.Reply.TheVariants as Replies
+use Rattle.strm_call.specs.declared.answer.Answer.{Answer}
+use Rattle.strm_call.specs.declared.answer.Answer.TheVariants.{Done}
+use Rattle.strm_handle.specs.declared.told.Got.{Got}
+use Rattle.strm_abi.specs.Numbers.{read_number, int_of, length_of}
+use Rattle.strm_abi.specs.Bytes.{filled, filled_if}
+use Rattle.strm_handle.specs.Codes.{priority_number, more_number, bit_number}
+
+-- the control of a reply, if it has any
+abbrev pub ctl_of : Reply → Part
+ctl_of (Replies.Getmsg ctl dat flag more) = ctl
+ctl_of (Replies.Getpmsg ctl dat flag more) = ctl
+ctl_of (Replies.Peek (Some seen)) = seen.ctl
+ctl_of reply = None
+
+-- its data
+abbrev pub dat_of : Reply → Part
+dat_of (Replies.Getmsg ctl dat flag more) = dat
+dat_of (Replies.Getpmsg ctl dat flag more) = dat
+dat_of (Replies.Peek (Some seen)) = seen.dat
+dat_of (Replies.Read dat) = Some dat
+dat_of (Replies.Str (Ack rval dat)) = dat
+dat_of reply = None
+
+abbrev pub received_flags : Received → ℕ
+received_flags (Receiveds.Band band) = 4
+received_flags Receiveds.Hipri = 1
+
+abbrev pub received_band : Received → ℕ
+received_band (Receiveds.Band band) = band
+received_band Receiveds.Hipri = 0
+
+-- what is told beside the bytes: the lengths of the parts, and the numbers of the rest
+abbrev pub got : Part → Part → ℕ → ℕ → ℕ → ℕ → ℕ → Got
+got ctl dat found flags band more rval =
+    record {
+      ctl_len = length_of ctl;
+      dat_len = length_of dat;
+      found = pos found;
+      flags = pos flags;
+      band = int_of band;
+      more = pos more;
+      rval = rval;
+    }
+
+abbrev pub got_of : Reply → Got
+got_of (Replies.Getmsg ctl dat flag more) = got ctl dat 1 (priority_number flag) 0 (more_number more) 0
+got_of (Replies.Getpmsg ctl dat flag more) = got ctl dat 1 (received_flags flag) (received_band flag) (more_number more) 0
+got_of (Replies.Peek (Some seen)) = got seen.ctl seen.dat 1 (priority_number seen.flag) 0 0 0
+got_of (Replies.Read dat) = got None (Some dat) 1 0 0 0 0
+got_of (Replies.Str (Ack rval dat)) = got None dat 1 0 0 0 rval
+got_of reply = got None None 0 0 0 0 0
+
+-- what is told of an answer, and what was told before where it is no reply
+abbrev pub got_after : Answer → Got → Got
+got_after (Done reply) old = got_of reply
+got_after answer old = old
+
+-- the part of an answer, if it is a reply
+abbrev pub part_after : (Reply → Part) → Answer → Part
+part_after part (Done reply) = part reply
+part_after part answer = None
+
+-- the parts of an answer lie in these buffers, and this is told of them
+pub record HasTaken (ctl dat : List ℕ) (told : Got) (ctl' dat' : List ℕ) (told' : Got) (answer : Answer) : Type 0 where
+  pub control : ctl' ≡ filled_if (part_after ctl_of answer) ctl
+  pub bytes : dat' ≡ filled_if (part_after dat_of answer) dat
+  pub told_is : told' ≡ got_after answer told
+
+-- the number of a reply
+abbrev pub value_of : Reply → ℕ
+value_of (Replies.Write len) = len
+value_of (Replies.Nread messages bytes) = messages
+value_of (Replies.GetRead mode prot) = read_number mode prot
+value_of (Replies.Canput can) = bit_number can
+value_of (Replies.Ckband waits) = bit_number waits
+value_of (Replies.Getband band) = band
+value_of (Replies.Find found) = bit_number found
+value_of reply = 0
+
+-- and a second one: how many bytes of data the first message has
+abbrev pub bytes_of : Reply → ℕ
+bytes_of (Replies.Nread messages bytes) = bytes
+bytes_of reply = 0
+
+abbrev pub value_after : (Reply → ℕ) → Answer → ℤ → ℤ
+value_after value (Done reply) old = int_of (value reply)
+value_after value answer old = old
+
+-- the number of an answer
+abbrev pub IsValue : ℤ → ℤ → Answer → Type 0
+IsValue value value' answer = value' ≡ value_after value_of answer value
+
+-- both numbers of an answer
+pub record AreValues (value bytes value' bytes' : ℤ) (answer : Answer) : Type 0 where
+  pub value_is : value' ≡ value_after value_of answer value
+  pub bytes_is : bytes' ≡ value_after bytes_of answer bytes
+
+-- nine bytes: a name, and a zero or more behind it
+abbrev pub name_field : List ℕ → List ℕ
+name_field name = filled name (0 ∷ (0 ∷ (0 ∷ (0 ∷ (0 ∷ (0 ∷ (0 ∷ (0 ∷ (0 ∷ [])))))))))
+
+-- the name at a place of a reply, from 0 for the first, if it has so many
+abbrev pub name_of : ℕ → Reply → Part
+name_of i (Replies.Look name) = option_map (λ n. name_field n.items) (slice_get (name ∷ []) i)
+name_of i (Replies.List names) = option_map (λ n. name_field n.items) (slice_get names.items i)
+name_of i reply = None
+
+-- how many names a reply has
+abbrev pub count_of : Reply → ℕ
+count_of (Replies.Look name) = 1
+count_of (Replies.List names) = length names.items
+count_of reply = 0
+
+-- a name of an answer lies in this buffer, and this is how many it has
+pub record IsNamed (i : ℕ) (name : List ℕ) (count : ℤ) (name' : List ℕ) (count' : ℤ) (answer : Answer) : Type 0 where
+  pub bytes : name' ≡ filled_if (part_after (name_of i) answer) name
+  pub count_is : count' ≡ value_after count_of answer count
+
+-- nothing is written
+abbrev pub Nothing : Answer → Type 0
+Nothing answer = Unit {0}

@@ -1,0 +1,284 @@
+//! What the arguments of a call ask for.
+ghost use Rattle.std.specs.Prelude.{◌≡◌, Ok, IfOk};
+ghost use Rattle.strm_call.specs.declared.request.Request.TheVariants as Requests;
+ghost use Rattle.strm_handle.specs.Asked as asks;
+
+use crate::codes::{get_flag_of, priority_of, put_flag_of, wanted_of};
+use std::alloc::Global;
+use strm_abi::{mode_of, prot_of, sides_of};
+use strm_call::{Refusal, Request};
+use strm_module::{Boxed, Instance, Kind, Plain, Shape};
+use strm_msg::{Bytes, NoMem};
+
+/// A request, or the refusal that arguments have which make none.
+pub type Asked = Result<Request<Boxed<Plain>>, Refusal>;
+
+/// The most bytes that are asked for: those of the buffer, up to the greatest `u16`.
+fn most_of(has: bool, buffer: &[u8]) -> Option<u16>
+    ensures { result ≡ asks.most_of has buffer.now }
+{
+    if has {
+        Some(buffer.len().min(65535) as u16)
+    } else {
+        None
+    }
+}
+
+/// A band of a number, if it is one.
+fn band_of(band: u32) -> Option<u8>
+    ensures { result ≡ asks.band_of band }
+{
+    if band <= 255 { Some(band as u8) } else { None }
+}
+
+/// A copy of a part that is there or not. Refused for want of memory alone.
+pub fn part_of(alloc: Global, has: bool, bytes: &[u8]) -> Result<Option<Bytes>, NoMem>
+    ensures { IfOk result (λ part. part ≡ asks.part_of has bytes.now) }
+{
+    if has {
+        Ok(Some(Bytes::from_slice(alloc, bytes)?))
+    } else {
+        Ok(None)
+    }
+}
+
+/// The putmsg of these arguments.
+pub fn putmsg_of(
+    alloc: Global,
+    has_ctl: bool,
+    ctl: &[u8],
+    has_dat: bool,
+    dat: &[u8],
+    flags: u32,
+) -> Asked
+    ensures { asks.IsMade (asks.putmsg_of has_ctl ctl.now has_dat dat.now flags) result }
+{
+    let Some(flag) = priority_of(flags) else {
+        return Err(Refusal::Invalid);
+    };
+    let Ok(ctl) = part_of(alloc, has_ctl, ctl) else {
+        return Err(Refusal::NoMemory);
+    };
+    let Ok(dat) = part_of(alloc, has_dat, dat) else {
+        drop(ctl);
+        return Err(Refusal::NoMemory);
+    };
+    Ok(Request::Putmsg { ctl, dat, flag })
+}
+
+/// The putpmsg of these arguments.
+pub fn putpmsg_of(
+    alloc: Global,
+    has_ctl: bool,
+    ctl: &[u8],
+    has_dat: bool,
+    dat: &[u8],
+    band: u32,
+    flags: u32,
+) -> Asked
+    ensures { asks.IsMade (asks.putpmsg_of has_ctl ctl.now has_dat dat.now band flags) result }
+{
+    let Some(flag) = put_flag_of(flags) else {
+        return Err(Refusal::Invalid);
+    };
+    let Some(band) = band_of(band) else {
+        return Err(Refusal::Invalid);
+    };
+    let Ok(ctl) = part_of(alloc, has_ctl, ctl) else {
+        return Err(Refusal::NoMemory);
+    };
+    let Ok(dat) = part_of(alloc, has_dat, dat) else {
+        drop(ctl);
+        return Err(Refusal::NoMemory);
+    };
+    Ok(Request::Putpmsg {
+        ctl,
+        dat,
+        band,
+        flag,
+    })
+}
+
+/// The getmsg of these arguments.
+pub fn getmsg_of(has_ctl: bool, ctl: &[u8], has_dat: bool, dat: &[u8], flags: u32) -> Asked
+    ensures { result ≡ asks.getmsg_of has_ctl ctl.now has_dat dat.now flags }
+{
+    let Some(flag) = wanted_of(flags) else {
+        return Err(Refusal::Invalid);
+    };
+    Ok(Request::Getmsg {
+        maxctl: most_of(has_ctl, ctl),
+        maxdat: most_of(has_dat, dat),
+        flag,
+    })
+}
+
+/// The getpmsg of these arguments.
+pub fn getpmsg_of(
+    has_ctl: bool,
+    ctl: &[u8],
+    has_dat: bool,
+    dat: &[u8],
+    band: u32,
+    flags: u32,
+) -> Asked
+    ensures { result ≡ asks.getpmsg_of has_ctl ctl.now has_dat dat.now band flags }
+{
+    let Some(flag) = get_flag_of(flags) else {
+        return Err(Refusal::Invalid);
+    };
+    let Some(band) = band_of(band) else {
+        return Err(Refusal::Invalid);
+    };
+    Ok(Request::Getpmsg {
+        maxctl: most_of(has_ctl, ctl),
+        maxdat: most_of(has_dat, dat),
+        band,
+        flag,
+    })
+}
+
+/// The peek of these arguments.
+pub fn peek_of(has_ctl: bool, ctl: &[u8], has_dat: bool, dat: &[u8], flags: u32) -> Asked
+    ensures { result ≡ asks.peek_of has_ctl ctl.now has_dat dat.now flags }
+{
+    let Some(flag) = wanted_of(flags) else {
+        return Err(Refusal::Invalid);
+    };
+    Ok(Request::Peek {
+        maxctl: most_of(has_ctl, ctl),
+        maxdat: most_of(has_dat, dat),
+        flag,
+    })
+}
+
+/// The read into this buffer.
+pub fn read_of(buffer: &[u8]) -> Asked
+    ensures { result ≡ asks.read_of buffer.now }
+{
+    Ok(Request::Read {
+        max: buffer.len().min(65535) as u16,
+    })
+}
+
+/// The write of these bytes.
+pub fn write_of(alloc: Global, bytes: &[u8]) -> Asked
+    ensures { asks.IsMade (Ok (Requests.Write bytes.now)) result }
+{
+    match Bytes::from_slice(alloc, bytes) {
+        Ok(dat) => Ok(Request::Write { dat }),
+        Err(_) => Err(Refusal::NoMemory),
+    }
+}
+
+/// The find of this name.
+pub fn find_of(alloc: Global, name: &[u8]) -> Asked
+    ensures { asks.IsMade (Ok (Requests.Find name.now)) result }
+{
+    match Bytes::from_slice(alloc, name) {
+        Ok(name) => Ok(Request::Find { name }),
+        Err(_) => Err(Refusal::NoMemory),
+    }
+}
+
+/// The ioctl of this command and these data.
+pub fn str_of(alloc: Global, cmd: u32, has_dat: bool, dat: &[u8]) -> Asked
+    ensures { asks.IsMade (Ok (Requests.Str cmd (asks.part_of has_dat dat.now))) result }
+{
+    match part_of(alloc, has_dat, dat) {
+        Ok(dat) => Ok(Request::Str { cmd, dat }),
+        Err(_) => Err(Refusal::NoMemory),
+    }
+}
+
+/// The flush of these sides.
+pub fn flush_of(flags: u32) -> Asked
+    ensures { result ≡ asks.flush_of flags }
+{
+    let Some((r, w)) = sides_of(flags) else {
+        return Err(Refusal::Invalid);
+    };
+    Ok(Request::Flush { r, w })
+}
+
+/// The flush of a band of these sides.
+pub fn flushband_of(band: u8, flags: u32) -> Asked
+    ensures { result ≡ asks.flushband_of band flags }
+{
+    let Some((r, w)) = sides_of(flags) else {
+        return Err(Refusal::Invalid);
+    };
+    Ok(Request::FlushBand { band, r, w })
+}
+
+/// The setting of how reads treat messages.
+pub fn setread_of(mode: u32) -> Asked
+    ensures { result ≡ asks.setread_of mode }
+{
+    let prot = prot_of(mode / 4);
+    let Some(mode) = mode_of(mode % 4) else {
+        return Err(Refusal::Invalid);
+    };
+    let Some(prot) = prot else {
+        return Err(Refusal::Invalid);
+    };
+    Ok(Request::SetRead { mode, prot })
+}
+
+/// A table of 256 bytes.
+fn table_of(table: &[u8]) -> Option<Kind>
+    ensures { result ≡ asks.kind_of 1 0 table.now }
+{
+    let Ok(map) = <[u8; 256]>::try_from(table) else {
+        return None;
+    };
+    Some(Kind::Table { map })
+}
+
+/// The kind of a number, with its band or its table.
+pub fn kind_of(alloc: Global, kind: u32, band: u8, table: &[u8]) -> Option<Kind>
+    ensures { result ≡ asks.kind_of kind band table.now }
+{
+    match kind {
+        0 => Some(Kind::Pass),
+        1 => table_of(table),
+        2 => Some(Kind::CrNl),
+        3 => Some(Kind::Line {
+            partial: Bytes::from(Vec::new(alloc)),
+        }),
+        4 => Some(Kind::Count { n: 0 }),
+        5 => Some(Kind::Band { b: band }),
+        6 => Some(Kind::Tee),
+        7 => Some(Kind::Mute),
+        _ => None,
+    }
+}
+
+/// The marks of a side, which has no queue where the high one is 0.
+pub fn marks_of(hi: u32, lo: u32) -> Option<(u32, u32)>
+    ensures { result ≡ asks.marks_of hi lo }
+{
+    if hi == 0 { None } else { Some((hi, lo)) }
+}
+
+/// The push of a module of this name, these marks and this kind.
+pub fn push_of(
+    alloc: Global,
+    name: &[u8],
+    rd: Option<(u32, u32)>,
+    wr: Option<(u32, u32)>,
+    kind: Option<Kind>,
+) -> Asked
+    ensures { asks.IsMade (asks.push_of name.now rd wr kind) result }
+{
+    let Some(kind) = kind else {
+        return Err(Refusal::Invalid);
+    };
+    let Ok(shape) = Shape::new(0, name, rd, wr, kind) else {
+        return Err(Refusal::Invalid);
+    };
+    match Boxed::new(alloc, Instance::new(shape, Plain)) {
+        Ok(instance) => Ok(Request::Push { instance }),
+        Err(_) => Err(Refusal::NoMemory),
+    }
+}

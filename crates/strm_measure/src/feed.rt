@@ -1,8 +1,9 @@
 //! What it costs to offer a message to the ring of a line, beside a bare push into such a ring.
 ghost use Rattle.std.specs.Prelude.{◌≡◌, ℕ, None};
 
-use rtrb::{Consumer, Producer, RingBuffer};
+use rtrb::{Consumer, Producer, PushError, RingBuffer};
 use std::alloc::Global;
+use std::io;
 use std::marker::Brand;
 use std::rt::Clock;
 use std::time::Instant;
@@ -26,13 +27,32 @@ const LINE: Setup = Setup {
     ring: SIZE,
 };
 
+/// How many messages went through, and how many nanoseconds it took to hand them in.
+struct Taken {
+    many: u64,
+    nanos: u128,
+}
+
+/// Whether a message that is offered is accepted.
+fn is_accepted<N: Runs<Kind>>(feeder: &mut Feeder<Kind, N>) -> bool
+    requires { (number : ℕ) → N.feed number ≡ None }
+{
+    match feeder.arrive(Message::of_hangup()) {
+        Ok(()) => true,
+        Err(m) => {
+            drop(m);
+            false
+        }
+    }
+}
+
 /// Offers as many messages as the ring holds, and says how many were accepted.
 fn offer<N: Runs<Kind>>(feeder: &mut Feeder<Kind, N>) -> u64
     requires { (number : ℕ) → N.feed number ≡ None }
 {
     let mut accepted: u64 = 0;
     for _ in 0..SIZE {
-        accepted = accepted.saturating_add(u64::from(feeder.arrive(Message::of_hangup()).is_ok()));
+        accepted = accepted.saturating_add(u64::from(is_accepted(feeder)));
     }
     accepted
 }
@@ -44,11 +64,22 @@ fn take_all<N: Runs<Kind>>(inlet: &mut Inlet<Kind, N>) {
     }
 }
 
+/// Whether there was room for a message that is pushed.
+fn has_room(producer: &mut Producer<Message>) -> bool {
+    match producer.push(Message::of_hangup()) {
+        Ok(()) => true,
+        Err(PushError::Full(m)) => {
+            drop(m);
+            false
+        }
+    }
+}
+
 /// Pushes as many messages as the ring holds, and says for how many there was room.
 fn push(producer: &mut Producer<Message>) -> u64 {
     let mut pushed: u64 = 0;
     for _ in 0..SIZE {
-        pushed = pushed.saturating_add(u64::from(producer.push(Message::of_hangup()).is_ok()));
+        pushed = pushed.saturating_add(u64::from(has_room(producer)));
     }
     pushed
 }
@@ -61,7 +92,8 @@ fn pop_all(consumer: &mut Consumer<Message>) {
 }
 
 /// Says how many messages went through, and where it is timed what each cost to hand in.
-fn tell(rt: &impl Print, what: &str, many: u64, nanos: u128, is_timed: bool) -> anyhow::Result<()> {
+fn tell(rt: &impl Print, what: &str, taken: Taken, is_timed: bool) -> anyhow::Result<()> {
+    let Taken { many, nanos } = taken;
     print!(rt; "{what}: {many} messages, {SIZE} at a time")?;
     if is_timed {
         print!(rt;
@@ -73,48 +105,64 @@ fn tell(rt: &impl Print, what: &str, many: u64, nanos: u128, is_timed: bool) -> 
     Ok(())
 }
 
-/// Fills and empties a ring by a feeder and an inlet.
-fn feed<N: Runs<Kind>, R: Print + Clock + AllocGlobal>(
-    rt: &R,
-    ring: Ring,
-    is_timed: bool,
-) -> anyhow::Result<()>
+/// Fills and empties a ring over and over by a feeder and an inlet.
+fn feed<N: Runs<Kind>>(
+    rt: &impl Clock,
+    feeder: &mut Feeder<Kind, N>,
+    inlet: &mut Inlet<Kind, N>,
+) -> io::Result<Taken>
+    requires { (number : ℕ) → N.feed number ≡ None }
+{
+    let mut many: u64 = 0;
+    let mut nanos: u128 = 0;
+    for _ in 0..ROUNDS {
+        let start = Instant::now(rt)?;
+        many = many.saturating_add(offer(feeder));
+        nanos = nanos.saturating_add(start.elapsed(rt)?.as_nanos());
+        take_all(inlet);
+    }
+    Ok(Taken { many, nanos })
+}
+
+/// Fills and empties a ring over and over by its bare ends.
+fn push_bare(
+    rt: &impl Clock,
+    producer: &mut Producer<Message>,
+    consumer: &mut Consumer<Message>,
+) -> io::Result<Taken> {
+    let mut many: u64 = 0;
+    let mut nanos: u128 = 0;
+    for _ in 0..ROUNDS {
+        let start = Instant::now(rt)?;
+        many = many.saturating_add(push(producer));
+        nanos = nanos.saturating_add(start.elapsed(rt)?.as_nanos());
+        pop_all(consumer);
+    }
+    Ok(Taken { many, nanos })
+}
+
+/// What goes through a ring by a feeder and an inlet; nothing where it has no feeder.
+fn fed<N: Runs<Kind>, R: Clock>(rt: &R, ring: Ring) -> Option<io::Result<Taken>>
     requires name { ring.name ≡ N.ring 0 }
     requires any { (number : ℕ) → N.feed number ≡ None }
 {
     let (mut inlet, feeder) = ring.into_ends::<Kind, N>(0);
-    let Some(mut feeder) = feeder else {
-        anyhow::bail!("no feeder")
-    };
-    let mut many: u64 = 0;
-    let mut nanos: u128 = 0;
-    for _ in 0..ROUNDS {
-        let start = Instant::now(rt)?;
-        many = many.saturating_add(offer(&mut feeder));
-        nanos = nanos.saturating_add(start.elapsed(rt)?.as_nanos());
-        take_all(&mut inlet);
-    }
-    tell(rt, "a feeder", many, nanos, is_timed)
+    let mut feeder = feeder?;
+    Some(feed(rt, &mut feeder, &mut inlet))
 }
 
-/// Fills and empties a ring by its bare ends.
-fn push_bare<R: Print + Clock + AllocGlobal>(rt: &R, is_timed: bool) -> anyhow::Result<()> {
-    let alloc: Global = rt.alloc();
+/// What goes through a bare ring.
+fn pushed(rt: &impl Clock, alloc: Global) -> io::Result<Taken> {
     let (mut producer, mut consumer) = RingBuffer::new(alloc, usize::from(SIZE))?;
-    let mut many: u64 = 0;
-    let mut nanos: u128 = 0;
-    for _ in 0..ROUNDS {
-        let start = Instant::now(rt)?;
-        many = many.saturating_add(push(&mut producer));
-        nanos = nanos.saturating_add(start.elapsed(rt)?.as_nanos());
-        pop_all(&mut consumer);
-    }
-    tell(rt, "a bare ring", many, nanos, is_timed)
+    push_bare(rt, &mut producer, &mut consumer)
 }
 
 /// Says how much goes through rings, and where it is timed what it costs to hand a message in.
 pub fn measure<R: Print + Clock + AllocGlobal>(rt: &R, is_timed: bool) -> anyhow::Result<()> {
     let ring = Ring::new(rt.alloc(), LINE)?;
-    feed::<Brand, R>(rt, ring, is_timed)?;
-    push_bare(rt, is_timed)
+    let Some(taken) = fed::<Brand, R>(rt, ring) else {
+        anyhow::bail!("no feeder")
+    };
+    tell(rt, "a feeder", taken?, is_timed)?;
+    tell(rt, "a bare ring", pushed(rt, rt.alloc())?, is_timed)
 }

@@ -13,6 +13,9 @@ mod script;
 mod service;
 
 use std::env;
+use std::rt::{Clock, Files};
+use std::sync::Wait;
+use std::thread::Threads;
 
 /// How the program is called.
 const USAGE: &str = "strm_measure [--time | script FILE WORKERS | moves FILE | retry FILE OFFERS]";
@@ -25,22 +28,33 @@ fn word(words: &[String], i: usize) -> &str {
     }
 }
 
+/// Measures what the words of the command line name.
+fn measure<R: Files + Print + Clock + Threads + Wait + AllocGlobal + Sync>(
+    rt: &R,
+    words: &[String],
+) -> anyhow::Result<()> {
+    let many = words.len();
+    let first = word(words, 1);
+    let is_timed = first == "--time" && many == 2;
+    if first == "script" && many == 4 {
+        return script::measure(rt, word(words, 2), word(words, 3).parse::<u32>()?);
+    }
+    if first == "moves" && many == 3 {
+        return script::moves(rt, word(words, 2));
+    }
+    if first == "retry" && many == 4 {
+        return retry::play(rt, word(words, 2), word(words, 3));
+    }
+    if is_timed || many == 1 {
+        queue::measure(rt, is_timed)?;
+        feed::measure(rt, is_timed)?;
+        return service::measure(rt, is_timed);
+    }
+    println!(rt; "{USAGE}")?;
+    Ok(())
+}
+
 fn main(rt: HostRuntime) -> anyhow::Result<()> {
     let words: Vec<String> = env::args(&rt)?.collect(rt.alloc())?;
-    let words = words.as_slice();
-    let is_timed = word(words, 1) == "--time";
-    match (word(words, 1), words.len()) {
-        ("script", 4) => script::measure(&rt, word(words, 2), word(words, 3).parse::<u32>()?),
-        ("moves", 3) => script::moves(&rt, word(words, 2)),
-        ("retry", 4) => retry::play(&rt, word(words, 2), word(words, 3)),
-        ("--time", 2) | ("", 1) => {
-            queue::measure(&rt, is_timed)?;
-            feed::measure(&rt, is_timed)?;
-            service::measure(&rt, is_timed)
-        }
-        _ => {
-            println!(rt; "{USAGE}")?;
-            Ok(())
-        }
-    }
+    measure(&rt, words.as_slice())
 }

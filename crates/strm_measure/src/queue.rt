@@ -18,7 +18,13 @@ const BANDS: u32 = 8;
 fn put(alloc: Global, queue: &mut BandQueue, number: u32) -> Result<(), NoMem> {
     let band = (number % BANDS) as u8;
     let m = Message::of_data(alloc, band, b"x")?;
-    queue.put(m).map_err(|_| NoMem)
+    match queue.put(m) {
+        Ok(()) => Ok(()),
+        Err(m) => {
+            drop(m);
+            Err(NoMem)
+        }
+    }
 }
 
 /// A queue in which so many messages wait.

@@ -8,15 +8,15 @@ use std::marker::Brand;
 use std::rt::Files;
 use std::sync::Wait;
 use std::{io, vec};
-use strm_crew::{Script, ScriptCall, Transcript, log_of};
+use strm_crew::{Feed, Script, ScriptCall, StreamLog, Transcript, log_of};
 use strm_head::{Answer, Refusal};
-use strm_history::{Call, Called};
-use strm_module::{Boxed, Kind, Plain};
+use strm_history::{Call, Called, Setup};
+use strm_module::{Boxed, Kind, ModuleOf, Plain};
 use strm_msg::Message;
-use strm_plan::parse;
+use strm_plan::{Plan, parse};
 use strm_play::{Handed, hand_over};
 use strm_script::print;
-use strm_shared::{Ended, Feeder, Ring, Runs, Seat, Shared};
+use strm_shared::{EndFault, Ended, Feeder, Ring, Runs, Seat, Shared, SharedFault};
 
 /// What is done on a stream.
 #[derive(Drop)]
@@ -31,29 +31,75 @@ struct Work<'a> {
     offers: &'a str,
 }
 
-/// Makes a call, and again where it comes back.
-fn ask<N: Runs<Kind>, R: Print + Wait>(
+/// What becomes of a call.
+fn called<M: ModuleOf, N: Runs<M::Kind>, R: Wait>(
+    rt: &R,
+    shared: &Shared<M, N>,
+    seat: &mut Seat,
+    call: Call<Boxed<M>>,
+) -> Called<Boxed<M>>
+    requires number { seat.old.number ≡ shared.now.number }
+    requires calls { (number caller : ℕ) → N.calls number caller ≡ None }
+{
+    shared.call(rt, seat, call)
+}
+
+/// Whether a call was refused for want of memory; or the call, where it came back.
+fn told(called: Called<Boxed<Plain>>) -> Result<bool, Call<Boxed<Plain>>> {
+    match called {
+        Called::Done { answer, back } => {
+            drop(back);
+            let is_wanting = is_wanting(&answer);
+            drop(answer);
+            Ok(is_wanting)
+        }
+        Called::NoRoom(call) => Err(call),
+    }
+}
+
+/// Whether a call was refused for want of memory.
+fn is_wanting(answer: &Answer) -> bool {
+    match answer {
+        Answer::Refused(Refusal::NoMemory) => true,
+        _ => false,
+    }
+}
+
+/// Makes a call. Says whether it was refused for want of memory, or gives it back.
+fn ask<N: Runs<Kind>, R: Wait>(
     rt: &R,
     shared: &Shared<Plain, N>,
     seat: &mut Seat,
     call: Call<Boxed<Plain>>,
-) -> anyhow::Result<Answer>
+) -> Result<bool, Call<Boxed<Plain>>>
     requires { (number caller : ℕ) → N.calls number caller ≡ None }
 {
-    let mut call = call;
-    for _ in 0..2 {
-        if seat.number() != shared.number() {
-            break;
-        }
-        match shared.call(rt, seat, call) {
-            Called::Done { answer, back: _ } => return Ok(answer),
-            Called::NoRoom(back) => {
-                println!(rt; "no room")?;
-                call = back;
-            }
-        }
+    if seat.number() != shared.number() {
+        return Err(call);
     }
-    anyhow::bail!("no room twice")
+    told(called(rt, shared, seat, call))
+}
+
+/// Makes a call, and again where it comes back, which is told. Says whether it was refused for want of memory.
+fn ask_twice<N: Runs<Kind>, R: Print + Wait>(
+    rt: &R,
+    shared: &Shared<Plain, N>,
+    seat: &mut Seat,
+    call: Call<Boxed<Plain>>,
+) -> anyhow::Result<bool>
+    requires { (number caller : ℕ) → N.calls number caller ≡ None }
+{
+    let call = match ask(rt, shared, seat, call) {
+        Ok(is_wanting) => return Ok(is_wanting),
+        Err(call) => call,
+    };
+    let second = ask(rt, shared, seat, call).ok();
+    println!(rt; "no room")?;
+    let Some(is_wanting) = second else {
+        println!(rt; "no room")?;
+        anyhow::bail!("no room twice")
+    };
+    Ok(is_wanting)
 }
 
 /// Makes a call, and again where it is refused for want of memory.
@@ -62,21 +108,37 @@ fn ask_again<N: Runs<Kind>, R: Print + Wait>(
     shared: &Shared<Plain, N>,
     seat: &mut Seat,
     call: ScriptCall<Boxed<Plain>>,
-    same: ScriptCall<Boxed<Plain>>,
-) -> anyhow::Result<()>
+    same: Option<ScriptCall<Boxed<Plain>>>,
+) -> anyhow::Result<bool>
     requires { (number caller : ℕ) → N.calls number caller ≡ None }
 {
-    if ask(rt, shared, seat, call.call)? == Answer::Refused(Refusal::NoMemory) {
-        ask(rt, shared, seat, same.call)?;
+    match ask_twice(rt, shared, seat, call.call) {
+        Ok(true) => match same {
+            Some(same) => ask_twice(rt, shared, seat, same.call),
+            None => Ok(true),
+        },
+        asked => {
+            drop(same);
+            asked
+        }
     }
-    Ok(())
 }
 
 /// Whether a message is accepted.
 fn accepts<N: Runs<Kind>>(feeder: &mut Feeder<Kind, N>, m: Message) -> bool
     requires { (number : ℕ) → N.feed number ≡ None }
 {
-    m.from_line() && feeder.arrive(m).is_ok()
+    if !m.from_line() {
+        drop(m);
+        return false;
+    }
+    match feeder.arrive(m) {
+        Ok(()) => true,
+        Err(m) => {
+            drop(m);
+            false
+        }
+    }
 }
 
 /// Offers the next messages to a line, at most so many, and says how many came back.
@@ -87,9 +149,12 @@ fn offer<N: Runs<Kind>>(
 ) -> u64
     requires { (number : ℕ) → N.feed number ≡ None }
 {
+    let Some(feeder) = feeder.as_mut() else {
+        return 0;
+    };
     let mut overrun: u64 = 0;
     for _ in 0..many {
-        if let (Some(feeder), Some(m)) = (feeder.as_mut(), messages.next()) {
+        if let Some(m) = messages.next() {
             overrun = overrun.saturating_add(u64::from(!accepts(feeder, m)));
         }
     }
@@ -104,41 +169,202 @@ fn offers_before(offers: &str, at: usize) -> usize {
     }
 }
 
-/// What is left of a stream on which that is done, and how many messages came back.
-fn done<N: Runs<Kind>, R: Print + Wait>(
+/// Makes the calls on a stream, and says how many messages of its line came back.
+fn make_calls<N: Runs<Kind>, R: Print + Wait>(
     rt: &R,
-    alloc: Global,
-    ring: Ring,
+    shared: &Shared<Plain, N>,
+    seats: &mut [Seat],
+    feeder: &mut Option<Feeder<Kind, N>>,
     work: Work<'_>,
-) -> anyhow::Result<(Ended<Plain>, u64)>
-    requires marks { is_fit ring.setup ≡ true }
-    requires name { ring.name ≡ N.ring 0 }
+) -> anyhow::Result<u64>
     requires calls { (number caller : ℕ) → N.calls number caller ≡ None }
     requires feed { (number : ℕ) → N.feed number ≡ None }
 {
-    let (shared, mut seats, mut feeder) = Shared::<Plain, N>::new(alloc, 0, 1, ring)?;
-    let Some(mut seat) = seats.pop() else {
-        anyhow::bail!("no seat")
-    };
     let Work {
         calls,
         same,
         messages,
         offers,
     } = work;
-    let mut messages = messages.into_iter();
-    let mut overrun: u64 = 0;
-    for (at, (call, same)) in calls.into_iter().zip(same).enumerate() {
-        let back = offer(&mut feeder, &mut messages, offers_before(offers, at));
-        overrun = overrun.saturating_add(back);
-        ask_again(rt, &shared, &mut seat, call, same)?;
-    }
-    seats.push(seat)?;
-    let ended = match feeder {
-        Some(feeder) => shared.end(seats, feeder.finish())?,
-        None => shared.end(seats, None)?,
+    let Some(seat) = seats.first_mut() else {
+        anyhow::bail!("no seat")
     };
-    Ok((ended, overrun))
+    let mut messages = messages.into_iter();
+    let mut same = same.into_iter();
+    let mut overrun: u64 = 0;
+    let mut at: usize = 0;
+    for call in calls {
+        let back = offer(feeder, &mut messages, offers_before(offers, at));
+        overrun = overrun.saturating_add(back);
+        at = at.saturating_add(1);
+        ask_again(rt, shared, seat, call, same.next())?;
+    }
+    Ok(overrun)
+}
+
+/// A stream with this ring, with one seat, and with its feeder where it is a line.
+fn opened<M: ModuleOf, N: Runs<M::Kind>>(
+    alloc: Global,
+    ring: Ring,
+) -> Result<(Shared<M, N>, Vec<Seat>, Option<Feeder<M::Kind, N>>), SharedFault>
+    requires marks { is_fit ring.setup ≡ true }
+    requires name { ring.name ≡ N.ring 0 }
+{
+    Shared::new(alloc, 0, 1, ring)
+}
+
+/// The end of a stream.
+fn ended<M: ModuleOf, N: Runs<M::Kind>>(
+    shared: Shared<M, N>,
+    seats: Vec<Seat>,
+    feeder: Option<Feeder<M::Kind, N>>,
+) -> Result<Ended<M>, EndFault> {
+    let feed = match feeder {
+        Some(feeder) => feeder.finish(),
+        None => None,
+    };
+    shared.end(seats, feed)
+}
+
+/// What is left of a stream that has ended.
+fn log_of_end<M: ModuleOf>(
+    ended: Result<Ended<M>, EndFault>,
+    overrun: u64,
+) -> Result<StreamLog<M::Kind>, EndFault> {
+    match ended {
+        Ok(ended) => Ok(log_of(ended, overrun)),
+        Err(fault) => Err(fault),
+    }
+}
+
+/// What is left of a stream on which that is done.
+fn done<N: Runs<Kind>, R: Print + Wait>(
+    rt: &R,
+    alloc: Global,
+    ring: Ring,
+    work: Work<'_>,
+) -> anyhow::Result<StreamLog<Kind>>
+    requires marks { is_fit ring.setup ≡ true }
+    requires name { ring.name ≡ N.ring 0 }
+    requires calls { (number caller : ℕ) → N.calls number caller ≡ None }
+    requires feed { (number : ℕ) → N.feed number ≡ None }
+{
+    let (shared, mut seats, mut feeder) = opened::<Plain, N>(alloc, ring)?;
+    match make_calls(rt, &shared, seats.as_mut_slice(), &mut feeder, work) {
+        Ok(overrun) => Ok(log_of_end(ended(shared, seats, feeder), overrun)?),
+        Err(fault) => {
+            drop(shared);
+            drop(seats);
+            drop(feeder);
+            Err(fault)
+        }
+    }
+}
+
+/// What a script hands over.
+fn handed(alloc: Global, bytes: &[u8]) -> anyhow::Result<Handed> {
+    let plan = parse(alloc, bytes)?;
+    Ok(hand_over(alloc, plan)?)
+}
+
+/// The calls of the last process of a script; none where it has no process.
+fn calls_of(alloc: Global, scripts: Vec<Script<Boxed<Plain>>>) -> Vec<ScriptCall<Boxed<Plain>>> {
+    let mut scripts = scripts;
+    match scripts.pop() {
+        Some(Script { calls }) => calls,
+        None => Vec::new(alloc),
+    }
+}
+
+/// The messages of the last feed of a script; none where it has no feed.
+fn messages_of(alloc: Global, feeds: Vec<Feed>) -> Vec<Message> {
+    let mut feeds = feeds;
+    match feeds.pop() {
+        Some(
+            Feed {
+                stream: _,
+                messages,
+            },
+        ) => messages,
+        None => Vec::new(alloc),
+    }
+}
+
+/// The calls of a script.
+fn calls(alloc: Global, bytes: &[u8]) -> anyhow::Result<Vec<ScriptCall<Boxed<Plain>>>> {
+    let Handed {
+        plan,
+        setups: _,
+        scripts,
+        feeds,
+    } = handed(alloc, bytes)?;
+    drop(plan);
+    drop(feeds);
+    Ok(calls_of(alloc, scripts))
+}
+
+/// What is left of a stream that is made so, on which that is done.
+fn log<R: Print + Wait>(
+    rt: &R,
+    alloc: Global,
+    setup: Setup,
+    work: Work<'_>,
+) -> anyhow::Result<StreamLog<Kind>> {
+    if !setup.is_fit() {
+        drop(work);
+        anyhow::bail!("no marks")
+    }
+    match Ring::new(alloc, setup) {
+        Ok(ring) => done::<Brand, R>(rt, alloc, ring, work),
+        Err(fault) => {
+            drop(work);
+            Err(fault.into())
+        }
+    }
+}
+
+/// Prints what is left of a stream.
+fn tell(rt: &impl Print, alloc: Global, plan: &Plan, log: StreamLog<Kind>) -> anyhow::Result<()> {
+    let mut streams = Vec::new(alloc);
+    streams.push(log)?;
+    print(&Transcript { streams }, plan, &mut io::writer(rt))?;
+    Ok(())
+}
+
+/// Plays what was handed over.
+fn play_out<R: Print + Wait>(
+    rt: &R,
+    alloc: Global,
+    handed: Handed,
+    same: Vec<ScriptCall<Boxed<Plain>>>,
+    offers: &str,
+) -> anyhow::Result<()> {
+    let Handed {
+        plan,
+        mut setups,
+        scripts,
+        feeds,
+    } = handed;
+    let has_process = !scripts.is_empty();
+    let work = Work {
+        calls: calls_of(alloc, scripts),
+        same,
+        messages: messages_of(alloc, feeds),
+        offers,
+    };
+    let log = match setups.pop() {
+        Some(setup) if has_process => log(rt, alloc, setup, work),
+        _ => {
+            drop(work);
+            Err(anyhow::anyhow!("no stream, or no process"))
+        }
+    };
+    let told = match log {
+        Ok(log) => tell(rt, alloc, &plan, log),
+        Err(fault) => Err(fault),
+    };
+    drop(plan);
+    told
 }
 
 /// Plays the one process of a script on its one stream, and prints the transcript. Before that it prints `no room` for each
@@ -150,37 +376,12 @@ pub fn play<R: Files + Print + Wait + AllocGlobal>(
 ) -> anyhow::Result<()> {
     let alloc: Global = rt.alloc();
     let bytes = script(rt, alloc, path)?;
-    let Handed {
-        plan,
-        mut setups,
-        mut scripts,
-        mut feeds,
-    } = hand_over(alloc, parse(alloc, bytes.as_slice())?)?;
-    let mut again = hand_over(alloc, parse(alloc, bytes.as_slice())?)?;
-    let (Some(setup), Some(Script { calls }), Some(Script { calls: same })) = (
-        setups.pop(),
-        scripts.pop(),
-        again.scripts.pop(),
-    ) else {
-        anyhow::bail!("no stream, or no process")
-    };
-    if !setup.is_fit() {
-        anyhow::bail!("no marks")
+    let same = calls(alloc, bytes.as_slice())?;
+    match handed(alloc, bytes.as_slice()) {
+        Ok(handed) => play_out(rt, alloc, handed, same, offers),
+        Err(fault) => {
+            drop(same);
+            Err(fault)
+        }
     }
-    let messages = match feeds.pop() {
-        Some(feed) => feed.messages,
-        None => Vec::new(alloc),
-    };
-    let work = Work {
-        calls,
-        same,
-        messages,
-        offers,
-    };
-    let ring = Ring::new(alloc, setup)?;
-    let (ended, overrun) = done::<Brand, R>(rt, alloc, ring, work)?;
-    let mut streams = Vec::new(alloc);
-    streams.push(log_of(ended, overrun))?;
-    print(&Transcript { streams }, &plan, &mut io::writer(rt))?;
-    Ok(())
 }

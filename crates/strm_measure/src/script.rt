@@ -5,13 +5,47 @@ use std::rt::{Clock, Files};
 use std::sync::Wait;
 use std::thread::Threads;
 use std::time::Instant;
+use strm_crew::Transcript;
+use strm_module::Kind;
 use strm_plan::{LoadFault, load, parse};
-use strm_play::play;
+use strm_play::{Outcome, play};
 use strm_script::print;
 
 /// The bytes of the script at a path.
 pub fn script<R: Files>(rt: &R, alloc: Global, path: &str) -> Result<Vec<u8>, LoadFault> {
     load(alloc, fs::open(rt, path)?)
+}
+
+/// How many milliseconds it takes to read a script.
+fn time_to_read(rt: &impl Clock, alloc: Global, bytes: &[u8]) -> anyhow::Result<u128> {
+    let start = Instant::now(rt)?;
+    let plan = parse(alloc, bytes)?;
+    let read = start.elapsed(rt);
+    drop(plan);
+    Ok(read?.as_millis())
+}
+
+/// How many milliseconds it takes to print a transcript.
+fn time_to_print(rt: &impl Clock, alloc: Global, outcome: &Outcome) -> anyhow::Result<u128> {
+    let start = Instant::now(rt)?;
+    let mut text = Vec::new(alloc);
+    print(&outcome.transcript, &outcome.plan, &mut text)?;
+    Ok(start.elapsed(rt)?.as_millis())
+}
+
+/// How many milliseconds it takes to play a script, and then to print its transcript.
+fn time_to_play<R: Clock + Threads + Wait + Sync>(
+    rt: &R,
+    alloc: Global,
+    bytes: &[u8],
+    workers: u32,
+) -> anyhow::Result<(u128, u128)> {
+    let start = Instant::now(rt)?;
+    let outcome = play(rt, alloc, bytes, workers)?;
+    let played = start.elapsed(rt);
+    let printed = time_to_print(rt, alloc, &outcome);
+    drop(outcome);
+    Ok((played?.as_millis(), printed?))
 }
 
 /// Reads, plays and prints a script, and prints how long each took, in milliseconds.
@@ -22,19 +56,21 @@ pub fn measure<R: Files + Print + Clock + Threads + Wait + AllocGlobal + Sync>(
 ) -> anyhow::Result<()> {
     let alloc: Global = rt.alloc();
     let bytes = script(rt, alloc, path)?;
-    let start = Instant::now(rt)?;
-    let plan = parse(alloc, bytes.as_slice())?;
-    let read = start.elapsed(rt)?.as_millis();
-    drop(plan);
-    let start = Instant::now(rt)?;
-    let outcome = play(rt, alloc, bytes.as_slice(), workers)?;
-    let played = start.elapsed(rt)?.as_millis().saturating_sub(read);
-    let start = Instant::now(rt)?;
-    let mut text = Vec::new(alloc);
-    print(&outcome.transcript, &outcome.plan, &mut text)?;
-    let printed = start.elapsed(rt)?.as_millis();
+    let read = time_to_read(rt, alloc, bytes.as_slice())?;
+    let (played, printed) = time_to_play(rt, alloc, bytes.as_slice(), workers)?;
+    let played = played.saturating_sub(read);
     println!(rt; "{path}, {} bytes, {workers} workers:", bytes.len())?;
     println!(rt; "read {read} ms, played {played} ms, printed {printed} ms")?;
+    Ok(())
+}
+
+/// Prints a line for each thing that happened: how many queues moved after it, and at how many places service looked.
+fn tell_moves(rt: &impl Print, transcript: &Transcript<Kind>) -> anyhow::Result<()> {
+    for log in &transcript.streams {
+        for entry in &log.history {
+            println!(rt; "{} {}", entry.moves.len(), entry.looks)?;
+        }
+    }
     Ok(())
 }
 
@@ -47,10 +83,5 @@ pub fn moves<R: Files + Print + Threads + Wait + AllocGlobal + Sync>(
     let alloc: Global = rt.alloc();
     let bytes = script(rt, alloc, path)?;
     let outcome = play(rt, alloc, bytes.as_slice(), 1)?;
-    for log in &outcome.transcript.streams {
-        for entry in &log.history {
-            println!(rt; "{} {}", entry.moves.len(), entry.looks)?;
-        }
-    }
-    Ok(())
+    tell_moves(rt, &outcome.transcript)
 }

@@ -1,9 +1,12 @@
 //! What calls on an echo stream cost, with the service that follows them.
+ghost use Rattle.std.specs.Mem.{FitsInMemory};
+ghost use Rattle.strm_head.specs.contracts.outcome.Outcome as outcome_type;
+
 use std::alloc::Global;
 use std::rt::Clock;
 use std::time::Instant;
 use strm_head::{Driver, Priority, Request, Stream, Wanted};
-use strm_module::{Boxed, Instance, Kind, Plain, Shape};
+use strm_module::{Boxed, Instance, Kind, ModuleOf, Plain, Shape};
 use strm_msg::{Bytes, End, NoMem};
 
 /// How often the calls are made.
@@ -123,7 +126,9 @@ impl Service {
 }
 
 /// Makes a call on the stream's end. Gives the service that it had.
-fn ask(stream: &mut Stream<Plain>, request: Request<Boxed<Plain>>) -> Service {
+fn ask<M: ModuleOf>(stream: &mut Stream<M>, request: Request<Boxed<M>>) -> Service
+    requires { FitsInMemory (outcome_type.the_row M.row M.Kind.row M.Kind.Kinds) }
+{
     let outcome = stream.apply(End::A, request);
     Service {
         moves: outcome.moves.len() as u64,
@@ -151,18 +156,17 @@ fn push_eight(
     Ok(())
 }
 
-/// The stream of a trial.
-fn made(alloc: Global, trial: &Trial) -> anyhow::Result<Stream<Plain>> {
-    let mut stream = Stream::new(alloc, Driver::Echo, trial.marks, trial.marks)?;
+/// Puts the modules of a trial in, and writes its messages.
+fn fill(alloc: Global, stream: &mut Stream<Plain>, trial: &Trial) -> anyhow::Result<()> {
     match trial.modules {
         Modules::None => {}
-        Modules::Bare => push_eight(alloc, &mut stream, None)?,
-        Modules::Queued(marks) => push_eight(alloc, &mut stream, Some(marks))?,
+        Modules::Bare => push_eight(alloc, stream, None)?,
+        Modules::Queued(marks) => push_eight(alloc, stream, Some(marks))?,
     }
     for _ in 0..trial.written {
-        write(alloc, &mut stream)?;
+        write(alloc, stream)?;
     }
-    Ok(stream)
+    Ok(())
 }
 
 /// Makes the calls once. Gives the service so far with that of theirs.
@@ -204,21 +208,36 @@ fn turns(alloc: Global, stream: &mut Stream<Plain>, calls: Calls) -> Result<Serv
     Ok(service)
 }
 
+/// The service of a trial's calls on its stream, and how many nanoseconds they took.
+fn timed(
+    rt: &impl Clock,
+    alloc: Global,
+    stream: &mut Stream<Plain>,
+    trial: &Trial,
+) -> anyhow::Result<(Service, u128)> {
+    fill(alloc, stream, trial)?;
+    let start = Instant::now(rt)?;
+    let service = turns(alloc, stream, trial.calls)?;
+    Ok((service, start.elapsed(rt)?.as_nanos()))
+}
+
+/// The service of a trial's calls, and how many nanoseconds they took.
+fn tried(rt: &impl Clock, alloc: Global, trial: &Trial) -> anyhow::Result<(Service, u128)> {
+    let mut stream = Stream::new(alloc, Driver::Echo, trial.marks, trial.marks)?;
+    timed(rt, alloc, &mut stream, trial)
+}
+
 /// Says which calls are made, how often, and how many places move and are looked at for them, and where it is timed
 /// how long they take.
 pub fn measure<R: Print + Clock + AllocGlobal>(rt: &R, is_timed: bool) -> anyhow::Result<()> {
-    let alloc: Global = rt.alloc();
     for trial in &TRIALS {
-        let mut stream = made(alloc, trial)?;
-        let start = Instant::now(rt)?;
-        let service = turns(alloc, &mut stream, trial.calls)?;
-        let taken = start.elapsed(rt)?;
+        let (service, nanos) = tried(rt, rt.alloc(), trial)?;
         let name = trial.name;
         let moves = service.moves / u64::from(ROUNDS);
         let looks = service.looks / u64::from(ROUNDS);
         print!(rt; "{name}: {ROUNDS} times, moves {moves} and looks {looks} each")?;
         if is_timed {
-            print!(rt; ", {} ns each", taken.as_nanos() / u128::from(ROUNDS))?;
+            print!(rt; ", {} ns each", nanos / u128::from(ROUNDS))?;
         }
         println!(rt; "")?;
     }

@@ -1,5 +1,5 @@
 use Rattle.std.proofs.Common.{None}
-use Rattle.strm_measure.proofs.retry.play.Given as goal
+use Rattle.strm_measure.proofs.retry.log.Given as goal
 
 -- the run has this ring, and is of any calls and feeds
 abbrev pub ghosts-done : goal.ghosts-done

@@ -135,6 +135,7 @@ struct strm_module {
 /* The kinds of message that come in from a line, by their numbers in <sys/stream.h>. */
 #define M_DATA 0x00
 #define M_PROTO 0x01
+#define M_SETOPTS 0x10
 #define M_PCPROTO 0x83
 #define M_FLUSH 0x86
 #define M_HANGUP 0x89
@@ -407,6 +408,7 @@ static inline int strm_flushband(struct strm *s, uint8_t end, const struct bandi
 /* ---- Lines. ---- */
 
 /* Hands a message in from a line, at STRM_A: M_DATA with data, M_PROTO with control and perhaps data, M_PCPROTO likewise,
+ * M_SETOPTS with data in the format by which an echo is asked for options by an ioctl of command 16 (docs/MODEL.md, "Options"),
  * M_FLUSH with FLUSHR, FLUSHW and FLUSHBAND in `number`, M_HANGUP, or M_ERROR with one of the errnos named above in `number`.
  * An ordinary message waits in the line's list, a high one goes up at once. Refused, with none of the head of this file
  * before: EINVAL (no such message), EAGAIN (the line's list is full in the band of an ordinary message; and, for good, the

@@ -13,6 +13,15 @@ static int arrive(struct strm *s, int kind, const char *text)
     return strm_arrive(s, kind, 0, kind == M_PCPROTO ? &part : NULL, kind == M_DATA ? &part : NULL, 0);
 }
 
+/* How the head is to read and its marks, in the bytes that docs/MODEL.md has. */
+static int set_options(struct strm *s, const char *bytes, int len)
+{
+    char room[16];
+    struct strbuf part = { 0, len, room };
+    memcpy(room, bytes, (size_t)len);
+    return strm_arrive(s, M_SETOPTS, 0, NULL, &part, 0);
+}
+
 static void tell(struct strm *s)
 {
     int messages = 0, bytes = 0;
@@ -34,6 +43,7 @@ int main(void)
     char room[8];
     struct strbuf ctl = { 8, 0, room };
     int flags = RS_HIPRI, more = 0;
+    int32_t mode = 0;
     size_t written = 0;
 
     printf("open %s\n", said(strm_open(&s, STRM_LINE, 16, 4, 8, 2)));
@@ -51,6 +61,10 @@ int main(void)
     printf("arrive %s\n", said(arrive(&s, M_DATA, "q")));
     read_some(&s, 64);
     printf("no message %s\n", said(strm_arrive(&s, 0x05, 0, NULL, NULL, 0)));
+    printf("no options %s\n", said(set_options(&s, "\4\0\0", 3)));
+    printf("options %s\n", said(set_options(&s, "\2\0\1\0\0\0\4\0\0\0\1", 11)));
+    printf("getread %s", said(strm_getread(&s, STRM_A, &mode)));
+    printf(" message nondiscard %s\n", mode == (RMSGN | RPROTNORM) ? "yes" : "no");
     printf("hangup %s\n", said(strm_arrive(&s, M_HANGUP, 0, NULL, NULL, 0)));
     read_some(&s, 64);
     printf("write %s\n", said(strm_write(&s, STRM_A, "r", 1, &written)));

@@ -1,7 +1,9 @@
 -- The message that is handed in from a line, by the numbers of its kind and of what it says.
 use Rattle.std.specs.Prelude.{ℕ, ◌-◌, nat_eq, nat_le, Option, Some, None, if◌then◌else◌, option_map}
 use Rattle.strm_msg.specs.Message.{Msg, Part, bare, data_msg, proto_msg, pcproto_msg}
-use Rattle.strm_msg.specs.declared.kind.MsgKind.TheVariants.{MFlush, MHangup, MError}
+use Rattle.strm_msg.specs.Options.{options_asked}
+use Rattle.strm_msg.specs.declared.kind.MsgKind.{MsgKind}
+use Rattle.strm_msg.specs.declared.kind.MsgKind.TheVariants.{MSetopts, MFlush, MHangup, MError}
 use Rattle.strm_msg.specs.declared.errno.Errno.{Errno}
 use Rattle.strm_msg.specs.declared.errno.Errno.TheVariants.{EBADF, ENOSR, EINVAL, ERANGE, ENXIO, EBADMSG, ENODATA, EAGAIN, ETIME, EIO, EPROTO}
 use Rattle.strm_abi.specs.Numbers.{sides_of}
@@ -28,11 +30,17 @@ bare_of kind band number =
     else if nat_eq kind 138 then option_map (λ errno. bare (MError errno)) (errno_of number)
     else None
 
--- the message of a kind by its number in sys/stream.h: M_DATA is 0x00, M_PROTO 0x01, M_PCPROTO 0x83, M_FLUSH 0x86, M_HANGUP 0x89
+-- the message of options that are asked for
+abbrev pub options_msg : Option MsgKind → Option Msg
+options_msg (Some (MSetopts mode prot marks)) = Some (bare (MSetopts mode prot marks))
+options_msg asked = None
+
+-- the message of a kind by its number in sys/stream.h: M_DATA is 0x00, M_PROTO 0x01, M_SETOPTS 0x10, M_PCPROTO 0x83, M_FLUSH 0x86, M_HANGUP 0x89
 -- and M_ERROR 0x8a
 abbrev pub message_of : ℕ → ℕ → Part → Part → ℕ → Option Msg
 message_of kind band ctl dat number =
     if nat_eq kind 0 then option_map (λ bytes. data_msg band bytes) dat
     else if nat_eq kind 1 then option_map (λ bytes. proto_msg band bytes dat) ctl
+    else if nat_eq kind 16 then options_msg (options_asked dat)
     else if nat_eq kind 131 then option_map (λ bytes. pcproto_msg bytes dat) ctl
     else bare_of kind band number

@@ -1,10 +1,11 @@
 //! The message that its kind and parts make, by their numbers.
 ghost use Rattle.std.specs.Prelude.{◌≡◌, true, IfSome};
 ghost use Rattle.strm_msg.specs.Kind.{is_from_line};
+ghost use Rattle.strm_msg.specs.Options.{options_asked};
 ghost use Rattle.strm_abi.specs.Messages as messages;
 
 use crate::numbers::{errno_of, sides_of};
-use strm_msg::{Bytes, Message, MsgKind};
+use strm_msg::{Bytes, Message, MsgKind, options_asked};
 
 /// The flush of these flags, if they are any.
 fn flush_of(band: u8, flags: u32) -> Option<Message>
@@ -17,6 +18,19 @@ fn flush_of(band: u8, flags: u32) -> Option<Message>
     } else {
         let (r, w) = sides_of(flags - 4)?;
         Some(Message::of_flush(r, w, Some(band)))
+    }
+}
+
+/// The options for the head that data say, if they say any.
+fn options_of(dat: &Option<Bytes>) -> Option<Message>
+    ensures message { result ≡ messages.options_msg (options_asked dat.now) }
+    ensures line { IfSome result (λ m. is_from_line m.kind ≡ true) }
+{
+    match options_asked(dat) {
+        Some(MsgKind::MSetopts { mode, prot, marks }) => {
+            Some(Message::of_setopts(mode, prot, marks))
+        }
+        _ => None,
     }
 }
 
@@ -60,6 +74,12 @@ pub fn message_of(
             ctl: Some(ctl?),
             dat,
         }),
+        16 => {
+            drop(ctl);
+            let options = options_of(&dat);
+            drop(dat);
+            options
+        }
         131 => Some(Message {
             kind: MsgKind::MPcproto,
             band: 0,

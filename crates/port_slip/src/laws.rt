@@ -22,7 +22,8 @@ pub fn modules_keep_datagrams()
 
 /// What SLIP, and the eight kinds beside it, make of a calm message is calm. A message is calm if it
 /// flushes nothing on its way: all are but a flush and an error, which a head answers with a flush.
-/// Does nothing: it carries the law.
+/// And what they make of a message sets options of a head no more often than the message does. Does
+/// nothing: it carries the law.
 pub fn slip_is_calm()
     ensures { IsCalm slip }
 {}

@@ -4,7 +4,7 @@ ghost use Rattle.strm_module.specs.Eight.{eight};
 
 /// A law, which nothing is done for: what the eight kinds make of a calm message is calm. A message is
 /// calm if it flushes nothing on its way: all are but a flush and an error, which a head answers with a
-/// flush.
+/// flush. And what they make of a message sets options of a head no more often than the message does.
 pub fn eight_are_calm()
     ensures { IsCalm eight }
 {}

@@ -4,4 +4,5 @@ pub mod RefusalLemmas
 pub mod BeginLemmas
 pub mod CallLemmas
 pub mod ArriveLemmas
+pub mod LookLemmas
 mod WorkedExamples

@@ -1,5 +1,5 @@
 -- What stands under the lock, with one message or one call more.
-use Rattle.std.proofs.Common.{◌≡◌, ℕ, ◌++◌, Option, List, [], ◌∷◌, append-nil, refl, sym, ◌∙◌, ap, subst}
+use Rattle.std.proofs.Common.{◌≡◌, ℕ, ◌++◌, Option, None, List, [], ◌∷◌, append-nil, refl, sym, ◌∙◌, ap, subst}
 use Rattle.std.proofs.lemmas.List.Concat.{flat_map-append}
 use Rattle.strm_msg.specs.Message.{Msg}
 use Rattle.strm_msg.specs.declared.words.End.{End}
@@ -7,7 +7,7 @@ use Rattle.strm_module.specs.Kinds.{Meaning}
 use Rattle.strm_module.specs.declared.shape.Shape.{Shape}
 use Rattle.strm_head.specs.Step.{is_line}
 use Rattle.strm_head.specs.declared.event.Event.{Event}
-use Rattle.strm_head.specs.declared.event.Event.TheVariants.{Asked}
+use Rattle.strm_head.specs.declared.event.Event.TheVariants.{Asked, Arrived}
 use Rattle.strm_history.specs.declared.entry.Entry.{Entry}
 use Rattle.strm_history.specs.declared.call.Call.{Call}
 use Rattle.strm_history.specs.declared.call.Called.{Called}
@@ -20,7 +20,7 @@ use Rattle.strm_shared.specs.Runs.{IsNextOf}
 use Rattle.strm_shared.specs.Seat.{SeatValue}
 use Rattle.strm_shared.specs.Turns.{turned, IsLocked, TurnsValue}
 use Rattle.strm_shared.specs.Arrivals.{TakesIn, ComesIn}
-use Rattle.strm_shared.proofs.TurnLemmas.{call_keeps}
+use Rattle.strm_shared.proofs.TurnLemmas.{call_keeps, line_in_turn}
 
 -- what came in, with one step more
 arrivals_more : {K : Type 0} (history longer : List (Entry K)) (entry : Entry K) (event : Event (Shape K)) → longer ≡ history ++ entry ∷ [] → entry.event ≡ event → arrivals longer ≡ arrivals history ++ came_in event
@@ -60,3 +60,14 @@ module _ {K : Type 0} (means : Meaning K) where
       of = was.of;
       fed = was.fed ∙ sym (call_setup old new seat.caller call result by);
     }
+
+    -- so does a message that has left the inlet and came in
+    pub landed_locked : (old new : LogValue K) (m : Msg) (turns : TurnsValue) (inlet after : InletValue) → HasLanded means old m new → after ≡ record inlet { came = inlet.came ++ m ∷ []; held = None } → IsLocked (calls number) number old turns inlet → IsLocked (calls number) number new turns after
+    landed_locked old new m turns inlet after lands left was =
+        let enters = lands.enters in
+        record {
+          in_turn = λ turn. line_in_turn (calls number) turns.counts old.history new.history enters.entry enters.history enters.by (was.in_turn turn);
+          came_in = arrivals_more old.history new.history enters.entry (Arrived m) enters.history enters.has ∙ ap (λ (l : List Msg). l ++ m ∷ []) was.came_in ∙ sym (ap (λ (i : InletValue). i.came) left);
+          of = ap (λ (i : InletValue). i.number) left ∙ was.of;
+          fed = ap (λ (i : InletValue). i.is_fed) left ∙ was.fed ∙ sym (ap (λ s. is_line s.driver) enters.setup);
+        }

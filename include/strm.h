@@ -162,7 +162,7 @@ int32_t strm_peek_parts(struct strm *s, uint8_t end, bool has_ctl, void *ctl, si
 int32_t strm_read_bytes(struct strm *s, uint8_t end, void *bytes, size_t room, struct strm_got *got);
 int32_t strm_write_bytes(struct strm *s, uint8_t end, const void *bytes, size_t len, int32_t *written);
 int32_t strm_push_kind(struct strm *s, uint8_t end, const void *name, size_t name_len, uint32_t kind, uint32_t rd_hi, uint32_t rd_lo,
-                       uint32_t wr_hi, uint32_t wr_lo, uint8_t band, const void *table, size_t table_len);
+                       uint32_t wr_hi, uint32_t wr_lo, uint32_t number, const void *table, size_t table_len);
 int32_t strm_look_name(struct strm *s, uint8_t end, void *name, size_t room, int32_t *count);
 int32_t strm_list_name(struct strm *s, uint8_t end, uint32_t i, void *name, size_t room, int32_t *count);
 int32_t strm_find_name(struct strm *s, uint8_t end, const void *name, size_t name_len, int32_t *found);

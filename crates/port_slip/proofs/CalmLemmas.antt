@@ -7,11 +7,11 @@ use Rattle.strm_msg.specs.declared.kind.MsgKind.TheVariants.{MData}
 use Rattle.strm_msg.specs.declared.words.Side.{Side}
 use Rattle.strm_msg.specs.declared.words.Side.TheVariants.{Rd, Wr}
 use Rattle.strm_module.specs.Calm.{is_calm, are_calm, options_by, options_of, options_sent, IsCalm}
-use Rattle.strm_module.proofs.CalmLemmas.{one_calm, same_keeps, other_keeps, eight_calm}
+use Rattle.strm_module.proofs.CalmLemmas.{one_calm, same_keeps, other_keeps, builtin_calm}
 use Rattle.port_slip.specs.Frame.{framed, received}
 use Rattle.port_slip.specs.Slip.{datagrams_up, slip_action, slip}
 use Rattle.port_slip.specs.declared.kinds.SlipKind.{SlipKind}
-use Rattle.port_slip.specs.declared.kinds.SlipKind.TheVariants.{Eight, Slip}
+use Rattle.port_slip.specs.declared.kinds.SlipKind.TheVariants.{Builtin, Slip}
 
 -- datagrams go up as data
 datagrams_calm : (band : ℕ) (datagrams : List (List ℕ)) → are_calm (datagrams_up band datagrams) ≡ true
@@ -41,11 +41,11 @@ acts_keep b bytes Rd kind m at = same_keeps b Rd m
 acts_keep b bytes Wr kind m at = same_keeps b Wr m
 
 slip_keeps : (b : Bool) (kind : SlipKind) (side : Side) (m : Msg) → options_sent b (slip kind side m).outs ≤ options_of b m
-slip_keeps b (Eight kind) side m = eight_calm.options b kind side m
+slip_keeps b (Builtin kind) side m = builtin_calm.options b kind side m
 slip_keeps b (Slip bytes) side m = acts_keep b bytes side m.kind m refl
 
 still_calm : (kind : SlipKind) (side : Side) (m : Msg) → is_calm m.kind ≡ true → are_calm (slip kind side m).outs ≡ true
-still_calm (Eight kind) side m h = eight_calm.calm kind side m h
+still_calm (Builtin kind) side m h = builtin_calm.calm kind side m h
 still_calm (Slip bytes) side m h = acts_calm bytes side m.kind m h
 
 pub slip_calm : IsCalm slip

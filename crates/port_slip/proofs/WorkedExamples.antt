@@ -16,7 +16,7 @@ use Rattle.strm_chain.specs.Deliver.{deliver, up_through, down_through}
 use Rattle.strm_chain.specs.Service.{move}
 use Rattle.port_slip.specs.Slip.{slip}
 use Rattle.port_slip.specs.declared.kinds.SlipKind.{SlipKind}
-use Rattle.port_slip.specs.declared.kinds.SlipKind.TheVariants.{Eight, Slip}
+use Rattle.port_slip.specs.declared.kinds.SlipKind.TheVariants.{Builtin, Slip}
 
 abbrev marks : WaterMarks
 marks = record { hi = 90; lo = 80 }
@@ -46,7 +46,7 @@ comes_up = refl
 
 -- frames from a module that only passes on: of three in one message two go up, and the third is kept
 abbrev three : Image SlipKind
-three = crosses (between (Eight Pass) (Slip [])) (1 ∷ 192 ∷ 2 ∷ 192 ∷ 3 ∷ 192 ∷ [])
+three = crosses (between (Builtin Pass) (Slip [])) (1 ∷ 192 ∷ 2 ∷ 192 ∷ 3 ∷ 192 ∷ [])
 
 two_go_up : three.b.head ≡ data_msg 0 (1 ∷ []) ∷ (data_msg 0 (2 ∷ []) ∷ [])
 unfolding down_through up_through
@@ -57,11 +57,11 @@ unfolding down_through up_through
 third_is_kept = refl
 
 -- a frame in two messages, cut within an escape
-in_two : (crosses (crosses (between (Eight Pass) (Slip [])) (192 ∷ 1 ∷ 219 ∷ [])) (220 ∷ 192 ∷ [])).b.head ≡ data_msg 0 (1 ∷ 192 ∷ []) ∷ []
+in_two : (crosses (crosses (between (Builtin Pass) (Slip [])) (192 ∷ 1 ∷ 219 ∷ [])) (220 ∷ 192 ∷ [])).b.head ≡ data_msg 0 (1 ∷ 192 ∷ []) ∷ []
 unfolding down_through up_through
 in_two = refl
 
 -- a flush of the read side that comes up drops what is kept
-flushed : (deliver slip (crosses (between (Eight Pass) (Slip [])) (1 ∷ 2 ∷ [])) (Up B 1) (bare (MFlush true false None))).b.modules ≡ (between (Eight Pass) (Slip [])).b.modules
+flushed : (deliver slip (crosses (between (Builtin Pass) (Slip [])) (1 ∷ 2 ∷ [])) (Up B 1) (bare (MFlush true false None))).b.modules ≡ (between (Builtin Pass) (Slip [])).b.modules
 unfolding down_through up_through
 flushed = refl

@@ -6,16 +6,16 @@ use Rattle.strm_msg.specs.declared.kind.MsgKind.TheVariants.{MData, MFlush, MHan
 use Rattle.strm_msg.specs.declared.words.Side.{Side}
 use Rattle.strm_msg.specs.declared.words.Side.TheVariants.{Rd, Wr}
 use Rattle.strm_module.specs.Kinds.{OutList, Action, Meaning, passed_on}
-use Rattle.strm_module.specs.Eight.{eight}
+use Rattle.strm_module.specs.Builtin.{builtin}
 use Rattle.strm_module.specs.declared.kind.Kind.{Kind}
 use Rattle.port_slip.specs.Frame.{framed, received}
 use Rattle.port_slip.specs.declared.kinds.SlipKind.{SlipKind}
-use Rattle.port_slip.specs.declared.kinds.SlipKind.TheVariants.{Eight, Slip}
+use Rattle.port_slip.specs.declared.kinds.SlipKind.TheVariants.{Builtin, Slip}
 
--- one of the eight means what it means elsewhere
-abbrev pub eight_action : Kind → Side → Msg → Action SlipKind
-eight_action kind side m =
-    let action = eight kind side m in record { kind = Eight action.kind; outs = action.outs }
+-- a built-in kind means what it means elsewhere
+abbrev pub builtin_action : Kind → Side → Msg → Action SlipKind
+builtin_action kind side m =
+    let action = builtin kind side m in record { kind = Builtin action.kind; outs = action.outs }
 
 -- each datagram goes up as a message of data
 abbrev pub datagrams_up : ℕ → List (List ℕ) → OutList
@@ -40,5 +40,5 @@ slip_action bytes Rd MData m = received_action m.band (bytes ++ unwrap_or m.dat 
 slip_action bytes side kind m = passed_on (Slip (kept_after bytes kind)) side m
 
 abbrev pub slip : Meaning SlipKind
-slip (Eight kind) side m = eight_action kind side m
+slip (Builtin kind) side m = builtin_action kind side m
 slip (Slip bytes) side m = slip_action bytes side m.kind m

@@ -17,11 +17,11 @@ use strm_msg::{Bytes, Message, MsgKind, NoMem, Side as Sides};
 pub const MOST_KEPT: usize = 2012;
 
 /// What a module does with messages, and what it keeps for that: SLIP, or one of the framework's
-/// eight.
+/// built-in kinds.
 #[derive(Debug, Drop, PartialEq, Eq)]
 pub enum SlipKind {
-    /// One of the eight kinds, with its meaning.
-    Eight {
+    /// One of the built-in kinds, with its meaning.
+    Builtin {
         /// Which one, with what it keeps.
         kind: Kind,
     },
@@ -147,14 +147,14 @@ impl Kinds for SlipKind {
 
     fn process(&mut self, alloc: Global, side: Sides, m: Message) -> Result<Outs, NoMem> {
         match self {
-            SlipKind::Eight { kind } => kind.process(alloc, side, m),
+            SlipKind::Builtin { kind } => kind.process(alloc, side, m),
             SlipKind::Slip { kept } => process_slip(alloc, kept, side, m),
         }
     }
 
     fn copy(&self, alloc: Global) -> Result<SlipKind, NoMem> {
         Ok(match self {
-            SlipKind::Eight { kind } => SlipKind::Eight {
+            SlipKind::Builtin { kind } => SlipKind::Builtin {
                 kind: kind.copy(alloc)?,
             },
             SlipKind::Slip { kept } => SlipKind::Slip {

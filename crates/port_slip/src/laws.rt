@@ -20,7 +20,7 @@ pub fn modules_keep_datagrams()
     ensures { DatagramsGoThrough }
 {}
 
-/// What SLIP, and the eight kinds beside it, make of a calm message is calm. A message is calm if it
+/// What SLIP, and the built-in kinds beside it, make of a calm message is calm. A message is calm if it
 /// flushes nothing on its way: all are but a flush and an error, which a head answers with a flush.
 /// And what they make of a message sets options of a head no more often than the message does. Does
 /// nothing: it carries the law.

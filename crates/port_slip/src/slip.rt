@@ -7,7 +7,7 @@ use crate::kinds::SlipKind as Kinds;
 use std::alloc::Global;
 use strm_module::{Instance, Kind, MakeFault, ModuleOf, Shape};
 
-/// Acts by its shape and keeps nothing of its own: the object for SLIP, and for the eight kinds beside
+/// Acts by its shape and keeps nothing of its own: the object for SLIP, and for the built-in kinds beside
 /// it.
 #[derive(Debug, Drop)]
 pub struct ByShape;
@@ -37,21 +37,21 @@ impl ByShape {
         Ok(Instance::new(shape, ByShape))
     }
 
-    /// A module of one of the eight kinds, to stand in one chain with SLIP. Takes no memory.
+    /// A module of one of the built-in kinds, to stand in one chain with SLIP. Takes no memory.
     ///
     /// Refused for the name first, then for the marks of either side.
-    pub fn eight(
+    pub fn builtin(
         serial: u64,
         name: &[u8],
         rd: Option<(u32, u32)>,
         wr: Option<(u32, u32)>,
         kind: Kind,
     ) -> Result<Instance<ByShape>, MakeFault>
-        ensures ok { IfOk result (λ it. it ≡ new_shape serial name.now rd wr (SlipKind.Eight kind)) }
+        ensures ok { IfOk result (λ it. it ≡ new_shape serial name.now rd wr (SlipKind.Builtin kind)) }
         ensures err { IfErr result (λ fault. make_fault name.now rd wr ≡ Some fault) }
         ensures variant { is_ok result ≡ is_none (make_fault name.now rd wr) }
     {
-        let shape = Shape::new(serial, name, rd, wr, Kinds::Eight { kind })?;
+        let shape = Shape::new(serial, name, rd, wr, Kinds::Builtin { kind })?;
         Ok(Instance::new(shape, ByShape))
     }
 }

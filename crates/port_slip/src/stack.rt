@@ -11,7 +11,7 @@ use strm_chain::{Chain, ChainFault, Settled, Spot};
 use strm_msg::Message;
 
 /// Hands a message in at a spot, which is there, and lets the chain settle. It goes where the meaning
-/// of SLIP and of the eight kinds takes it, and by the moves that are given back the chain comes to
+/// of SLIP and of the built-in kinds takes it, and by the moves that are given back the chain comes to
 /// where no queue is due.
 ///
 /// Refused for want of memory alone, or where the chain was broken before. A refused settling leaves

@@ -42,7 +42,7 @@ fn looped(rt: &impl Abort, alloc: Global, slip_at_a: bool) -> Chain<ByShape> {
     let near = if slip_at_a {
         ByShape::slip(alloc, 2, b"slip", None, Some((50, 40)))
     } else {
-        ByShape::eight(2, b"pass", None, None, Kind::Pass)
+        ByShape::builtin(2, b"pass", None, None, Kind::Pass)
     };
     let near = near.expect(rt, "a good name and good marks");
     assert!(rt; chain.insert(End::A, boxed(rt, alloc, near)).is_ok());

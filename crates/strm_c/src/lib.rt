@@ -190,8 +190,8 @@ pub extern "C" fn strm_write_bytes(
     call_for_value(alloc, s, end, asked, written)
 }
 
-/// Puts a module in just below the head (I_PUSH): one of the eight kinds, by its number. A side has a queue where its
-/// high mark is not 0.
+/// Puts a module in just below the head (I_PUSH): one of the built-in kinds, by its number, with what it takes: a
+/// further number or a table. A side has a queue where its high mark is not 0.
 #[unsafe(no_mangle)]
 pub extern "C" fn strm_push_kind(
     alloc: Global,
@@ -203,16 +203,16 @@ pub extern "C" fn strm_push_kind(
     rd_lo: u32,
     wr_hi: u32,
     wr_lo: u32,
-    band: u8,
+    number: u32,
     table: &[u8],
 ) -> i32
     requires { s.old.is_open ≡ true }
     ensures open { s.new.is_open ≡ true }
-    ensures call { CopiesAndCalls s.old.held.stream end (asks.push_of name.now (asks.marks_of rd_hi rd_lo) (asks.marks_of wr_hi wr_lo) (asks.kind_of kind band table.now)) Nothing result s.new.held.stream }
+    ensures call { CopiesAndCalls s.old.held.stream end (asks.push_of name.now (asks.marks_of rd_hi rd_lo) (asks.marks_of wr_hi wr_lo) (asks.kind_of kind number table.now)) Nothing result s.new.held.stream }
 {
     let rd = marks_of(rd_hi, rd_lo);
     let wr = marks_of(wr_hi, wr_lo);
-    let kind = kind_of(alloc, kind, band, table);
+    let kind = kind_of(alloc, kind, number, table);
     let asked = push_of(alloc, name, rd, wr, kind);
     call(alloc, s, end, asked)
 }

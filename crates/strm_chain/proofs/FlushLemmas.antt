@@ -4,7 +4,7 @@ use Rattle.strm_msg.specs.Message.{Msg, bare}
 use Rattle.strm_msg.specs.declared.kind.MsgKind.TheVariants.{MFlush}
 use Rattle.strm_msg.specs.declared.words.End.{End}
 use Rattle.strm_msg.specs.declared.words.Side.TheVariants.{Rd, Wr}
-use Rattle.strm_module.specs.Eight.{eight}
+use Rattle.strm_module.specs.Builtin.{builtin}
 use Rattle.strm_module.specs.declared.kind.Kind.{Kind}
 use Rattle.strm_qpair.specs.End.{EndState, pair_at, found_gets}
 use Rattle.strm_qpair.specs.Head.{head_does, open_head, keeps}
@@ -30,9 +30,9 @@ none_sent send e image o h = rw h refl
 
 -- up through n modules, which pass it on
 abbrev risen : Onward Kind → End → ℕ → Passing Kind → Image Kind
-risen send e n p = fold (λ j out. up_through eight (head_gets send) e n j out.1) p.image p.outs
+risen send e n p = fold (λ j out. up_through builtin (head_gets send) e n j out.1) p.image p.outs
 
-up_same : (send other : Onward Kind) (e : End) (n : ℕ) (image : Image Kind) (r : Bool) (band : Option ℕ) → up_through eight (head_gets send) e n image (flush r false band) ≡ up_through eight (head_gets other) e n image (flush r false band)
+up_same : (send other : Onward Kind) (e : End) (n : ℕ) (image : Image Kind) (r : Bool) (band : Option ℕ) → up_through builtin (head_gets send) e n image (flush r false band) ≡ up_through builtin (head_gets other) e n image (flush r false band)
 unfolding up_through
 up_same send other e zero image r band =
     let state = end_of image e in
@@ -42,9 +42,9 @@ up_same send other e zero image r band =
 up_same send other e (suc n) image r band =
     let state = end_of image e in
     elim (pair_at state.modules (suc n))
-    as (λ o. risen send e n (passing image e (found_gets eight state (suc n) o Rd (flush r false band))) ≡ risen other e n (passing image e (found_gets eight state (suc n) o Rd (flush r false band)))) [
+    as (λ o. risen send e n (passing image e (found_gets builtin state (suc n) o Rd (flush r false band))) ≡ risen other e n (passing image e (found_gets builtin state (suc n) o Rd (flush r false band)))) [
       | None ↦ refl
-      | Some s ↦ up_same send other e n (passing image e (found_gets eight state (suc n) (Some s) Rd (flush r false band))).image r band
+      | Some s ↦ up_same send other e n (passing image e (found_gets builtin state (suc n) (Some s) Rd (flush r false band))).image r band
     ]
 
 -- a driver sends it back up, or ends it
@@ -55,7 +55,7 @@ driver_flush Loop e r w band true = refl
 driver_flush Line e r w band true = refl
 
 abbrev ups : Onward Kind → OnwardPast Kind
-ups send e n image m = up_through eight (head_gets send) e n image m
+ups send e n image m = up_through builtin (head_gets send) e n image m
 
 back_same : (send other : Onward Kind) (old : Image Kind) (e : End) (image : Image Kind) (r : Bool) (band : Option ℕ) (has : Bool) → driver_sends (ups send) old e image (cond has (flush_up r band) Nothing) ≡ driver_sends (ups other) old e image (cond has (flush_up r band) Nothing)
 back_same send other old e image r band false = refl
@@ -64,9 +64,9 @@ back_same send other old e image true band true = up_same send other e (count_of
 
 -- down through n modules, which pass it on
 abbrev sunk : Onward Kind → End → ℕ → ℕ → Passing Kind → Image Kind
-sunk send e n i p = fold (λ j out. route (λ k o. down_through eight (ups send) e n k o) (λ k o. ups send e (i - 1) k o) j out) p.image p.outs
+sunk send e n i p = fold (λ j out. route (λ k o. down_through builtin (ups send) e n k o) (λ k o. ups send e (i - 1) k o) j out) p.image p.outs
 
-down_same : (send other : Onward Kind) (e : End) (n : ℕ) (image : Image Kind) (r w : Bool) (band : Option ℕ) → down_through eight (ups send) e n image (flush r w band) ≡ down_through eight (ups other) e n image (flush r w band)
+down_same : (send other : Onward Kind) (e : End) (n : ℕ) (image : Image Kind) (r w : Bool) (band : Option ℕ) → down_through builtin (ups send) e n image (flush r w band) ≡ down_through builtin (ups other) e n image (flush r w band)
 unfolding down_through
 down_same send other e zero image r w band =
     let state = end_of image e in
@@ -78,9 +78,9 @@ down_same send other e (suc n) image r w band =
     let state = end_of image e in
     let i = count_of image e - n in
     elim (pair_at state.modules i)
-    as (λ o. sunk send e n i (passing image e (found_gets eight state i o Wr (flush r w band))) ≡ sunk other e n i (passing image e (found_gets eight state i o Wr (flush r w band)))) [
+    as (λ o. sunk send e n i (passing image e (found_gets builtin state i o Wr (flush r w band))) ≡ sunk other e n i (passing image e (found_gets builtin state i o Wr (flush r w band)))) [
       | None ↦ refl
-      | Some s ↦ down_same send other e n (passing image e (found_gets eight state i (Some s) Wr (flush r w band))).image r w band
+      | Some s ↦ down_same send other e n (passing image e (found_gets builtin state i (Some s) Wr (flush r w band))).image r w band
     ]
 
 pub head_sends_once : HeadSendsOnce

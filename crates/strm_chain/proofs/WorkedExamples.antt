@@ -5,7 +5,7 @@ use Rattle.strm_msg.specs.declared.kind.MsgKind.TheVariants.{MError, MFlush}
 use Rattle.strm_msg.specs.declared.words.End.TheVariants.{A, B}
 use Rattle.strm_msg.specs.declared.errno.Errno.TheVariants.{EIO}
 use Rattle.strm_msg.specs.Marks.{WaterMarks}
-use Rattle.strm_module.specs.Eight.{eight}
+use Rattle.strm_module.specs.Builtin.{builtin}
 use Rattle.strm_module.specs.declared.kind.Kind.{Kind}
 use Rattle.strm_module.specs.declared.kind.Kind.TheVariants.{Pass, Tee, Line}
 use Rattle.strm_qpair.specs.Pair.{QueuePair}
@@ -41,24 +41,24 @@ abbrev b1 : Msg
 b1 = data_msg 0 (98 ∷ [])
 
 -- an echo without modules: the message waits in the driver, then goes up, and the next finds the head full
-echo_waits : (deliver eight (chain D.Echo [] []) (Down A 1) aaaaa).a.drv ≡ aaaaa ∷ []
+echo_waits : (deliver builtin (chain D.Echo [] []) (Down A 1) aaaaa).a.drv ≡ aaaaa ∷ []
 unfolding down_through up_through
 echo_waits = refl
 
 abbrev after_one : Image Kind
-after_one = move eight (deliver eight (chain D.Echo [] []) (Down A 1) aaaaa) (Place.Drv A)
+after_one = move builtin (deliver builtin (chain D.Echo [] []) (Down A 1) aaaaa) (Place.Drv A)
 
 echo_moves : after_one.a.head ≡ aaaaa ∷ []
 unfolding down_through up_through
 echo_moves = refl
 
-echo_full : may (deliver eight after_one (Down A 1) b1) (Place.Drv A) ≡ false
+echo_full : may (deliver builtin after_one (Down A 1) b1) (Place.Drv A) ≡ false
 unfolding down_through up_through
 echo_full = refl
 
 -- a tee sends a copy up first, and then the message on
 abbrev teed : Image Kind
-teed = deliver eight (chain D.Echo (pair Tee None None ∷ []) []) (Down A 1) b1
+teed = deliver builtin (chain D.Echo (pair Tee None None ∷ []) []) (Down A 1) b1
 
 tee_first : teed.a.head ≡ b1 ∷ []
 unfolding down_through up_through
@@ -69,13 +69,13 @@ unfolding down_through up_through
 tee_second = refl
 
 -- a module with write marks queues
-queued : (deliver eight (chain D.Loop (pair Pass None (Some five) ∷ []) []) (Down A 1) b1).a.modules ≡ record (pair Pass None (Some five)) { wr = b1 ∷ [] } ∷ []
+queued : (deliver builtin (chain D.Loop (pair Pass None (Some five) ∷ []) []) (Down A 1) b1).a.modules ≡ record (pair Pass None (Some five)) { wr = b1 ∷ [] } ∷ []
 unfolding down_through up_through
 queued = refl
 
 -- through a loop to the other end, past a line discipline that keeps a partial line there
 abbrev looped : Image Kind
-looped = move eight (deliver eight (chain D.Loop [] (pair (Line []) None None ∷ [])) (Down A 1) b1) (Place.Drv A)
+looped = move builtin (deliver builtin (chain D.Loop [] (pair (Line []) None None ∷ [])) (Down A 1) b1) (Place.Drv A)
 
 loop_partial : looped.b.modules ≡ pair (Line (98 ∷ [])) None None ∷ []
 unfolding down_through up_through
@@ -84,7 +84,7 @@ loop_partial = refl
 -- a flush of the read side that came down an end of a loop is answered up the same end
 abbrev flushed : Image Kind
 flushed =
-    deliver eight (record (chain D.Loop [] []) { a = record (with_modules []) { head = b1 ∷ [] }; b = record (with_modules []) { head = b1 ∷ [] } }) (Down A 1) (bare (MFlush true false None))
+    deliver builtin (record (chain D.Loop [] []) { a = record (with_modules []) { head = b1 ∷ [] }; b = record (with_modules []) { head = b1 ∷ [] } }) (Down A 1) (bare (MFlush true false None))
 
 flush_same_end : flushed.a.head ≡ []
 unfolding down_through up_through
@@ -97,7 +97,7 @@ flush_other_end = refl
 -- an error from a line flushes all lists, and the partial line, by the head's flush
 abbrev errored : Image Kind
 errored =
-    deliver eight (record (chain D.Line (pair (Line (98 ∷ [])) None None ∷ []) []) { a = record (with_modules (pair (Line (98 ∷ [])) None None ∷ [])) { head = b1 ∷ []; drv = b1 ∷ [] } }) (Up A 1) (bare (MError EIO))
+    deliver builtin (record (chain D.Line (pair (Line (98 ∷ [])) None None ∷ []) []) { a = record (with_modules (pair (Line (98 ∷ [])) None None ∷ [])) { head = b1 ∷ []; drv = b1 ∷ [] } }) (Up A 1) (bare (MError EIO))
 
 error_kept : errored.a.state.errno ≡ Some EIO
 unfolding down_through up_through
@@ -116,6 +116,6 @@ unfolding down_through up_through
 error_partial = refl
 
 -- an echo has no end B: what is written there is dropped
-absent_end : (deliver eight (chain D.Echo [] []) (Down B 1) b1).b.drv ≡ []
+absent_end : (deliver builtin (chain D.Echo [] []) (Down B 1) b1).b.drv ≡ []
 unfolding down_through up_through
 absent_end = refl

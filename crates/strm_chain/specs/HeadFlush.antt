@@ -3,13 +3,13 @@ use Rattle.std.specs.Prelude.{◌≡◌, ℕ, Bool, Option}
 use Rattle.strm_msg.specs.Message.{bare}
 use Rattle.strm_msg.specs.declared.kind.MsgKind.TheVariants.{MFlush}
 use Rattle.strm_msg.specs.declared.words.End.{End}
-use Rattle.strm_module.specs.Eight.{eight}
+use Rattle.strm_module.specs.Builtin.{builtin}
 use Rattle.strm_module.specs.declared.kind.Kind.{Kind}
 use Rattle.strm_ends.specs.Image.{Image}
 use Rattle.strm_chain.specs.Deliver.{Onward, sent_down_with}
 
--- with the eight kinds it does not matter what a head would send that such a flush comes back to
+-- with the built-in kinds it does not matter what a head would send that such a flush comes back to
 abbrev pub HeadSendsOnce : Type 0
 HeadSendsOnce =
     (send other : Onward Kind) (e : End) (image : Image Kind) (r w : Bool) (band : Option ℕ)
-    → sent_down_with eight send e image (bare (MFlush r w band)) ≡ sent_down_with eight other e image (bare (MFlush r w band))
+    → sent_down_with builtin send e image (bare (MFlush r w band)) ≡ sent_down_with builtin other e image (bare (MFlush r w band))

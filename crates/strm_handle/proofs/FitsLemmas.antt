@@ -9,7 +9,7 @@ use Rattle.strm_ends.specs.Image.{Image, end_of}
 use Rattle.strm_call.specs.declared.request.Request.{Request}
 use Rattle.strm_call.specs.declared.request.Request.TheVariants as Requests
 use Rattle.strm_call.specs.declared.request.Wanted.{Wanted}
-use Rattle.strm_module.specs.Eight.{eight}
+use Rattle.strm_module.specs.Builtin.{builtin}
 use Rattle.strm_ends.specs.declared.place.Place.{Place}
 use Rattle.strm_head.specs.declared.event.Event.TheVariants.{Asked}
 use Rattle.strm_head.specs.Step.{Step}
@@ -51,7 +51,7 @@ peek_fits (Some m) maxctl maxdat flag =
     ]
 
 -- the answer of a step fits
-pub step_fits : (old new : Image Kind) (e : End) (request : Request (Shape Kind)) (answer : Answer) (moves : List Place) (out : List ℕ) → Step eight old e (Asked request) answer moves out new → Fits request answer
+pub step_fits : (old new : Image Kind) (e : End) (request : Request (Shape Kind)) (answer : Answer) (moves : List Place) (out : List ℕ) → Step builtin old e (Asked request) answer moves out new → Fits request answer
 step_fits old new e (Requests.Getmsg maxctl maxdat flag) (Done reply) moves out step =
     subst (λ r. AreWithin maxctl maxdat (Done r)) (sym step.2.replies) (getmsg_fits (first_of (end_of old e).head) maxctl maxdat)
 step_fits old new e (Requests.Getmsg maxctl maxdat flag) answer moves out step = none_within maxctl maxdat

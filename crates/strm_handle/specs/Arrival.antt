@@ -3,7 +3,7 @@ use Rattle.std.specs.Prelude.{◌≡◌, ℕ, Option, Some, None, ◌⊎◌, ℤ
 use Rattle.strm_msg.specs.Message.{Msg}
 use Rattle.strm_msg.specs.declared.errno.Errno.{Errno}
 use Rattle.strm_msg.specs.declared.errno.Errno.TheVariants.{ENOSR, EINVAL, EAGAIN}
-use Rattle.strm_module.specs.Eight.{eight}
+use Rattle.strm_module.specs.Builtin.{builtin}
 use Rattle.strm_module.specs.declared.kind.Kind.{Kind}
 use Rattle.strm_ends.specs.Image.{Image}
 use Rattle.strm_head.specs.declared.outcome.Arrived.{Arrived}
@@ -20,7 +20,7 @@ arrived_code Broke = number_of ENOSR
 -- a message comes in from a line, or comes back
 pub record Lands (old : Image Kind) (m : Msg) (code : ℤ) (new : Image Kind) : Type 0 where
   pub arrived : Arrived
-  pub arrives : Arrives eight old m arrived new
+  pub arrives : Arrives builtin old m arrived new
   pub code_is : code ≡ pos (arrived_code arrived)
 
 -- no message came in, and the stream is as it was

@@ -1,5 +1,5 @@
 -- What the arguments of a call ask for, or why they ask for nothing.
-use Rattle.std.specs.Prelude.{◌≡◌, ℕ, ◌/◌, ◌%◌, nat_eq, nat_le, min, Bool, Option, Some, None, Result, Ok, Err, ◌⊎◌, List, [], length, if◌then◌else◌}
+use Rattle.std.specs.Prelude.{◌≡◌, ℕ, ◌/◌, ◌%◌, nat_eq, nat_le, min, Bool, Option, Some, None, Result, Ok, Err, ◌⊎◌, List, [], length, if◌then◌else◌, option_map}
 use Rattle.strm_msg.specs.Message.{Part}
 use Rattle.strm_module.specs.Shape.{MarkPair, make_fault, new_shape}
 use Rattle.strm_module.specs.declared.shape.MakeFault.{MakeFault}
@@ -69,15 +69,15 @@ flushband_of band flags = ask (sides_of flags) (λ sides. Ok (Requests.FlushBand
 abbrev pub setread_of : ℕ → Asked
 setread_of n = ask (mode_of (n % 4)) (λ mode. ask (prot_of (n / 4)) (λ prot. Ok (Requests.SetRead mode prot)))
 
--- the kind of a number. A table has 256 bytes, and nothing else asks for any
+-- the kind of a number, with a further number. A table has 256 bytes, and nothing else asks for any
 abbrev pub kind_of : ℕ → ℕ → List ℕ → Option Kind
-kind_of kind band table =
+kind_of kind number table =
     if nat_eq kind 0 then Some Kinds.Pass
     else if nat_eq kind 1 then (if nat_eq (length table) 256 then Some (Kinds.Table table) else None)
     else if nat_eq kind 2 then Some Kinds.CrNl
     else if nat_eq kind 3 then Some (Kinds.Line [])
     else if nat_eq kind 4 then Some (Kinds.Count 0)
-    else if nat_eq kind 5 then Some (Kinds.Band band)
+    else if nat_eq kind 5 then option_map (λ b. Kinds.Band b) (band_of number)
     else if nat_eq kind 6 then Some Kinds.Tee
     else if nat_eq kind 7 then Some Kinds.Mute
     else None

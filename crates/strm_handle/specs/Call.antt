@@ -2,7 +2,7 @@
 -- caller has room for it.
 use Rattle.std.specs.Prelude.{◌≡◌, ℕ, Bool, true, false, ◌⊎◌, Option, Some, None, Result, Ok, Err, List, ℤ, pos}
 use Rattle.strm_msg.specs.declared.words.End.{End}
-use Rattle.strm_module.specs.Eight.{eight}
+use Rattle.strm_module.specs.Builtin.{builtin}
 use Rattle.strm_module.specs.declared.kind.Kind.{Kind}
 use Rattle.strm_module.specs.declared.shape.Shape.{Shape}
 use Rattle.strm_ends.specs.Image.{Image, fresh}
@@ -25,7 +25,7 @@ use Rattle.strm_handle.specs.Fits.{Fits}
 -- the stream took the step of a request, which this answers, with no part that is longer than was asked for
 pub record IsStep (old : Image Kind) (e : End) (request : Request (Shape Kind)) (answer : Answer) (new : Image Kind) : Type 0 where
   pub moves : List Place
-  pub step : Step eight old e (Call request) answer moves (out_of eight old e request answer) new
+  pub step : Step builtin old e (Call request) answer moves (out_of builtin old e request answer) new
   pub memory : takes_no_memory request ≡ true → wants_memory answer ≡ false
   pub fits : Fits request answer
 

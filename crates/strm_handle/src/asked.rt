@@ -235,9 +235,9 @@ fn table_of(table: &[u8]) -> Option<Kind>
     Some(Kind::Table { map })
 }
 
-/// The kind of a number, with its band or its table.
-pub fn kind_of(alloc: Global, kind: u32, band: u8, table: &[u8]) -> Option<Kind>
-    ensures { result ≡ asks.kind_of kind band table.now }
+/// The kind of a number, with what it takes: a further number or a table.
+pub fn kind_of(alloc: Global, kind: u32, number: u32, table: &[u8]) -> Option<Kind>
+    ensures { result ≡ asks.kind_of kind number table.now }
 {
     match kind {
         0 => Some(Kind::Pass),
@@ -247,7 +247,9 @@ pub fn kind_of(alloc: Global, kind: u32, band: u8, table: &[u8]) -> Option<Kind>
             partial: Bytes::from(Vec::new(alloc)),
         }),
         4 => Some(Kind::Count { n: 0 }),
-        5 => Some(Kind::Band { b: band }),
+        5 => Some(Kind::Band {
+            b: band_of(number)?,
+        }),
         6 => Some(Kind::Tee),
         7 => Some(Kind::Mute),
         _ => None,

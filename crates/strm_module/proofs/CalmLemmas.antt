@@ -1,4 +1,4 @@
--- What a module makes of a calm message is calm, and sets no more options: for kinds of any calm meaning, and for the eight.
+-- What a module makes of a calm message is calm, and sets no more options: for kinds of any calm meaning, and for those built in.
 use Rattle.std.proofs.Common.{◌≡◌, ◌≤◌, ◌==◌, ◌&&◌, ℕ, Bool, true, false, cond, nat_lt, None, List, [], ◌∷◌, ◌++◌, length, option_map, unwrap_or, refl, ap, arith}
 use Rattle.std.proofs.lemmas.List.Sums.{sum_by-cons}
 use Rattle.strm_msg.specs.Kind.{is_high}
@@ -9,7 +9,7 @@ use Rattle.strm_msg.specs.declared.words.Side.{Side}
 use Rattle.strm_msg.specs.declared.words.Side.TheVariants.{Rd, Wr}
 use Rattle.strm_module.specs.Bytes.{mapped, with_cr, without_cr, rest_len, whole_lines}
 use Rattle.strm_module.specs.Calm.{is_calm, are_calm, puts_calm, options_by, options_of, options_sent, puts_options, IsCalm}
-use Rattle.strm_module.specs.Eight.{line_splits, table_action, crnl_action, line_action, count_action, band_action, tee_action, mute_action, ordinary_action, eight}
+use Rattle.strm_module.specs.Builtin.{line_splits, table_action, crnl_action, line_action, count_action, band_action, tee_action, mute_action, ordinary_action, builtin}
 use Rattle.strm_module.specs.Kinds.{OutList, Action, Meaning}
 use Rattle.strm_module.specs.Module.{serve_of, put_of, is_queued}
 use Rattle.strm_module.specs.declared.kind.Kind.{Kind}
@@ -213,9 +213,9 @@ acts_keep b (Band band) side m = band_keeps b band side m.kind m
 acts_keep b Tee side m = tee_keeps b side m.kind m refl
 acts_keep b Mute side m = mute_keeps b side m.kind m
 
--- what the eight kinds make of a calm message is calm, and sets no more options
-pub eight_calm : IsCalm eight
-eight_calm =
+-- what the built-in kinds make of a calm message is calm, and sets no more options
+pub builtin_calm : IsCalm builtin
+builtin_calm =
     record {
       calm = λ kind side m h.
           action_if_calm (is_high m.kind) _ _ (one_calm (is_calm m.kind) h) (acts_calm kind side m h);

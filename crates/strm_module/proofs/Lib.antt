@@ -1,4 +1,4 @@
 pub mod ProcedureLemmas
-pub mod EightLemmas
+pub mod BuiltinLemmas
 pub mod CalmLemmas
 pub mod WorkedExamples

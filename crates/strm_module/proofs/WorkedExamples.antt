@@ -7,7 +7,7 @@ use Rattle.strm_msg.specs.declared.words.Side.TheVariants.{Rd, Wr}
 use Rattle.strm_msg.specs.Marks.{WaterMarks}
 use Rattle.strm_module.specs.Kinds.{OutList}
 use Rattle.strm_module.specs.Shape.{make_fault}
-use Rattle.strm_module.specs.Eight.{eight}
+use Rattle.strm_module.specs.Builtin.{builtin}
 use Rattle.strm_module.specs.Module.{Taken, put_of, serve_of}
 use Rattle.strm_module.specs.declared.shape.Shape.{Shape}
 use Rattle.strm_module.specs.declared.kind.Kind.{Kind}
@@ -28,7 +28,7 @@ with_queue = module_with (Some (record { hi = 5; lo = 4 }))
 
 -- what a module without queues does when a message comes
 abbrev gets : Kind → Side → Msg → Taken Kind
-gets kind side m = put_of eight (without_queue kind) side m
+gets kind side m = put_of builtin (without_queue kind) side m
 
 -- the kind afterwards, and what leaves
 abbrev sends_all : Kind → OutList → Taken Kind
@@ -54,11 +54,11 @@ count_stays_at_the_top : gets (Count 18446744073709551615) Wr x ≡ sends (Count
 count_stays_at_the_top = refl
 
 -- with a queue it counts what it serves, and not what it queues
-count_queues : put_of eight (with_queue (Count 0)) Wr x ≡ record { shape = with_queue (Count 0); answer = Queue x }
+count_queues : put_of builtin (with_queue (Count 0)) Wr x ≡ record { shape = with_queue (Count 0); answer = Queue x }
 count_queues = refl
 
 count_serves :
-    serve_of eight (with_queue (Count 0)) Wr x ≡ record { shape = with_queue (Count 1); outs = (Wr, x) ∷ [] }
+    serve_of builtin (with_queue (Count 0)) Wr x ≡ record { shape = with_queue (Count 1); outs = (Wr, x) ∷ [] }
 count_serves = refl
 
 -- ab waits, and c LF d ends that line

@@ -1,6 +1,6 @@
 pub mod Bytes
 pub mod Shape
 pub mod Kinds
-pub mod Eight
+pub mod Builtin
 pub mod Module
 pub mod Calm

@@ -1,9 +1,9 @@
-//! What each of the eight kinds makes of an ordinary message.
+//! What each of the built-in kinds makes of an ordinary message.
 ghost use Rattle.std.specs.Prelude.{◌≡◌, [], ◌∷◌, IfOk, OnOk, OnErr, option_map};
 ghost use Rattle.strm_msg.specs.Message.{data_msg};
 ghost use Rattle.strm_module.specs.declared.kind.Kind.TheVariants as Kind;
 ghost use Rattle.strm_module.specs.Bytes.{mapped, with_cr, without_cr};
-ghost use Rattle.strm_module.specs.Eight.{table_action, crnl_action, line_splits, line_action, count_action, band_action, tee_action, mute_action};
+ghost use Rattle.strm_module.specs.Builtin.{table_action, crnl_action, line_splits, line_action, count_action, band_action, tee_action, mute_action};
 
 use crate::bytes;
 use crate::kind::MOST_KEPT;

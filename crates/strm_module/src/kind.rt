@@ -1,6 +1,6 @@
-//! The eight kinds of module that every program has, as a vocabulary.
+//! The built-in kinds of module that every program has, as a vocabulary.
 ghost use Rattle.std.specs.Prelude.{◌≡◌, IfOk, OnOk, OnErr};
-ghost use Rattle.strm_module.specs.Eight.{ordinary_action, flushed_kind};
+ghost use Rattle.strm_module.specs.Builtin.{ordinary_action, flushed_kind};
 
 use crate::acts::{act_band, act_count, act_crnl, act_line, act_mute, act_table, act_tee};
 use crate::outs::{Outs, pass_on};
@@ -11,7 +11,7 @@ use strm_msg::{Bytes, Class, Message, MsgKind, NoMem, Side};
 /// The longest unfinished line that is kept, in bytes.
 pub const MOST_KEPT: usize = 4096;
 
-/// Eight kinds of module: what each does with messages, and what it keeps for that.
+/// The built-in kinds of module: what each does with messages, and what it keeps for that.
 ///
 /// Only ordinary messages are meant, and what is not named goes on unchanged, along its side. High
 /// ones go on unchanged, whatever the kind.
@@ -91,9 +91,9 @@ fn flush(alloc: Global, kind: &mut Kind, by: MsgKind)
 }
 
 impl Kinds for Kind {
-    ghost use Rattle.strm_module.specs.Eight.{eight};
+    ghost use Rattle.strm_module.specs.Builtin.{builtin};
 
-    ghost means = { eight };
+    ghost means = { builtin };
 
     fn process(&mut self, alloc: Global, side: Side, m: Message) -> Result<Outs, NoMem> {
         match m.class() {

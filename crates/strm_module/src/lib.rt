@@ -1,12 +1,12 @@
 //! Modules of a stream: the interface of a module, vocabularies of kinds with their meaning, and
-//! eight kinds to begin with.
+//! built-in kinds to begin with.
 //!
 //! A module stands between the stream head and the driver. Messages come to it on two sides: on
 //! the write side on their way down, to the driver, and on the read side on their way up, to the
 //! head (Programmer's Guide: STREAMS, "Modules").
 //!
 //! A module is an `Instance`: a `Shape`, which is plain data and decides every answer, and an object
-//! that acts by it. For the eight kinds of `Kind` there are objects to take, as `Pass` and `Count`,
+//! that acts by it. For the built-in kinds of `Kind` there are objects to take, as `Pass` and `Count`,
 //! and `Module` says how to write one that does more beside. `Kinds` says how a program gets kinds
 //! of its own, and `ModuleOf` how their objects are written.
 #![tactic(auto)]
@@ -14,22 +14,22 @@
 mod acts;
 mod boxed;
 mod bytes;
-mod eight;
 mod instance;
 mod kind;
 mod laws;
 mod module;
+mod objects;
 mod outs;
 mod procedures;
 mod shape;
 mod vocabulary;
 
 pub use boxed::{Boxed, BoxedShape};
-pub use eight::{Band, Count, CrNl, Line, Mute, Pass, Plain, Table, Tee};
 pub use instance::Instance;
 pub use kind::{Kind, MOST_KEPT};
-pub use laws::eight_are_calm;
+pub use laws::builtin_are_calm;
 pub use module::{Module, ModuleOf};
+pub use objects::{Band, Count, CrNl, Line, Mute, Pass, Plain, Table, Tee};
 pub use outs::{Outs, Put, both, pass_on, reply};
 pub use shape::{LONGEST_NAME, MakeFault, Shape};
 pub use vocabulary::Kinds;

@@ -1,6 +1,6 @@
 //! The interface of a module.
 ghost use Rattle.std.specs.Prelude.{◌≡◌, IfOk, OnOk, OnErr};
-ghost use Rattle.strm_module.specs.Eight.{eight};
+ghost use Rattle.strm_module.specs.Builtin.{builtin};
 ghost use Rattle.strm_module.specs.Module.{put_of, serve_of};
 
 use crate::kind::Kind;
@@ -11,7 +11,7 @@ use std::alloc::Global;
 use strm_msg::{Message, NoMem, Side};
 
 /// A module's put and service procedures (qinit(9S)), for kinds of any vocabulary. Implement this
-/// for the objects of a discipline that you port; for one of the eight kinds implement `Module`,
+/// for the objects of a discipline that you port; for one of the built-in kinds implement `Module`,
 /// which may be boxed.
 ///
 /// # The object and its shape
@@ -103,7 +103,7 @@ pub trait ModuleOf: Send + Drop {
     }
 }
 
-/// A module of the eight kinds, which may be boxed: what `ModuleOf` asks for the vocabulary `Kind`,
+/// A module of the built-in kinds, which may be boxed: what `ModuleOf` asks for the vocabulary `Kind`,
 /// where all that both traits ask is said.
 ///
 /// A module whose purpose is none of the kinds takes the kind by which it acts on messages, as
@@ -119,8 +119,8 @@ pub trait Module: Send + Drop {
         side: Side,
         m: Message,
     ) -> Result<Put, NoMem>
-        ensures answer { IfOk result (λ put. put ≡ (put_of eight shape.old side m).answer) }
-        ensures after { OnOk result (shape.new ≡ (put_of eight shape.old side m).shape) }
+        ensures answer { IfOk result (λ put. put ≡ (put_of builtin shape.old side m).answer) }
+        ensures after { OnOk result (shape.new ≡ (put_of builtin shape.old side m).shape) }
         ensures err { OnErr result (shape.new ≡ shape.old) }
     {
         shape.put(alloc, side, m)
@@ -136,8 +136,8 @@ pub trait Module: Send + Drop {
         side: Side,
         m: Message,
     ) -> Result<Outs, NoMem>
-        ensures outs { IfOk result (λ outs. outs.items ≡ (serve_of eight shape.old side m).outs) }
-        ensures after { OnOk result (shape.new ≡ (serve_of eight shape.old side m).shape) }
+        ensures outs { IfOk result (λ outs. outs.items ≡ (serve_of builtin shape.old side m).outs) }
+        ensures after { OnOk result (shape.new ≡ (serve_of builtin shape.old side m).shape) }
         ensures err { OnErr result (shape.new ≡ shape.old) }
     {
         shape.serve(alloc, side, m)
@@ -167,7 +167,7 @@ impl Module for Box<dyn Module> {
     }
 }
 
-/// A module of the eight kinds is a module of that vocabulary.
+/// A module of the built-in kinds is a module of that vocabulary.
 impl<M: Module> ModuleOf for M {
     type Kind = Kind;
 

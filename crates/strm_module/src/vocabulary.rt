@@ -6,7 +6,7 @@ use crate::outs::Outs;
 use std::alloc::Global;
 use strm_msg::{Message, NoMem, Side};
 
-/// The kinds of module that a program has: plain data with a meaning. `Kind` has eight; a type of
+/// The kinds of module that a program has: plain data with a meaning. `Kind` has those that are built in; a type of
 /// your own has the disciplines that you port.
 ///
 /// What holds of every vocabulary is that an ordinary message of a side with marks waits in the

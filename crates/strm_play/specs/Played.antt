@@ -3,7 +3,7 @@ use Rattle.std.specs.Prelude.{◌≡◌, ◌⊎◌, ℕ, ◌<◌, ◌==◌, Bool
 use Rattle.strm_msg.specs.Message.{Msg}
 use Rattle.strm_module.specs.declared.kind.Kind.{Kind}
 use Rattle.strm_module.specs.declared.shape.Shape.{Shape}
-use Rattle.strm_module.specs.Eight.{eight}
+use Rattle.strm_module.specs.Builtin.{builtin}
 use Rattle.strm_history.specs.declared.setup.Setup.{Setup}
 use Rattle.strm_history.specs.History.{own}
 use Rattle.strm_history.specs.Entry.{asked_of}
@@ -40,7 +40,7 @@ pub record IsPlayed (bytes : List ℕ) (outcome : Outcome) : Type 0 where
   pub streams : outcome.plan.streams ≡ plan.streams
   pub names : names_of outcome.plan.processes.items ≡ names_of plan.processes.items
   pub many : length outcome.transcript.streams.items ≡ length (setups_of plan)
-  pub legal : (k : ℕ) (setup : Setup) (log : StreamLog Kind) → k < length (setups_of plan) → IsLegal eight (get_or (setups_of plan) k setup) (get_or outcome.transcript.streams.items k log)
+  pub legal : (k : ℕ) (setup : Setup) (log : StreamLog Kind) → k < length (setups_of plan) → IsLegal builtin (get_or (setups_of plan) k setup) (get_or outcome.transcript.streams.items k log)
   pub calls : (k caller : ℕ) (log : StreamLog Kind) → k < length (setups_of plan) → map asked_of (own caller (get_or outcome.transcript.streams.items k log).history.items) ≡ calls_on k (calls_of plan caller)
   pub arrivals : (k : ℕ) (log : StreamLog Kind) → k < length (setups_of plan) → IsFed (messages_for (map fed plan.feeds.items) k) (get_or outcome.transcript.streams.items k log)
 

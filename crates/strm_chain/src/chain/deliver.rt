@@ -80,7 +80,7 @@ impl<M: ModuleOf> Chain<M> {
     }
 }
 
-/// A law, which nothing is done for: with the eight kinds, what a head sends down comes back to no
+/// A law, which nothing is done for: with the built-in kinds, what a head sends down comes back to no
 /// head that would send anything again. So to let a head send nothing there, by which delivery ends
 /// for kinds of any meaning, changes nothing.
 pub fn head_sends_once()

@@ -1,11 +1,11 @@
-use Rattle.strm_module.specs.Eight.{eight}
+use Rattle.strm_module.specs.Builtin.{builtin}
 use Rattle.strm_head.specs.Begin.{out_of}
 use Rattle.strm_handle.proofs.FitsLemmas.{step_fits}
 use Rattle.strm_handle.proofs.calls.step.Goals as goal
 
 pub returns : goal.returns
 returns c =
-    let out = out_of eight c.args.stream.now c.args.end c.args.request c.apply-outcome.result.answer in
+    let out = out_of builtin c.args.stream.now c.args.end c.args.request c.apply-outcome.result.answer in
     record {
       moves = c.apply-outcome.result.moves;
       step = c.apply-outcome.ensures.step;

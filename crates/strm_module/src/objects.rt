@@ -1,4 +1,4 @@
-//! Objects for the eight kinds. Each acts by its shape and keeps nothing.
+//! Objects for the built-in kinds. Each acts by its shape and keeps nothing.
 ghost use Rattle.std.specs.Prelude.{◌≡◌, [], is_ok, is_none, IfOk, IfErr, Some};
 ghost use Rattle.strm_module.specs.declared.kind.Kind.TheVariants as Kind;
 ghost use Rattle.strm_module.specs.Shape.{make_fault, new_shape};

@@ -1,4 +1,4 @@
--- What each of the eight kinds makes of a message that it doesn't queue (Programmer's Guide: STREAMS,
+-- What each of the built-in kinds makes of a message that it doesn't queue (Programmer's Guide: STREAMS,
 -- "Modules" and "Message Types").
 use Rattle.std.specs.Prelude.{ℕ, ◌+◌, ◌==◌, nat_lt, min, true, Some, None, List, [], ◌∷◌, ◌++◌, if◌then◌else◌, length, option_map, unwrap_or}
 use Rattle.strm_msg.specs.Kind.{is_high}
@@ -94,8 +94,8 @@ flushed_kind (Line partial) (MFlush true w (Some band)) =
     if band == 0 then Line [] else Line partial
 flushed_kind kind m = kind
 
--- what the eight kinds make of any message: a high one goes on as it is, along its side
-abbrev pub eight : Meaning Kind
-eight kind side m =
+-- what the built-in kinds make of any message: a high one goes on as it is, along its side
+abbrev pub builtin : Meaning Kind
+builtin kind side m =
     if is_high m.kind then passed_on (flushed_kind kind m.kind) side m
     else ordinary_action kind side m

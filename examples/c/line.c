@@ -22,6 +22,16 @@ static int set_options(struct strm *s, const char *bytes, int len)
     return strm_arrive(s, M_SETOPTS, 0, NULL, &part, 0);
 }
 
+/* An error for reading and one for writing; NOERROR leaves a side as it is. */
+static int report(struct strm *s, unsigned char reading, unsigned char writing)
+{
+    char sides[2];
+    struct strbuf part = { 0, 2, sides };
+    sides[0] = (char)reading;
+    sides[1] = (char)writing;
+    return strm_arrive(s, M_ERROR, 0, NULL, &part, 0);
+}
+
 static void tell(struct strm *s)
 {
     int messages = 0, bytes = 0;
@@ -68,6 +78,10 @@ int main(void)
     printf("hangup %s\n", said(strm_arrive(&s, M_HANGUP, 0, NULL, NULL, 0)));
     read_some(&s, 64);
     printf("write %s\n", said(strm_write(&s, STRM_A, "r", 1, &written)));
+    printf("no error %s\n", said(report(&s, NOERROR, 1)));
+    printf("error in writing %s\n", said(report(&s, NOERROR, EPROTO)));
+    printf("write %s\n", said(strm_write(&s, STRM_A, "r", 1, &written)));
+    read_some(&s, 64);
     printf("error %s\n", said(strm_arrive(&s, M_ERROR, 0, NULL, NULL, EIO)));
     printf("write %s\n", said(strm_write(&s, STRM_A, "r", 1, &written)));
     printf("close %s\n", said(strm_close(&s, STRM_A)));

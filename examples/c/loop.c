@@ -43,9 +43,9 @@ static void list(struct strm *s, uint8_t end)
 int main(void)
 {
     struct strm s = STRM_CLOSED;
-    struct strm_module term = { "term", STRM_CRNL, 64, 16, 64, 16, 0, NULL };
-    struct strm_module tally = { "tally", STRM_COUNT, 0, 0, 0, 0, 0, NULL };
-    struct strm_module wrong = { "no name", STRM_PASS, 0, 0, 0, 0, 0, NULL };
+    struct strm_module term = { "term", STRM_CRNL, 64, 16, 64, 16, 0, NULL, 0 };
+    struct strm_module tally = { "tally", STRM_COUNT, 0, 0, 0, 0, 0, NULL, 0 };
+    struct strm_module wrong = { "no name", STRM_PASS, 0, 0, 0, 0, 0, NULL, 0 };
     struct strioctl ask = { 1, 0, -1, NULL };
     char name[FMNAMESZ + 1];
     uint64_t count = 0;

@@ -256,10 +256,10 @@ static void marks(const char *field, uint32_t *hi, uint32_t *lo)
 
 static int do_push(void)
 {
-    static const char *const kinds[] = { "pass", "table", "crnl", "line", "count", "band", "tee", "mute" };
+    static const char *const kinds[] = { "pass", "table", "crnl", "line", "count", "band", "tee", "mute", "split" };
     static unsigned char table[256];
-    struct strm_module module = { fields[3], STRM_PASS, 0, 0, 0, 0, 0, table };
-    for (int i = 0; i < 8; i++) {
+    struct strm_module module = { fields[3], STRM_PASS, 0, 0, 0, 0, 0, table, 0 };
+    for (int i = 0; i < 9; i++) {
         if (is(fields[2], kinds[i]))
             module.kind = (enum strm_kind)i;
     }
@@ -267,6 +267,8 @@ static int do_push(void)
     marks(fields[5], &module.wr_hi, &module.wr_lo);
     if (module.kind == STRM_BAND)
         module.band = (unsigned char)number(fields[6]);
+    if (module.kind == STRM_SPLIT)
+        module.split = (unsigned short)number(fields[6]);
     for (int i = 0; i < 256; i++)
         table[i] = (unsigned char)i;
     if (module.kind == STRM_TABLE) {

@@ -1,5 +1,6 @@
 -- The message that is handed in from a line, by the numbers of its kind and of what it says.
-use Rattle.std.specs.Prelude.{ℕ, ◌-◌, nat_eq, nat_le, Option, Some, None, if◌then◌else◌, option_map}
+use Rattle.std.specs.Prelude.{ℕ, ◌-◌, nat_eq, nat_le, Option, Some, None, [], ◌∷◌, if◌then◌else◌, option_map}
+use Rattle.std.specs.Option.{option_and_then}
 use Rattle.strm_msg.specs.Message.{Msg, Part, bare, data_msg, proto_msg, pcproto_msg}
 use Rattle.strm_msg.specs.Options.{options_asked}
 use Rattle.strm_msg.specs.declared.kind.MsgKind.{MsgKind}
@@ -22,13 +23,28 @@ flush_msg band flags =
     if nat_le flags 3 then option_map (λ sides. bare (MFlush sides.0 sides.1 None)) (sides_of flags)
     else option_map (λ sides. bare (MFlush sides.0 sides.1 (Some band))) (sides_of (flags - 4))
 
--- a message without parts, by the number of its kind; a further number says what a flush flushes, and which errno an error has
+-- a message without parts, by the number of its kind; a further number says what a flush flushes
 abbrev pub bare_of : ℕ → ℕ → ℕ → Option Msg
 bare_of kind band number =
     if nat_eq kind 134 then flush_msg band number
     else if nat_eq kind 137 then Some (bare MHangup)
-    else if nat_eq kind 138 then option_map (λ errno. bare (MError errno)) (errno_of number)
     else None
+
+-- a byte of an error: an errno, or NOERROR, which is 255 and leaves the side as it is
+abbrev pub side_errno_of : ℕ → Option (Option Errno)
+side_errno_of byte = if nat_eq byte 255 then Some None else option_map (λ errno. Some errno) (errno_of byte)
+
+-- the error of a byte for reading and one for writing
+abbrev pub error_of_sides : ℕ → ℕ → Option Msg
+error_of_sides read write =
+    option_and_then (λ rd. option_map (λ wr. bare (MError rd wr)) (side_errno_of write)) (side_errno_of read)
+
+-- an error: its bytes are one for both sides, or one for reading and one for writing; without data it is that of a number, for both sides
+abbrev pub error_msg : Part → ℕ → Option Msg
+error_msg None number = option_map (λ errno. bare (MError (Some errno) (Some errno))) (errno_of number)
+error_msg (Some (both ∷ [])) number = error_of_sides both both
+error_msg (Some (read ∷ (write ∷ []))) number = error_of_sides read write
+error_msg (Some bytes) number = None
 
 -- the message of options that are asked for
 abbrev pub options_msg : Option MsgKind → Option Msg
@@ -43,4 +59,5 @@ message_of kind band ctl dat number =
     else if nat_eq kind 1 then option_map (λ bytes. proto_msg band bytes dat) ctl
     else if nat_eq kind 16 then options_msg (options_asked dat)
     else if nat_eq kind 131 then option_map (λ bytes. pcproto_msg bytes dat) ctl
+    else if nat_eq kind 138 then error_msg dat number
     else bare_of kind band number

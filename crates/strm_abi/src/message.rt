@@ -5,7 +5,10 @@ ghost use Rattle.strm_msg.specs.Options.{options_asked};
 ghost use Rattle.strm_abi.specs.Messages as messages;
 
 use crate::numbers::{errno_of, sides_of};
-use strm_msg::{Bytes, Message, MsgKind, options_asked};
+use strm_msg::{Bytes, Errno, Message, MsgKind, options_asked};
+
+/// What stands for a side that an M_ERROR leaves as it is (NOERROR).
+const NOERROR: u8 = 255;
 
 /// The flush of these flags, if they are any.
 fn flush_of(band: u8, flags: u32) -> Option<Message>
@@ -34,6 +37,41 @@ fn options_of(dat: &Option<Bytes>) -> Option<Message>
     }
 }
 
+/// What a byte of an error says of a side: an errno, or none where it is NOERROR; if it says anything.
+fn side_errno_of(byte: u8) -> Option<Option<Errno>>
+    ensures { result ≡ messages.side_errno_of byte }
+{
+    if byte == NOERROR {
+        return Some(None);
+    }
+    Some(Some(errno_of(u32::from(byte))?))
+}
+
+/// The error of a byte for each side, if they say any.
+fn error_of_sides(read: u8, write: u8) -> Option<Message>
+    ensures message { result ≡ messages.error_of_sides read write }
+    ensures line { IfSome result (λ m. is_from_line m.kind ≡ true) }
+{
+    let read = side_errno_of(read)?;
+    let write = side_errno_of(write)?;
+    Some(Message::of_error2(read, write))
+}
+
+/// The error of one byte for both sides or of one for each, or without data that of a number, if they say any.
+fn error_of(dat: &Option<Bytes>, number: u32) -> Option<Message>
+    ensures message { result ≡ messages.error_msg dat.now number }
+    ensures line { IfSome result (λ m. is_from_line m.kind ≡ true) }
+{
+    let Some(bytes) = dat else {
+        return Some(Message::of_error(errno_of(number)?));
+    };
+    match bytes.as_slice() {
+        [both] => error_of_sides(*both, *both),
+        [read, write] => error_of_sides(*read, *write),
+        _ => None,
+    }
+}
+
 /// The message without parts of these numbers, if they make one.
 fn bare_of(kind: u32, band: u8, number: u32) -> Option<Message>
     ensures message { result ≡ messages.bare_of kind band number }
@@ -42,7 +80,6 @@ fn bare_of(kind: u32, band: u8, number: u32) -> Option<Message>
     match kind {
         134 => flush_of(band, number),
         137 => Some(Message::of_hangup()),
-        138 => Some(Message::of_error(errno_of(number)?)),
         _ => None,
     }
 }
@@ -86,6 +123,12 @@ pub fn message_of(
             ctl: Some(ctl?),
             dat,
         }),
+        138 => {
+            drop(ctl);
+            let error = error_of(&dat, number);
+            drop(dat);
+            error
+        }
         _ => {
             drop(ctl);
             drop(dat);

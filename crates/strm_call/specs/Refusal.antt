@@ -1,15 +1,17 @@
 -- Refusals of calls, their numbers and errnos (streamio(7), getmsg(2), putmsg(2): "Errors").
-use Rattle.std.specs.Prelude.{ℕ, Bool, Option, Some, None, List, [], ◌∷◌, codes, if◌then◌else◌}
+use Rattle.std.specs.Prelude.{ℕ, ◌==◌, Bool, false, Option, Some, None, List, [], ◌∷◌, codes, if◌then◌else◌}
+use Rattle.std.specs.List.{list_any}
 use Rattle.strm_msg.specs.declared.errno.Errno.{Errno}
 use Rattle.strm_msg.specs.declared.errno.Errno.TheVariants.{EBADF, ENOSR, EINVAL, ERANGE, ENXIO, EBADMSG, ENODATA, EAGAIN}
 use Rattle.strm_call.specs.declared.refusal.Refusal.{Refusal}
-use Rattle.strm_call.specs.declared.refusal.Refusal.TheVariants.{Closed, Broken, Error, Invalid, TooLong, HungUp, BadMessage, NoMessage, WouldWait, NoMemory}
+use Rattle.strm_call.specs.declared.refusal.Refusal.TheVariants.{Closed, Broken, ReadError, WriteError, Invalid, TooLong, HungUp, BadMessage, NoMessage, WouldWait, NoMemory}
 
--- in the order in which refusals are looked for
+-- the number of a refusal
 abbrev pub number_of : Refusal → ℕ
 number_of Closed = 1
 number_of Broken = 2
-number_of (Error errno) = 3
+number_of (ReadError errno) = 3
+number_of (WriteError errno) = 11
 number_of Invalid = 4
 number_of TooLong = 5
 number_of HungUp = 6
@@ -18,10 +20,24 @@ number_of NoMessage = 8
 number_of WouldWait = 9
 number_of NoMemory = 10
 
+-- the numbers, in the order in which refusals are looked for
+abbrev pub looking_order : List ℕ
+looking_order = 1 ∷ 2 ∷ 3 ∷ 11 ∷ 4 ∷ 5 ∷ 6 ∷ 7 ∷ 8 ∷ 9 ∷ 10 ∷ []
+
+-- one number stands before another in a list
+abbrev pub stands_before : List ℕ → ℕ → ℕ → Bool
+stands_before [] one other = false
+stands_before (n ∷ ns) one other = if n == one then list_any (λ later. later == other) ns else stands_before ns one other
+
+-- one refusal is looked for before another
+abbrev pub is_before : Refusal → Refusal → Bool
+is_before refusal later = stands_before looking_order (number_of refusal) (number_of later)
+
 abbrev pub errno_of : Refusal → Errno
 errno_of Closed = EBADF
 errno_of Broken = ENOSR
-errno_of (Error errno) = errno
+errno_of (ReadError errno) = errno
+errno_of (WriteError errno) = errno
 errno_of Invalid = EINVAL
 errno_of TooLong = ERANGE
 errno_of HungUp = ENXIO
@@ -34,7 +50,8 @@ errno_of NoMemory = ENOSR
 abbrev pub text_of : Refusal → List ℕ
 text_of Closed = codes "the end is closed"
 text_of Broken = codes "the stream is broken"
-text_of (Error errno) = codes "an error came up"
+text_of (ReadError errno) = codes "an error of the read side came up"
+text_of (WriteError errno) = codes "an error of the write side came up"
 text_of Invalid = codes "the call does not take an argument"
 text_of TooLong = codes "a part is too long"
 text_of HungUp = codes "the end is hung up"

@@ -15,8 +15,13 @@ pub enum Refusal {
     Closed,
     /// The stream is broken, as memory was wanting after an earlier change: ENOSR.
     Broken,
-    /// An error came up to the head earlier (M_ERROR).
-    Error {
+    /// An error of the read side came up to the head earlier (M_ERROR).
+    ReadError {
+        /// The errno that it carried.
+        errno: Errno,
+    },
+    /// An error of the write side came up to the head earlier (M_ERROR).
+    WriteError {
         /// The errno that it carried.
         errno: Errno,
     },
@@ -37,14 +42,16 @@ pub enum Refusal {
 }
 
 impl Refusal {
-    /// The number of the refusal, 1 to 10, in the order in which they are looked for.
+    /// The number of the refusal, 1 to 11. They are looked for in this order, but 11, an error of the write side, which
+    /// is looked for behind 3, that of the read side.
     pub fn number(self) -> u8
         ensures { result ≡ number_of self }
     {
         match self {
             Refusal::Closed => 1,
             Refusal::Broken => 2,
-            Refusal::Error { .. } => 3,
+            Refusal::ReadError { .. } => 3,
+            Refusal::WriteError { .. } => 11,
             Refusal::Invalid => 4,
             Refusal::TooLong => 5,
             Refusal::HungUp => 6,
@@ -62,7 +69,7 @@ impl Refusal {
         match self {
             Refusal::Closed => Errno::EBADF,
             Refusal::Broken | Refusal::NoMemory => Errno::ENOSR,
-            Refusal::Error { errno } => errno,
+            Refusal::ReadError { errno } | Refusal::WriteError { errno } => errno,
             Refusal::Invalid => Errno::EINVAL,
             Refusal::TooLong => Errno::ERANGE,
             Refusal::HungUp => Errno::ENXIO,
@@ -79,7 +86,8 @@ impl Refusal {
         match self {
             Refusal::Closed => "the end is closed",
             Refusal::Broken => "the stream is broken",
-            Refusal::Error { .. } => "an error came up",
+            Refusal::ReadError { .. } => "an error of the read side came up",
+            Refusal::WriteError { .. } => "an error of the write side came up",
             Refusal::Invalid => "the call does not take an argument",
             Refusal::TooLong => "a part is too long",
             Refusal::HungUp => "the end is hung up",

@@ -20,7 +20,7 @@ use Rattle.strm_module.specs.declared.outs.Put.TheVariants.{Queue as Queued, Sen
 use Rattle.strm_module.proofs.ProcedureLemmas.{put_of_same}
 use Rattle.strm_qpair.specs.Pair.{QueuePair, list_on, flushed_if, flushed_pair, after_put, pair_gets, pair_front, pair_serves}
 use Rattle.strm_qpair.specs.End.{EndState, in_head, in_state, in_drv, pair_at, set_pair, found_gets, end_gets, found_serves, end_serves}
-use Rattle.strm_qpair.specs.Head.{is_id, kept_answer, open_head, keeps, head_does}
+use Rattle.strm_qpair.specs.Head.{is_id, kept_answer, with_errors, open_head, keeps, head_does}
 use Rattle.strm_qpair.specs.Driver.{DriverStep, consumes, refuses, line_does, loop_does, options_up, echo_does, driver_at}
 use Rattle.strm_qpair.specs.Modules.{identity_of, identities_of, SameIds, SameEnd}
 use Rattle.strm_qpair.specs.declared.driver.Driver.{Driver}
@@ -96,8 +96,8 @@ open_head_keeps e (MIocnak id errno) m = answer_keeps e id m
 open_head_keeps e (MFlush r w band) m = in_head_keeps e (flushed_if r band e.head)
 open_head_keeps e MHangup m =
     in_state_keeps e (record e.state { hung = true }) (record { next = refl; pending = refl; kept = λ _. refl })
-open_head_keeps e (MError errno) m =
-    in_state_keeps e (record e.state { errno = Some errno }) (record { next = refl; pending = refl; kept = λ _. refl })
+open_head_keeps e (MError rd wr) m =
+    in_state_keeps e (with_errors e.state rd wr) (record { next = refl; pending = refl; kept = λ _. refl })
 
 head_step_keeps : {K : Type 0} (e : EndState K) (m : Msg) (is_open : Bool) → SameEnd e (cond is_open (open_head e m.kind m) (keeps e)).state
 head_step_keeps e m true = open_head_keeps e m.kind m

@@ -97,9 +97,9 @@ flush_other_end = refl
 -- an error from a line flushes all lists, and the partial line, by the head's flush
 abbrev errored : Image Kind
 errored =
-    deliver builtin (record (chain D.Line (pair (Line (98 ∷ [])) None None ∷ []) []) { a = record (with_modules (pair (Line (98 ∷ [])) None None ∷ [])) { head = b1 ∷ []; drv = b1 ∷ [] } }) (Up A 1) (bare (MError EIO))
+    deliver builtin (record (chain D.Line (pair (Line (98 ∷ [])) None None ∷ []) []) { a = record (with_modules (pair (Line (98 ∷ [])) None None ∷ [])) { head = b1 ∷ []; drv = b1 ∷ [] } }) (Up A 1) (bare (MError (Some EIO) (Some EIO)))
 
-error_kept : errored.a.state.errno ≡ Some EIO
+error_kept : errored.a.state.rd_errno ≡ Some EIO
 unfolding down_through up_through
 error_kept = refl
 

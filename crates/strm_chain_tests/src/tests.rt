@@ -2,7 +2,7 @@
 //! that the clauses state are the ones that were meant. Most are tables of rows, each with its calls and
 //! what they must answer; a row of a chain makes its calls on a new one. What is expected is worked out by
 //! hand from the rules, beside it.
-use Sample::{Ack, Data, Error, Flush, Hangup, Ioctl, Nak, Options, Pcproto, Proto};
+use Sample::{Ack, Data, Error, Error2, Flush, Hangup, Ioctl, Nak, Options, Pcproto, Proto};
 use std::alloc::Global;
 use std::process::Abort;
 use std::sync::Arc;
@@ -51,6 +51,7 @@ enum Sample {
     Options(Option<ReadMode>, Option<(u32, u32)>),
     Hangup,
     Error(Errno),
+    Error2(Option<Errno>, Option<Errno>),
 }
 
 /// A call, and what it must answer.
@@ -121,7 +122,7 @@ enum Call {
     /// Whether an end was hung up.
     Hung(End, bool),
     /// The latest error of an end.
-    Errs(End, Option<Errno>),
+    Errs(End, Option<Errno>, Option<Errno>),
     /// How an end is read.
     Mode(End, ReadMode, Prot),
     /// The id of the next ioctl of an end, and that of the one whose answer is awaited.
@@ -195,6 +196,7 @@ fn message(rt: &impl Abort, alloc: Global, sample: Sample) -> Message {
         Options(mode, marks) => Ok(Message::of_setopts(mode, None, marks)),
         Hangup => Ok(Message::of_hangup()),
         Error(errno) => Ok(Message::of_error(errno)),
+        Error2(rd, wr) => Ok(Message::of_error2(rd, wr)),
     }
     .expect(rt, "no memory for a message")
 }

@@ -50,7 +50,7 @@ open_head_calm e MData m h = (refl, longer e.head m)
 open_head_calm e MProto m h = (refl, longer e.head m)
 open_head_calm e MPcproto m h = (refl, longer_if (has_pcproto e.head) e m)
 open_head_calm e (MFlush r w band) m h = cc
-open_head_calm e (MError errno) m h = cc
+open_head_calm e (MError rd wr) m h = cc
 open_head_calm e kind m h = (refl, le_same (length e.head))
 
 pub head_calm : {K : Type 0} (e : EndState K) (m : Msg) → is_calm m.kind ≡ true → ((head_does e m).sends ≡ None) × (length e.head ≤ length (head_does e m).state.head)
@@ -87,7 +87,7 @@ open_head_options b e MData m h = held_put_le b e.head m
 open_head_options b e MProto m h = held_put_le b e.head m
 open_head_options b e MPcproto m h = put_if_less b (has_pcproto e.head) e m
 open_head_options b e (MFlush r w band) m h = cc
-open_head_options b e (MError errno) m h = cc
+open_head_options b e (MError rd wr) m h = cc
 open_head_options b e kind m h = no_less (options_held b e.head) (options_of b m)
 
 -- what comes to a head sets there or later what it set before

@@ -19,7 +19,7 @@ use Rattle.strm_module.specs.declared.outs.Put.{Put}
 use Rattle.strm_module.specs.declared.outs.Put.TheVariants.{Queue as Queued, Sent}
 use Rattle.strm_qpair.specs.Pair.{QueuePair, list_on, with_list, flushed_if, flushed_pair, after_put, pair_gets, pair_front, pair_serves}
 use Rattle.strm_qpair.specs.End.{EndState, in_head, in_state, in_drv, pair_at, set_pair, list_found, list_at, found_gets, end_gets, found_serves, end_serves}
-use Rattle.strm_qpair.specs.Head.{kept_answer, open_head, keeps, head_does}
+use Rattle.strm_qpair.specs.Head.{kept_answer, with_errors, open_head, keeps, head_does}
 use Rattle.strm_qpair.specs.Driver.{DriverStep, consumes, line_does, loop_does, options_up, refuses, echo_does, driver_at}
 use Rattle.strm_qpair.specs.Modules.{SameIds, SameEnd}
 use Rattle.strm_qpair.specs.declared.driver.Driver.{Driver}
@@ -213,7 +213,7 @@ open_head_alone e (MIocack id rval) m h = state_alone e (kept_answer e.state id 
 open_head_alone e (MIocnak id errno) m h = state_alone e (kept_answer e.state id m)
 open_head_alone e (MFlush r w band) m h = head_alone e (flushed_if r band e.head) (shift_flush r band e.head)
 open_head_alone e MHangup m h = state_alone e (record e.state { hung = true })
-open_head_alone e (MError errno) m h = state_alone e (record e.state { errno = Some errno })
+open_head_alone e (MError rd wr) m h = state_alone e (with_errors e.state rd wr)
 
 head_step_alone : {K : Type 0} (e : EndState K) (m : Msg) (is_open : Bool) → sets_options m.kind ≡ false → HeadAlone e (cond is_open (open_head e m.kind m) (keeps e)).state
 head_step_alone e m true h = open_head_alone e m.kind m h

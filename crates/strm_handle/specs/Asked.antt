@@ -1,7 +1,7 @@
 -- What the arguments of a call ask for, or why they ask for nothing.
 use Rattle.std.specs.Prelude.{◌≡◌, ℕ, ◌/◌, ◌%◌, nat_eq, nat_le, min, Bool, Option, Some, None, Result, Ok, Err, ◌⊎◌, List, [], length, if◌then◌else◌, option_map}
 use Rattle.strm_msg.specs.Message.{Part}
-use Rattle.strm_module.specs.Shape.{MarkPair, make_fault, new_shape}
+use Rattle.strm_module.specs.Shape.{MarkPair, make_fault, is_split, new_shape}
 use Rattle.strm_module.specs.declared.shape.MakeFault.{MakeFault}
 use Rattle.strm_module.specs.declared.kind.Kind.{Kind}
 use Rattle.strm_module.specs.declared.kind.Kind.TheVariants as Kinds
@@ -80,6 +80,7 @@ kind_of kind number table =
     else if nat_eq kind 5 then option_map (λ b. Kinds.Band b) (band_of number)
     else if nat_eq kind 6 then Some Kinds.Tee
     else if nat_eq kind 7 then Some Kinds.Mute
+    else if nat_eq kind 8 then (if is_split number then Some (Kinds.Split number) else None)
     else None
 
 -- the marks of a side, which has no queue where the high one is 0

@@ -1,5 +1,5 @@
 //! What the arguments of a call ask for.
-ghost use Rattle.std.specs.Prelude.{◌≡◌, Ok, IfOk};
+ghost use Rattle.std.specs.Prelude.{◌≡◌, [], Ok, IfOk};
 ghost use Rattle.strm_call.specs.declared.request.Request.TheVariants as Requests;
 ghost use Rattle.strm_handle.specs.Asked as asks;
 
@@ -7,7 +7,7 @@ use crate::codes::{get_flag_of, priority_of, put_flag_of, wanted_of};
 use std::alloc::Global;
 use strm_abi::{mode_of, prot_of, sides_of};
 use strm_call::{Refusal, Request};
-use strm_module::{Boxed, Instance, Kind, Plain, Shape};
+use strm_module::{Boxed, Instance, Kind, MOST_SPLIT, Plain, Shape};
 use strm_msg::{Bytes, NoMem};
 
 /// A request, or the refusal that arguments have which make none.
@@ -235,6 +235,16 @@ fn table_of(table: &[u8]) -> Option<Kind>
     Some(Kind::Table { map })
 }
 
+/// A module that splits off so many bytes, if there is one.
+fn split_of(number: u32) -> Option<Kind>
+    ensures { result ≡ asks.kind_of 8 number [] }
+{
+    if number == 0 || number > u32::from(MOST_SPLIT) {
+        return None;
+    }
+    Some(Kind::Split { n: number as u16 })
+}
+
 /// The kind of a number, with what it takes: a further number or a table.
 pub fn kind_of(alloc: Global, kind: u32, number: u32, table: &[u8]) -> Option<Kind>
     ensures { result ≡ asks.kind_of kind number table.now }
@@ -252,6 +262,7 @@ pub fn kind_of(alloc: Global, kind: u32, number: u32, table: &[u8]) -> Option<Ki
         }),
         6 => Some(Kind::Tee),
         7 => Some(Kind::Mute),
+        8 => split_of(number),
         _ => None,
     }
 }

@@ -1,7 +1,6 @@
 -- What a call that is not refused may count on when it begins.
-use Rattle.std.proofs.Common.{◌≡◌, not, Bool, true, false, Option, Some, None, ◌∷◌, Result, Ok, Err, IfOk, OnOk, IfErr, OnErr, refl, sym, ◌∙◌, rules}
+use Rattle.std.proofs.Common.{◌≡◌, not, Bool, true, false, Option, Some, None, List, ◌∷◌, Result, Ok, Err, IfOk, OnOk, IfErr, OnErr, refl, sym, ◌∙◌, rules}
 use Rattle.std.specs.Option.{option_or}
-use Rattle.strm_msg.specs.declared.errno.Errno.{Errno}
 use Rattle.strm_msg.specs.declared.words.End.{End}
 use Rattle.strm_module.specs.declared.shape.Shape.{Shape}
 use Rattle.strm_ends.specs.Image.{Image, end_of, has_end}
@@ -12,7 +11,7 @@ use Rattle.strm_call.specs.declared.request.Request.TheVariants.{Close}
 use Rattle.strm_call.specs.declared.refusal.Refusal.{Refusal}
 use Rattle.strm_call.specs.declared.refusal.Refusal.TheVariants.{Closed, Broken}
 use Rattle.strm_call.specs.Refusal.{first_that_holds}
-use Rattle.strm_head.specs.Begin.{refusal_of, begun_of, common_refusals, own_refusals, error_refusals, takes_no_memory, can_lack_memory, changes_no_queue}
+use Rattle.strm_head.specs.Begin.{refusal_of, begun_of, errors_at, common_refusals, own_refusals, takes_no_memory, can_lack_memory, changes_no_queue}
 use Rattle.strm_chain.specs.declared.fault.ChainFault.{ChainFault}
 use Rattle.strm_call.specs.declared.answer.Reply.{Reply}
 use Rattle.strm_chain.specs.Fault.{Fails}
@@ -23,9 +22,9 @@ use Rattle.strm_head.specs.Inside.{IsKept}
 use Rattle.strm_head.proofs.RefusalLemmas.{first_of_all}
 use Rattle.strm_head.proofs.KeptLemmas.{whole_of, none_before}
 
-open_if : (opened broken : Bool) (errno : Option Errno) → first_that_holds ((not opened, Closed) ∷ (broken, Broken) ∷ error_refusals errno) ≡ None → opened ≡ true
-open_if true broken errno h = refl
-open_if false broken errno h = cc
+open_if : (opened broken : Bool) (errors : List (Bool × Refusal)) → first_that_holds ((not opened, Closed) ∷ (broken, Broken) ∷ errors) ≡ None → opened ≡ true
+open_if true broken errors h = refl
+open_if false broken errors h = cc
 
 none_behind : (first later : Option Refusal) → option_or first later ≡ None → later ≡ None
 none_behind None later h = h
@@ -38,16 +37,16 @@ there_of image e h = rw h (search rules)
 ready_of : {K : Type 0} (image : Image K) (e : End) (request : Request (Shape K)) → IsKept image → refusal_of image e request ≡ None → (request ≡ Close → ⊥) → IsReady image e
 ready_of image e request kept h other =
     let whole = whole_of image e request h other in
-    let common = none_before (first_that_holds (common_refusals image e)) (first_that_holds (own_refusals image e request)) (sym (first_of_all image e request other) ∙ h) in
+    let common = none_before (first_that_holds (common_refusals image e request)) (first_that_holds (own_refusals image e request)) (sym (first_of_all image e request other) ∙ h) in
     record {
-      there = there_of image e (kept.ends e (open_if (end_of image e).is_open image.broken (end_of image e).state.errno common));
+      there = there_of image e (kept.ends e (open_if (end_of image e).is_open image.broken (errors_at image e request) common));
       whole = whole;
       idle = kept.idle whole e;
     }
 
 own_of : {K : Type 0} (image : Image K) (e : End) (request : Request (Shape K)) → refusal_of image e request ≡ None → (request ≡ Close → ⊥) → first_that_holds (own_refusals image e request) ≡ None
 own_of image e request h other =
-    none_behind (first_that_holds (common_refusals image e)) (first_that_holds (own_refusals image e request)) (sym (first_of_all image e request other) ∙ h)
+    none_behind (first_that_holds (common_refusals image e request)) (first_that_holds (own_refusals image e request)) (sym (first_of_all image e request other) ∙ h)
 
 pub may_begin : {K : Type 0} (image : Image K) (e : End) (request : Request (Shape K)) → IsKept image → refusal_of image e request ≡ None → MayBegin image e request
 may_begin image e Close kept h = kept.ends

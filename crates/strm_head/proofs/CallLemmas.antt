@@ -11,7 +11,7 @@ use Rattle.strm_call.specs.declared.request.Request.{Request}
 use Rattle.strm_call.specs.declared.request.Request.TheVariants.{Putmsg, Putpmsg, Getmsg, Getpmsg, Read, Write, Push, Nread, Peek, SetRead, GetRead, Canput, Ckband, Getband, Pop, Look, Find, Str, Flush, FlushBand, Close}
 use Rattle.strm_call.specs.declared.request.Request.TheVariants as Requests
 use Rattle.strm_call.specs.declared.refusal.Refusal.{Refusal}
-use Rattle.strm_call.specs.declared.refusal.Refusal.TheVariants.{Closed, Error, Invalid, NoMessage}
+use Rattle.strm_call.specs.declared.refusal.Refusal.TheVariants.{Closed, ReadError, WriteError, Invalid, NoMessage}
 use Rattle.strm_call.specs.declared.refusal.Refusal.TheVariants as Refusals
 use Rattle.strm_call.specs.Refusal.{first_that_holds}
 use Rattle.strm_call.specs.declared.answer.Reply.{Reply}
@@ -20,12 +20,12 @@ use Rattle.strm_call.specs.declared.answer.Answer.TheVariants.{Done, Refused, Br
 use Rattle.strm_msg.specs.declared.errno.Errno.{Errno}
 use Rattle.strm_msg.specs.Message.{Msg}
 use Rattle.strm_call.specs.Begun.{Begun, begun, begun_ioctl, reply_after}
-use Rattle.strm_head.specs.Begin.{begun_of, refusal_of, changes_no_queue, awaits_answer, takes_no_memory, can_lack_memory, pushed_of, common_refusals, own_refusals, error_refusals, handed_out, back_of, out_of, serials_of, wants_memory}
+use Rattle.strm_head.specs.Begin.{begun_of, refusal_of, changes_no_queue, awaits_answer, takes_no_memory, can_lack_memory, pushed_of, errors_looked_at, error_refusal, error_refusals, errors_at, common_refusals, own_refusals, handed_out, back_of, out_of, serials_of, wants_memory}
 use Rattle.strm_ioctl.specs.Ask.{is_empty}
 use Rattle.strm_module.specs.declared.shape.TheConstants.{LONGEST_NAME}
 use Rattle.strm_head.specs.Inside.{IsKept}
 use Rattle.strm_head.specs.Step.{Answers, Finishes, SettlesUnless, answered_if}
-use Rattle.strm_head.proofs.RefusalLemmas.{first_of_all}
+use Rattle.strm_head.proofs.RefusalLemmas.{first_of_both, first_of_all}
 use Rattle.strm_head.proofs.KeptLemmas.{whole_of, quiet_begun, begun_opens}
 
 -- for kinds of any meaning
@@ -253,16 +253,22 @@ or_not_memory (Some r) later p q refusal is = p refusal is
 none_not_memory : IsNotMemory (first_that_holds [])
 none_not_memory refusal is = cc
 
-error_not_memory : (errno : Option Errno) → IsNotMemory (first_that_holds (error_refusals errno))
-error_not_memory None refusal is = cc
-error_not_memory (Some errno) refusal is =
-    let same : Error errno ≡ refusal = cc in subst (λ r. wants_memory (Refused r) ≡ false) same refl
+error_not_memory : (looks : Bool) (errno : Option Errno) (by : Errno → Refusal) → ((e : Errno) → wants_memory (Refused (by e)) ≡ false) → IsNotMemory (first_that_holds (error_refusal looks errno by))
+error_not_memory looks None by other = none_not_memory
+error_not_memory looks (Some errno) by other = row_not_memory looks (by errno) [] (other errno) none_not_memory
 
-common_not_memory : {K : Type 0} (image : Image K) (e : End) → IsNotMemory (first_that_holds (common_refusals image e))
-common_not_memory image e =
-    let errno = (end_of image e).state.errno in
-    row_not_memory (not (end_of image e).is_open) Closed ((image.broken, Refusals.Broken) ∷ error_refusals errno) refl
-    (row_not_memory image.broken Refusals.Broken (error_refusals errno) refl (error_not_memory errno))
+errors_not_memory : (looks : Bool × Bool) (rd wr : Option Errno) → IsNotMemory (first_that_holds (error_refusals looks rd wr))
+errors_not_memory looks rd wr =
+    let read = error_refusal looks.0 rd (λ errno. ReadError errno) in
+    let write = error_refusal looks.1 wr (λ errno. WriteError errno) in
+    subst IsNotMemory (sym (first_of_both read write))
+    (or_not_memory (first_that_holds read) (first_that_holds write) (error_not_memory looks.0 rd (λ errno. ReadError errno) (λ e. refl)) (error_not_memory looks.1 wr (λ errno. WriteError errno) (λ e. refl)))
+
+common_not_memory : {K : Type 0} (image : Image K) (e : End) (request : Request (Shape K)) → IsNotMemory (first_that_holds (common_refusals image e request))
+common_not_memory image e request =
+    let state = (end_of image e).state in
+    row_not_memory (not (end_of image e).is_open) Closed ((image.broken, Refusals.Broken) ∷ errors_at image e request) refl
+    (row_not_memory image.broken Refusals.Broken (errors_at image e request) refl (errors_not_memory (errors_looked_at request) state.rd_errno state.wr_errno))
 
 -- nor is one of the call's own, of a call that takes no memory
 own_not_memory : {K : Type 0} (image : Image K) (e : End) (request : Request (Shape K)) → takes_no_memory request ≡ true → IsNotMemory (first_that_holds (own_refusals image e request))
@@ -284,4 +290,4 @@ own_not_memory image e request none refusal is = cc
 pub refused_memory : {K : Type 0} (image : Image K) (e : End) (request : Request (Shape K)) (refusal : Refusal) → takes_no_memory request ≡ true → refusal_of image e request ≡ Some refusal → wants_memory (Refused refusal) ≡ false
 refused_memory image e request refusal none is =
     let other : request ≡ Close → ⊥ = λ same. let no : true ≡ false = sym none ∙ ap (λ r. takes_no_memory r) same in cc in
-    or_not_memory (first_that_holds (common_refusals image e)) (first_that_holds (own_refusals image e request)) (common_not_memory image e) (own_not_memory image e request none) refusal (sym (first_of_all image e request other) ∙ is)
+    or_not_memory (first_that_holds (common_refusals image e request)) (first_that_holds (own_refusals image e request)) (common_not_memory image e request) (own_not_memory image e request none) refusal (sym (first_of_all image e request other) ∙ is)

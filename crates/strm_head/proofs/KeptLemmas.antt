@@ -1,7 +1,6 @@
 -- What a stream keeps from call to call: which ends are open, and that no place must move.
 use Rattle.std.proofs.Common.{◌≡◌, ℕ, ◌+◌, ◌||◌, not, true, false, Bool, Option, Some, None, List, ◌∷◌, suc, zero, refl, sym, ◌∙◌, ap, subst, if◌then◌else◌}
 use Rattle.std.specs.Option.{option_or}
-use Rattle.strm_msg.specs.declared.errno.Errno.{Errno}
 use Rattle.strm_msg.specs.Message.{Msg, Part}
 use Rattle.strm_msg.specs.Kind.{is_high}
 use Rattle.strm_msg.specs.declared.words.End.{End}
@@ -39,7 +38,7 @@ use Rattle.strm_msgio.specs.Send.{sent_of, putmsg_message, putpmsg_message, ordi
 use Rattle.strm_ioctl.specs.Ioctl.{asked_of}
 use Rattle.strm_ioctl.specs.Close.{closed_image, after_close}
 use Rattle.strm_ioctl.proofs.CloseLemmas.{hung_up_keeps}
-use Rattle.strm_head.specs.Begin.{begun_of, refusal_of, common_refusals, own_refusals, error_refusals, changes_no_queue}
+use Rattle.strm_head.specs.Begin.{begun_of, refusal_of, errors_at, common_refusals, own_refusals, changes_no_queue}
 use Rattle.strm_head.proofs.RefusalLemmas.{first_of_all}
 use Rattle.strm_head.specs.Inside.{HasItsEnds, IsIdle, AreIdle, IsKept, OpensNone}
 use Rattle.strm_head.specs.Step.{Answers, IsDone, IsBroken, SettlesUnless, Lands, arrival, arrived_of, answered_if}
@@ -74,10 +73,10 @@ pub ends_stay : {K : Type 0} (old new : Image K) → OpensNone old new → HasIt
 ends_stay old new opens ends e h = ap (λ d. has_end d e) opens.driver ∙ ends e (opens.ends e h)
 
 -- a call that is not refused, and is no close, finds a stream that is not broken
-whole_if : (opened broken : Bool) (errno : Option Errno) → first_that_holds ((not opened, Closed) ∷ (broken, Broken) ∷ error_refusals errno) ≡ None → broken ≡ false
-whole_if true false errno h = refl
-whole_if true true errno h = cc
-whole_if false broken errno h = cc
+whole_if : (opened broken : Bool) (errors : List (Bool × Refusal)) → first_that_holds ((not opened, Closed) ∷ (broken, Broken) ∷ errors) ≡ None → broken ≡ false
+whole_if true false errors h = refl
+whole_if true true errors h = cc
+whole_if false broken errors h = cc
 
 pub none_before : (first later : Option Refusal) → option_or first later ≡ None → first ≡ None
 none_before None later h = refl
@@ -85,8 +84,8 @@ none_before (Some refusal) later h = cc
 
 pub whole_of : {K : Type 0} (image : Image K) (e : End) (request : Request (Shape K)) → refusal_of image e request ≡ None → (request ≡ Close → ⊥) → image.broken ≡ false
 whole_of image e request h other =
-    whole_if (end_of image e).is_open image.broken (end_of image e).state.errno
-    (none_before (first_that_holds (common_refusals image e)) (first_that_holds (own_refusals image e request)) (sym (first_of_all image e request other) ∙ h))
+    whole_if (end_of image e).is_open image.broken (errors_at image e request)
+    (none_before (first_that_holds (common_refusals image e request)) (first_that_holds (own_refusals image e request)) (sym (first_of_all image e request other) ∙ h))
 
 -- the record of a head is no part of what moves
 same_above : {K : Type 0} (image : Image K) (e : End) (r : Record) (p : End) → above (end_of (with_state image e r) p) (count_of (with_state image e r) p + 1) ≡ above (end_of image p) (count_of image p + 1)

@@ -1,5 +1,5 @@
--- What may refuse a call is looked for in the order of the refusals' numbers.
-use Rattle.std.proofs.Common.{◌≡◌, zero, suc, not, Bool, true, Option, Some, None, List, [], ◌∷◌, ◌++◌, refl}
+-- What may refuse a call is looked for in the order of the refusals.
+use Rattle.std.proofs.Common.{◌≡◌, zero, suc, not, Bool, true, false, Option, Some, None, List, [], ◌∷◌, ◌++◌, refl}
 use Rattle.strm_msg.specs.declared.errno.Errno.{Errno}
 use Rattle.strm_msg.specs.declared.words.End.{End}
 use Rattle.strm_module.specs.declared.shape.Shape.{Shape}
@@ -19,36 +19,41 @@ use Rattle.strm_ioctl.specs.Ioctl.{str_refusals}
 use Rattle.strm_ioctl.specs.Flush.{flush_refusals}
 use Rattle.strm_head.specs.Begin.{error_refusals, refusals, are_in_order}
 
--- so it is of a call with these refusals of its own, where this error has come up or none
-abbrev Ordered : {K : Type 0} → Image K → End → List (Bool × Refusal) → Option Errno → Type 0
-Ordered image e own errno =
-    are_in_order ((not (end_of image e).is_open, Closed) ∷ (image.broken, Broken) ∷ error_refusals errno ++ own) ≡ true
+-- so it is of a call with these refusals of its own, whichever errors it looks at, where these have come up or none
+abbrev Ordered : {K : Type 0} → Image K → End → Bool × Bool → List (Bool × Refusal) → Option Errno → Option Errno → Type 0
+Ordered image e looks own rd wr =
+    are_in_order ((not (end_of image e).is_open, Closed) ∷ (image.broken, Broken) ∷ error_refusals looks rd wr ++ own) ≡ true
 
-ordered : {K : Type 0} (image : Image K) (e : End) (own : List (Bool × Refusal)) → Ordered image e own None → ((errno : Errno) → Ordered image e own (Some errno)) → Ordered image e own (end_of image e).state.errno
-ordered image e own none some =
-    elim ((end_of image e).state.errno) as (λ errno. Ordered image e own errno) [ None ↦ none | Some errno ↦ some errno ]
+by_error : {K : Type 0} (image : Image K) (e : End) (looks : Bool × Bool) (own : List (Bool × Refusal)) (rd wr : Option Errno) → Ordered image e looks own None None → ((x : Errno) → Ordered image e looks own (Some x) None) → ((y : Errno) → Ordered image e looks own None (Some y)) → ((x y : Errno) → Ordered image e looks own (Some x) (Some y)) → Ordered image e looks own rd wr
+by_error image e looks own None None none read write both = none
+by_error image e looks own (Some x) None none read write both = read x
+by_error image e looks own None (Some y) none read write both = write y
+by_error image e looks own (Some x) (Some y) none read write both = both x y
+
+ordered : {K : Type 0} (image : Image K) (e : End) (looks : Bool × Bool) (own : List (Bool × Refusal)) → Ordered image e looks own None None → ((x : Errno) → Ordered image e looks own (Some x) None) → ((y : Errno) → Ordered image e looks own None (Some y)) → ((x y : Errno) → Ordered image e looks own (Some x) (Some y)) → Ordered image e looks own (end_of image e).state.rd_errno (end_of image e).state.wr_errno
+ordered image e looks own = by_error image e looks own (end_of image e).state.rd_errno (end_of image e).state.wr_errno
 
 pub in_order : {K : Type 0} (image : Image K) (e : End) (request : Request (Shape K)) → are_in_order (refusals image e request) ≡ true
-in_order image e (Putmsg ctl dat flag) = ordered image e (putmsg_refusals image e ctl dat flag) refl (λ errno. refl)
-in_order image e (Putpmsg ctl dat band flag) = ordered image e (putpmsg_refusals image e ctl dat band flag) refl (λ errno. refl)
-in_order image e (Getmsg maxctl maxdat flag) = ordered image e (getmsg_refusals image e flag) refl (λ errno. refl)
-in_order image e (Getpmsg maxctl maxdat band flag) = ordered image e (getpmsg_refusals image e band flag) refl (λ errno. refl)
-in_order image e (Read zero) = ordered image e [] refl (λ errno. refl)
-in_order image e (Read (suc n)) = ordered image e (read_refusals image e (suc n)) refl (λ errno. refl)
-in_order image e (Write dat) = ordered image e (write_refusals image e dat) refl (λ errno. refl)
-in_order image e (Push shape) = ordered image e (push_refusals image e) refl (λ errno. refl)
-in_order image e Nread = ordered image e [] refl (λ errno. refl)
-in_order image e (Peek maxctl maxdat flag) = ordered image e [] refl (λ errno. refl)
-in_order image e (SetRead mode prot) = ordered image e [] refl (λ errno. refl)
-in_order image e GetRead = ordered image e [] refl (λ errno. refl)
-in_order image e (Canput band) = ordered image e [] refl (λ errno. refl)
-in_order image e (Ckband band) = ordered image e [] refl (λ errno. refl)
-in_order image e Getband = ordered image e (getband_refusals image e) refl (λ errno. refl)
-in_order image e Pop = ordered image e (pop_refusals image e) refl (λ errno. refl)
-in_order image e Look = ordered image e (look_refusals image e) refl (λ errno. refl)
-in_order image e Requests.List = ordered image e [] refl (λ errno. refl)
-in_order image e (Find name) = ordered image e (find_refusals name) refl (λ errno. refl)
-in_order image e (Str cmd dat) = ordered image e (str_refusals image e dat) refl (λ errno. refl)
-in_order image e (Flush r w) = ordered image e (flush_refusals image e r w) refl (λ errno. refl)
-in_order image e (FlushBand band r w) = ordered image e (flush_refusals image e r w) refl (λ errno. refl)
+in_order image e (Putmsg ctl dat flag) = ordered image e (false, true) (putmsg_refusals image e ctl dat flag) refl (λ x. refl) (λ y. refl) (λ x y. refl)
+in_order image e (Putpmsg ctl dat band flag) = ordered image e (false, true) (putpmsg_refusals image e ctl dat band flag) refl (λ x. refl) (λ y. refl) (λ x y. refl)
+in_order image e (Getmsg maxctl maxdat flag) = ordered image e (true, false) (getmsg_refusals image e flag) refl (λ x. refl) (λ y. refl) (λ x y. refl)
+in_order image e (Getpmsg maxctl maxdat band flag) = ordered image e (true, false) (getpmsg_refusals image e band flag) refl (λ x. refl) (λ y. refl) (λ x y. refl)
+in_order image e (Read zero) = ordered image e (true, false) [] refl (λ x. refl) (λ y. refl) (λ x y. refl)
+in_order image e (Read (suc n)) = ordered image e (true, false) (read_refusals image e (suc n)) refl (λ x. refl) (λ y. refl) (λ x y. refl)
+in_order image e (Write dat) = ordered image e (false, true) (write_refusals image e dat) refl (λ x. refl) (λ y. refl) (λ x y. refl)
+in_order image e (Push shape) = ordered image e (true, true) (push_refusals image e) refl (λ x. refl) (λ y. refl) (λ x y. refl)
+in_order image e Nread = ordered image e (true, false) [] refl (λ x. refl) (λ y. refl) (λ x y. refl)
+in_order image e (Peek maxctl maxdat flag) = ordered image e (true, false) [] refl (λ x. refl) (λ y. refl) (λ x y. refl)
+in_order image e (SetRead mode prot) = ordered image e (true, true) [] refl (λ x. refl) (λ y. refl) (λ x y. refl)
+in_order image e GetRead = ordered image e (true, true) [] refl (λ x. refl) (λ y. refl) (λ x y. refl)
+in_order image e (Canput band) = ordered image e (false, true) [] refl (λ x. refl) (λ y. refl) (λ x y. refl)
+in_order image e (Ckband band) = ordered image e (true, false) [] refl (λ x. refl) (λ y. refl) (λ x y. refl)
+in_order image e Getband = ordered image e (true, false) (getband_refusals image e) refl (λ x. refl) (λ y. refl) (λ x y. refl)
+in_order image e Pop = ordered image e (true, true) (pop_refusals image e) refl (λ x. refl) (λ y. refl) (λ x y. refl)
+in_order image e Look = ordered image e (true, true) (look_refusals image e) refl (λ x. refl) (λ y. refl) (λ x y. refl)
+in_order image e Requests.List = ordered image e (true, true) [] refl (λ x. refl) (λ y. refl) (λ x y. refl)
+in_order image e (Find name) = ordered image e (true, true) (find_refusals name) refl (λ x. refl) (λ y. refl) (λ x y. refl)
+in_order image e (Str cmd dat) = ordered image e (true, true) (str_refusals image e dat) refl (λ x. refl) (λ y. refl) (λ x y. refl)
+in_order image e (Flush r w) = ordered image e (true, true) (flush_refusals image e r w) refl (λ x. refl) (λ y. refl) (λ x y. refl)
+in_order image e (FlushBand band r w) = ordered image e (true, true) (flush_refusals image e r w) refl (λ x. refl) (λ y. refl) (λ x y. refl)
 in_order image e Close = refl

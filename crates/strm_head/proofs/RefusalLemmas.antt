@@ -11,12 +11,12 @@ use Rattle.strm_call.specs.Refusal.{first_that_holds}
 use Rattle.strm_head.specs.Begin.{common_refusals, own_refusals, refusal_of}
 
 -- of two lists, one behind the other
-first_of_both : (first later : List (Bool × Refusal)) → first_that_holds (first ++ later) ≡ option_or (first_that_holds first) (first_that_holds later)
+pub first_of_both : (first later : List (Bool × Refusal)) → first_that_holds (first ++ later) ≡ option_or (first_that_holds first) (first_that_holds later)
 first_of_both [] later = refl
 first_of_both ((true, refusal) ∷ first) later = refl
 first_of_both ((false, refusal) ∷ first) later = first_of_both first later
 
 -- of all that may refuse a call that is no close
-pub first_of_all : {K : Type 0} (image : Image K) (e : End) (request : Request (Shape K)) → (request ≡ Close → ⊥) → refusal_of image e request ≡ option_or (first_that_holds (common_refusals image e)) (first_that_holds (own_refusals image e request))
+pub first_of_all : {K : Type 0} (image : Image K) (e : End) (request : Request (Shape K)) → (request ≡ Close → ⊥) → refusal_of image e request ≡ option_or (first_that_holds (common_refusals image e request)) (first_that_holds (own_refusals image e request))
 first_of_all image e Close other = absurd (other refl)
-first_of_all image e request other = first_of_both (common_refusals image e) (own_refusals image e request)
+first_of_all image e request other = first_of_both (common_refusals image e request) (own_refusals image e request)

@@ -1,7 +1,7 @@
 -- The refusals of calls and their order, computed on worked examples.
 use Rattle.std.proofs.Common.{◌≡◌, ℕ, true, false, List, [], ◌∷◌, Some, None, replicate, refl}
 use Rattle.strm_msg.specs.Message.{Msg, data_msg, proto_msg, pcproto_msg}
-use Rattle.strm_msg.specs.declared.errno.Errno.TheVariants.{EIO}
+use Rattle.strm_msg.specs.declared.errno.Errno.TheVariants.{EIO, EPROTO}
 use Rattle.strm_msg.specs.declared.words.End.TheVariants.{A, B}
 use Rattle.strm_msg.specs.Marks.{WaterMarks}
 use Rattle.strm_qpair.specs.declared.driver.Driver.TheVariants.{Echo}
@@ -10,8 +10,8 @@ use Rattle.strm_call.specs.declared.request.Priority.TheVariants.{Norm, Hipri}
 use Rattle.strm_call.specs.declared.request.PutFlag.TheVariants as PutFlag
 use Rattle.strm_call.specs.declared.request.GetFlag.TheVariants as GetFlag
 use Rattle.strm_call.specs.declared.request.Wanted.TheVariants as Wanted
-use Rattle.strm_call.specs.declared.request.Request.TheVariants.{Putmsg, Putpmsg, Getmsg, Getpmsg, Read, Write, Getband, Nread, Pop, Look, Find, Str, Flush, Close}
-use Rattle.strm_call.specs.declared.refusal.Refusal.TheVariants.{Closed, Broken, Error, Invalid, TooLong, HungUp, BadMessage, NoMessage, WouldWait}
+use Rattle.strm_call.specs.declared.request.Request.TheVariants.{Putmsg, Putpmsg, Getmsg, Getpmsg, Read, Write, Canput, Getband, Nread, Pop, Look, Find, Str, Flush, Close}
+use Rattle.strm_call.specs.declared.refusal.Refusal.TheVariants.{Closed, Broken, ReadError, WriteError, Invalid, TooLong, HungUp, BadMessage, NoMessage, WouldWait}
 use Rattle.strm_head.specs.Begin.{refusal_of}
 
 -- an echo of marks 16 and 4, for kinds of which nothing is said, with these messages at its head and in its driver
@@ -28,7 +28,7 @@ abbrev hung_up : Image ℕ
 hung_up = record start { a = record start.a { state = record start.a.state { hung = true } } }
 
 abbrev with_error : Image ℕ
-with_error = record start { broken = true; a = record start.a { state = record start.a.state { errno = Some EIO } } }
+with_error = record start { broken = true; a = record start.a { state = record start.a.state { rd_errno = Some EIO; wr_errno = Some EPROTO } } }
 
 abbrev data_of : ℕ → Msg
 data_of n = data_msg 0 (replicate n 97)
@@ -39,8 +39,31 @@ far_end_is_closed = refl
 broken_before_an_error : refusal_of with_error A Nread ≡ Some Broken
 broken_before_an_error = refl
 
-error_before_an_argument : refusal_of (record with_error { broken = start.broken }) A (Putmsg None (Some []) Hipri) ≡ Some (Error EIO)
+abbrev unbroken : Image ℕ
+unbroken = record with_error { broken = start.broken }
+
+error_before_an_argument : refusal_of unbroken A (Putmsg None (Some []) Hipri) ≡ Some (WriteError EPROTO)
 error_before_an_argument = refl
+
+-- calls that receive look at the error of the read side alone, those that send at that of the write side, and others at both, that
+-- of the read side first
+receiving_looks_at_the_read_side : refusal_of unbroken A Nread ≡ Some (ReadError EIO)
+receiving_looks_at_the_read_side = refl
+
+asking_for_room_looks_at_the_write_side : refusal_of unbroken A (Canput 0) ≡ Some (WriteError EPROTO)
+asking_for_room_looks_at_the_write_side = refl
+
+read_side_before_the_write_side : refusal_of unbroken A Look ≡ Some (ReadError EIO)
+read_side_before_the_write_side = refl
+
+abbrev unwritable : Image ℕ
+unwritable = record start { a = record start.a { state = record start.a.state { wr_errno = Some EPROTO } } }
+
+write_error_before_an_argument : refusal_of unwritable A Look ≡ Some (WriteError EPROTO)
+write_error_before_an_argument = refl
+
+reading_goes_on_after_a_write_error : refusal_of unwritable A Nread ≡ None
+reading_goes_on_after_a_write_error = refl
 
 high_message_lacks_control : refusal_of hung_up A (Putmsg None (Some (replicate 5000 97)) Hipri) ≡ Some Invalid
 high_message_lacks_control = refl

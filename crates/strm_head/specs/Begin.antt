@@ -1,5 +1,5 @@
 -- What a call does before any queue moves, by the call: the first refusal that holds, or what the call has done.
-use Rattle.std.specs.Prelude.{ℕ, ◌≡◌, ◌&&◌, not, nat_lt, Bool, true, false, Option, Some, None, List, [], ◌∷◌, ◌++◌, map}
+use Rattle.std.specs.Prelude.{ℕ, ◌≡◌, ◌&&◌, not, Bool, true, false, Option, Some, None, List, [], ◌∷◌, ◌++◌, map}
 use Rattle.std.specs.List.{list_all}
 use Rattle.strm_msg.specs.declared.errno.Errno.{Errno}
 use Rattle.strm_msg.specs.declared.words.End.{End}
@@ -9,10 +9,10 @@ use Rattle.strm_ends.specs.Image.{Image, end_of}
 use Rattle.strm_call.specs.declared.request.Request.{Request}
 use Rattle.strm_call.specs.declared.request.Request.TheVariants.{Putmsg, Putpmsg, Getmsg, Getpmsg, Read, Write, Push, Nread, Peek, SetRead, GetRead, Canput, Ckband, Getband, Pop, Look, Find, Str, Flush, FlushBand, Close}
 use Rattle.strm_call.specs.declared.refusal.Refusal.{Refusal}
-use Rattle.strm_call.specs.declared.refusal.Refusal.TheVariants.{Closed, Broken, Error, NoMemory}
+use Rattle.strm_call.specs.declared.refusal.Refusal.TheVariants.{Closed, Broken, ReadError, WriteError, NoMemory}
 use Rattle.strm_call.specs.declared.answer.Answer.{Answer}
 use Rattle.strm_call.specs.declared.answer.Answer.TheVariants.{Done, Refused, Broke}
-use Rattle.strm_call.specs.Refusal.{first_that_holds, number_of}
+use Rattle.strm_call.specs.Refusal.{first_that_holds, is_before}
 use Rattle.strm_call.specs.Begun.{Begun}
 use Rattle.strm_msgio.specs.Send.{putmsg_refusals, putpmsg_refusals, write_refusals, putmsg_begun, putpmsg_begun, write_begun}
 use Rattle.strm_msgio.specs.Read.{read_refusals, read_begun}
@@ -43,33 +43,59 @@ own_refusals image e (Flush r w) = flush_refusals image e r w
 own_refusals image e (FlushBand band r w) = flush_refusals image e r w
 own_refusals image e request = []
 
--- an error that came up refuses with its errno
-abbrev pub error_refusals : Option Errno → List (Bool × Refusal)
-error_refusals None = []
-error_refusals (Some errno) = (true, Error errno) ∷ []
+-- which errors a call looks at, that of the read side and that of the write side: calls that receive look at the first, calls
+-- that send at the second, a close at neither, and all others at both
+abbrev pub errors_looked_at : {P : Type 0} → Request P → Bool × Bool
+errors_looked_at (Getmsg maxctl maxdat flag) = (true, false)
+errors_looked_at (Getpmsg maxctl maxdat band flag) = (true, false)
+errors_looked_at (Read max) = (true, false)
+errors_looked_at Nread = (true, false)
+errors_looked_at (Peek maxctl maxdat flag) = (true, false)
+errors_looked_at (Ckband band) = (true, false)
+errors_looked_at Getband = (true, false)
+errors_looked_at (Putmsg ctl dat flag) = (false, true)
+errors_looked_at (Putpmsg ctl dat band flag) = (false, true)
+errors_looked_at (Write dat) = (false, true)
+errors_looked_at (Canput band) = (false, true)
+errors_looked_at Close = (false, false)
+errors_looked_at request = (true, true)
+
+-- an error that came up refuses the calls that look at it
+abbrev pub error_refusal : Bool → Option Errno → (Errno → Refusal) → List (Bool × Refusal)
+error_refusal looks None refusal = []
+error_refusal looks (Some errno) refusal = (looks, refusal errno) ∷ []
+
+-- the error of the read side, and then that of the write side
+abbrev pub error_refusals : Bool × Bool → Option Errno → Option Errno → List (Bool × Refusal)
+error_refusals looks rd wr = error_refusal looks.0 rd (λ errno. ReadError errno) ++ error_refusal looks.1 wr (λ errno. WriteError errno)
+
+-- the errors that came up to an end and that a call looks at
+abbrev pub errors_at : {K : Type 0} → Image K → End → Request (Shape K) → List (Bool × Refusal)
+errors_at image e request =
+    let state = (end_of image e).state in error_refusals (errors_looked_at request) state.rd_errno state.wr_errno
 
 -- what refuses every call: a closed end
 abbrev pub closed_refusals : {K : Type 0} → Image K → End → List (Bool × Refusal)
 closed_refusals image e = (not (end_of image e).is_open, Closed) ∷ []
 
--- what refuses every call but a close, in this order: a closed end, a broken stream, an error that came up
-abbrev pub common_refusals : {K : Type 0} → Image K → End → List (Bool × Refusal)
-common_refusals image e =
-    (not (end_of image e).is_open, Closed) ∷ (image.broken, Broken) ∷ error_refusals (end_of image e).state.errno
+-- what refuses every call but a close, in this order: a closed end, a broken stream, the errors that came up and that it looks at
+abbrev pub common_refusals : {K : Type 0} → Image K → End → Request (Shape K) → List (Bool × Refusal)
+common_refusals image e request =
+    (not (end_of image e).is_open, Closed) ∷ (image.broken, Broken) ∷ errors_at image e request
 
 -- all that may refuse a call, in the order in which it is looked for. An end is closed also after an error, and on a broken stream
 abbrev pub refusals : {K : Type 0} → Image K → End → Request (Shape K) → List (Bool × Refusal)
 refusals image e Close = closed_refusals image e
-refusals image e request = common_refusals image e ++ own_refusals image e request
+refusals image e request = common_refusals image e request ++ own_refusals image e request
 
 -- the refusal of a call: the first that holds
 abbrev pub refusal_of : {K : Type 0} → Image K → End → Request (Shape K) → Option Refusal
 refusal_of image e request = first_that_holds (refusals image e request)
 
--- each refusal is looked for after those of lower numbers
+-- each refusal is looked for after those before it
 abbrev pub are_in_order : List (Bool × Refusal) → Bool
 are_in_order [] = true
-are_in_order (row ∷ rows) = list_all (λ later. nat_lt (number_of row.1) (number_of later.1)) rows && are_in_order rows
+are_in_order (row ∷ rows) = list_all (λ later. is_before row.1 later.1) rows && are_in_order rows
 
 -- what a call has done
 abbrev pub begun_of : {K : Type 0} → Meaning K → Image K → End → Request (Shape K) → Begun K

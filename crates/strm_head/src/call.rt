@@ -4,7 +4,7 @@ ghost use Rattle.strm_call.specs.declared.answer.Answer.TheVariants as Answer;
 ghost use Rattle.strm_call.specs.Begun.{begun, begun_ioctl};
 ghost use Rattle.strm_call.specs.Refusal.{first_that_holds};
 ghost use Rattle.strm_call.specs.Reply.{acknowledged};
-ghost use Rattle.strm_head.specs.Begin.{AreRefusalsInOrder, own_refusals, closed_refusals, common_refusals, refusal_of, begun_of, changes_no_queue, awaits_answer, takes_no_memory, back_of, out_of, wants_memory};
+ghost use Rattle.strm_head.specs.Begin.{AreRefusalsInOrder, own_refusals, closed_refusals, errors_looked_at, error_refusals, common_refusals, refusal_of, begun_of, changes_no_queue, awaits_answer, takes_no_memory, back_of, out_of, wants_memory};
 ghost use Rattle.strm_module.specs.Calm.{IsCalm};
 ghost use Rattle.strm_head.specs.Answered.{IsLooked, IsBounded};
 ghost use Rattle.strm_head.specs.Inside.{IsKept};
@@ -22,12 +22,12 @@ use strm_ioctl::{
     push_refusal, str_refusal,
 };
 use strm_module::{Boxed, ModuleOf};
-use strm_msg::{End, Message, NoMem};
+use strm_msg::{End, Errno, Message, NoMem};
 use strm_msgio::{
     getmsg_refusal, getpmsg_refusal, putmsg_refusal, putpmsg_refusal, read_refusal, write_refusal,
 };
 
-/// A law, which nothing is done for: what may refuse a call is looked for in the order of the refusals' numbers.
+/// A law, which nothing is done for: what may refuse a call is looked for in the order of the refusals.
 pub fn refusals_are_in_order<M: ModuleOf>()
     ensures { AreRefusalsInOrder M.Kind }
 {}
@@ -45,9 +45,47 @@ fn closed_refusal<M: ModuleOf>(chain: &Chain<M>, end: End) -> Option<Refusal>
     Some(Refusal::Closed)
 }
 
-/// What refuses every call but a close: a closed end, a broken stream, an error that came up.
-fn common_refusal<M: ModuleOf>(chain: &Chain<M>, end: End) -> Option<Refusal>
-    ensures { result ≡ first_that_holds (common_refusals chain.now.image end) }
+/// Which errors a call looks at: that of the read side, and that of the write side.
+fn errors_looked_at<P>(request: &Request<P>) -> (bool, bool)
+    ensures { result ≡ errors_looked_at request.now }
+{
+    match request {
+        Request::Getmsg { .. }
+        | Request::Getpmsg { .. }
+        | Request::Read { .. }
+        | Request::Nread
+        | Request::Peek { .. }
+        | Request::Ckband { .. }
+        | Request::Getband => (true, false),
+        Request::Putmsg { .. }
+        | Request::Putpmsg { .. }
+        | Request::Write { .. }
+        | Request::Canput { .. } => (false, true),
+        Request::Close => (false, false),
+        _ => (true, true),
+    }
+}
+
+/// The refusal by an error that came up: that of the read side before that of the write side, where each is looked at.
+fn error_refusal(looks: (bool, bool), rd: Option<Errno>, wr: Option<Errno>) -> Option<Refusal>
+    ensures { result ≡ first_that_holds (error_refusals looks rd wr) }
+{
+    match rd {
+        Some(errno) if looks.0 => Some(Refusal::ReadError { errno }),
+        _ => match wr {
+            Some(errno) if looks.1 => Some(Refusal::WriteError { errno }),
+            _ => None,
+        },
+    }
+}
+
+/// What refuses every call but a close: a closed end, a broken stream, an error that came up and that the call looks at.
+fn common_refusal<M: ModuleOf>(
+    chain: &Chain<M>,
+    end: End,
+    request: &Request<Boxed<M>>,
+) -> Option<Refusal>
+    ensures { result ≡ first_that_holds (common_refusals chain.now.image end request.now) }
 {
     if !chain.is_open(end) {
         return Some(Refusal::Closed);
@@ -55,10 +93,8 @@ fn common_refusal<M: ModuleOf>(chain: &Chain<M>, end: End) -> Option<Refusal>
     if chain.is_broken() {
         return Some(Refusal::Broken);
     }
-    match chain.state(end).errno {
-        Some(errno) => Some(Refusal::Error { errno }),
-        None => None,
-    }
+    let state = chain.state(end);
+    error_refusal(errors_looked_at(request), state.rd_errno, state.wr_errno)
 }
 
 /// The first refusal of a call's own that holds.
@@ -104,7 +140,7 @@ pub(crate) fn first_refusal<M: ModuleOf>(
 {
     match request {
         Request::Close => closed_refusal(chain, end),
-        _ => match common_refusal(chain, end) {
+        _ => match common_refusal(chain, end, request) {
             Some(refusal) => Some(refusal),
             None => own_refusal(chain, end, request),
         },

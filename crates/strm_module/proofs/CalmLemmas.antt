@@ -1,5 +1,5 @@
 -- What a module makes of a calm message is calm, and sets no more options: for kinds of any calm meaning, and for those built in.
-use Rattle.std.proofs.Common.{◌≡◌, ◌≤◌, ◌==◌, ◌&&◌, ℕ, Bool, true, false, cond, nat_lt, None, List, [], ◌∷◌, ◌++◌, length, option_map, unwrap_or, refl, ap, arith}
+use Rattle.std.proofs.Common.{◌≡◌, ◌≤◌, ◌==◌, ◌&&◌, ℕ, Bool, true, false, cond, nat_lt, None, List, [], ◌∷◌, ◌++◌, length, take, drop, option_map, unwrap_or, refl, ap, arith}
 use Rattle.std.proofs.lemmas.List.Sums.{sum_by-cons}
 use Rattle.strm_msg.specs.Kind.{is_high}
 use Rattle.strm_msg.specs.Message.{Msg, Part, part_len, ack_msg, data_msg}
@@ -9,11 +9,11 @@ use Rattle.strm_msg.specs.declared.words.Side.{Side}
 use Rattle.strm_msg.specs.declared.words.Side.TheVariants.{Rd, Wr}
 use Rattle.strm_module.specs.Bytes.{mapped, with_cr, without_cr, rest_len, whole_lines}
 use Rattle.strm_module.specs.Calm.{is_calm, are_calm, puts_calm, options_by, options_of, options_sent, puts_options, IsCalm}
-use Rattle.strm_module.specs.Builtin.{line_splits, table_action, crnl_action, line_action, count_action, band_action, tee_action, mute_action, ordinary_action, builtin}
+use Rattle.strm_module.specs.Builtin.{line_splits, table_action, crnl_action, line_action, count_action, band_action, tee_action, mute_action, split_action, ordinary_action, builtin}
 use Rattle.strm_module.specs.Kinds.{OutList, Action, Meaning}
 use Rattle.strm_module.specs.Module.{serve_of, put_of, is_queued}
 use Rattle.strm_module.specs.declared.kind.Kind.{Kind}
-use Rattle.strm_module.specs.declared.kind.Kind.TheVariants.{Pass, Table, CrNl, Line, Count, Band, Tee, Mute}
+use Rattle.strm_module.specs.declared.kind.Kind.TheVariants.{Pass, Table, CrNl, Line, Count, Band, Tee, Mute, Split}
 use Rattle.strm_module.specs.declared.kind.TheConstants.{MOST_KEPT}
 use Rattle.strm_module.specs.declared.shape.Shape.{Shape}
 use Rattle.strm_module.proofs.ProcedureLemmas.{put_if}
@@ -21,7 +21,7 @@ use Rattle.strm_module.proofs.ProcedureLemmas.{put_if}
 -- no ordinary message flushes
 pub ordinary_calm : (kind : MsgKind) → is_high kind ≡ false → is_calm kind ≡ true
 ordinary_calm (MFlush r w band) e = cc
-ordinary_calm (MError errno) e = cc
+ordinary_calm (MError rd wr) e = cc
 ordinary_calm kind e = refl
 
 -- what a service sends of a calm message is calm
@@ -111,6 +111,11 @@ mute_calm Rd kind m h = one_calm (is_calm m.kind) h
 mute_calm Wr MData m h = refl
 mute_calm Wr kind m h = one_calm (is_calm m.kind) h
 
+split_calm : (n : ℕ) (side : Side) (kind : MsgKind) (m : Msg) → is_calm m.kind ≡ true → AreCalm (split_action n side kind m).outs
+split_calm n Rd kind m h = one_calm (is_calm m.kind) h
+split_calm n Wr MData m h = action_if_calm (nat_lt n (length (unwrap_or m.dat []))) _ _ refl (one_calm (is_calm m.kind) h)
+split_calm n Wr kind m h = one_calm (is_calm m.kind) h
+
 acts_calm : (kind : Kind) (side : Side) (m : Msg) → is_calm m.kind ≡ true → AreCalm (ordinary_action kind side m).outs
 acts_calm Pass side m h = one_calm (is_calm m.kind) h
 acts_calm (Table table) side m h = table_calm table side m.kind m h
@@ -120,6 +125,7 @@ acts_calm (Count n) side m h = count_calm n side m.kind m h
 acts_calm (Band b) side m h = band_calm b side m.kind m h
 acts_calm Tee side m h = tee_calm side m.kind m h
 acts_calm Mute side m h = mute_calm side m.kind m h
+acts_calm (Split n) side m h = split_calm n side m.kind m h
 
 -- what leaves sets no more options than what came
 abbrev Keeps : Bool → Msg → OutList → Type 0
@@ -203,6 +209,21 @@ mute_keeps b Rd kind m = same_keeps b Rd m
 mute_keeps b Wr MData m = none_keeps b m
 mute_keeps b Wr kind m = same_keeps b Wr m
 
+-- two messages of data set none
+data_keep : (b : Bool) (m : Msg) (band : ℕ) (first rest : List ℕ) → Keeps b m ((Wr, data_msg band first) ∷ ((Wr, data_msg band rest) ∷ []))
+data_keep b m band first rest =
+    let f = λ (out : Side × Msg). options_of b out.1 in
+    let e = sum_by-cons f (Wr, data_msg band first) ((Wr, data_msg band rest) ∷ []) in
+    let k = sum_by-cons f (Wr, data_msg band rest) [] in
+    omega (arith, e, k)
+
+split_keeps : (b : Bool) (n : ℕ) (side : Side) (kind : MsgKind) (m : Msg) → Keeps b m (split_action n side kind m).outs
+split_keeps b n Rd kind m = same_keeps b Rd m
+split_keeps b n Wr MData m =
+    let bytes = unwrap_or m.dat [] in
+    action_if_keeps b (nat_lt n (length bytes)) m _ _ (data_keep b m m.band (take n bytes) (drop n bytes)) (same_keeps b Wr m)
+split_keeps b n Wr kind m = same_keeps b Wr m
+
 acts_keep : (b : Bool) (kind : Kind) (side : Side) (m : Msg) → Keeps b m (ordinary_action kind side m).outs
 acts_keep b Pass side m = same_keeps b side m
 acts_keep b (Table table) side m = table_keeps b table side m.kind m refl
@@ -212,6 +233,7 @@ acts_keep b (Count n) side m = count_keeps b n side m.kind m
 acts_keep b (Band band) side m = band_keeps b band side m.kind m
 acts_keep b Tee side m = tee_keeps b side m.kind m refl
 acts_keep b Mute side m = mute_keeps b side m.kind m
+acts_keep b (Split n) side m = split_keeps b n side m.kind m
 
 -- what the built-in kinds make of a calm message is calm, and sets no more options
 pub builtin_calm : IsCalm builtin

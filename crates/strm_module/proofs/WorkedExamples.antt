@@ -6,13 +6,14 @@ use Rattle.strm_msg.specs.declared.words.Side.{Side}
 use Rattle.strm_msg.specs.declared.words.Side.TheVariants.{Rd, Wr}
 use Rattle.strm_msg.specs.Marks.{WaterMarks}
 use Rattle.strm_module.specs.Kinds.{OutList}
-use Rattle.strm_module.specs.Shape.{make_fault}
+use Rattle.strm_module.specs.Shape.{make_fault, split_fault}
 use Rattle.strm_module.specs.Builtin.{builtin}
 use Rattle.strm_module.specs.Module.{Taken, put_of, serve_of}
 use Rattle.strm_module.specs.declared.shape.Shape.{Shape}
 use Rattle.strm_module.specs.declared.kind.Kind.{Kind}
-use Rattle.strm_module.specs.declared.kind.Kind.TheVariants.{Table, CrNl, Line, Count, Band, Tee, Mute}
+use Rattle.strm_module.specs.declared.kind.Kind.TheVariants.{Table, CrNl, Line, Count, Band, Tee, Mute, Split}
 use Rattle.strm_module.specs.declared.shape.MakeFault.TheVariants.{Name, Marks}
+use Rattle.strm_module.specs.declared.shape.MakeFault.TheVariants as MakeFaults
 use Rattle.strm_module.specs.declared.outs.Put.TheVariants.{Queue, Sent}
 
 -- a module named m with these marks on the write side
@@ -112,6 +113,16 @@ mute_drops_data = refl
 mute_passes_protocol : gets Mute Wr (proto_msg 1 (99 ∷ []) None) ≡ sends Mute Wr (proto_msg 1 (99 ∷ []) None)
 mute_passes_protocol = refl
 
+-- abcde in two, of their band; a message that is short enough stays one, of the same number of bytes too
+split_in_two : gets (Split 2) Wr (data_msg 3 (97 ∷ 98 ∷ 99 ∷ 100 ∷ 101 ∷ [])) ≡ sends_all (Split 2) ((Wr, data_msg 3 (97 ∷ 98 ∷ [])) ∷ (Wr, data_msg 3 (99 ∷ 100 ∷ 101 ∷ [])) ∷ [])
+split_in_two = refl
+
+split_of_as_many : gets (Split 2) Wr (data_msg 3 (97 ∷ 98 ∷ [])) ≡ sends (Split 2) Wr (data_msg 3 (97 ∷ 98 ∷ []))
+split_of_as_many = refl
+
+split_goes_down_alone : gets (Split 1) Rd (data_msg 0 (97 ∷ 98 ∷ [])) ≡ sends (Split 1) Rd (data_msg 0 (97 ∷ 98 ∷ []))
+split_goes_down_alone = refl
+
 band_is_given : gets (Band 7) Wr x ≡ sends (Band 7) Wr (data_msg 7 (120 ∷ []))
 band_is_given = refl
 
@@ -135,6 +146,15 @@ name_before_marks = refl
 
 marks_not_apart : make_fault (97 ∷ []) None (Some (4, 4)) ≡ Some Marks
 marks_not_apart = refl
+
+marks_before_bytes : split_fault (97 ∷ []) None (Some (4, 4)) 0 ≡ Some Marks
+marks_before_bytes = refl
+
+no_bytes : split_fault (97 ∷ []) None None 0 ≡ Some MakeFaults.Split
+no_bytes = refl
+
+too_many_bytes : split_fault (97 ∷ []) None None 4097 ≡ Some MakeFaults.Split
+too_many_bytes = refl
 
 no_fault : make_fault (97 ∷ 95 ∷ 57 ∷ []) (Some (5, 4)) None ≡ None
 no_fault = refl

@@ -1,6 +1,6 @@
 -- What each of the built-in kinds makes of a message that it doesn't queue (Programmer's Guide: STREAMS,
 -- "Modules" and "Message Types").
-use Rattle.std.specs.Prelude.{ℕ, ◌+◌, ◌==◌, nat_lt, min, true, Some, None, List, [], ◌∷◌, ◌++◌, if◌then◌else◌, length, option_map, unwrap_or}
+use Rattle.std.specs.Prelude.{ℕ, ◌+◌, ◌==◌, nat_lt, min, true, Some, None, List, [], ◌∷◌, ◌++◌, if◌then◌else◌, length, take, drop, option_map, unwrap_or}
 use Rattle.strm_msg.specs.Kind.{is_high}
 use Rattle.strm_msg.specs.Message.{Msg, part_len, data_msg}
 use Rattle.strm_msg.specs.declared.kind.MsgKind.{MsgKind}
@@ -11,7 +11,7 @@ use Rattle.strm_module.specs.Kinds.{OutList, Action, Meaning, kept, passed_on, r
 use Rattle.strm_module.specs.declared.kind.TheConstants.{MOST_KEPT}
 use Rattle.strm_module.specs.Bytes.{mapped, with_cr, without_cr, rest_len, whole_lines, rest_of_line}
 use Rattle.strm_module.specs.declared.kind.Kind.{Kind}
-use Rattle.strm_module.specs.declared.kind.Kind.TheVariants.{Pass, Table, CrNl, Line, Count, Band, Tee, Mute}
+use Rattle.strm_module.specs.declared.kind.Kind.TheVariants.{Pass, Table, CrNl, Line, Count, Band, Tee, Mute, Split}
 
 -- data on its way down goes through the table, and ioctl 3 answers with its own data put through it
 abbrev pub table_action : List ℕ → Side → MsgKind → Msg → Action Kind
@@ -76,6 +76,15 @@ abbrev pub mute_action : Side → MsgKind → Msg → Action Kind
 mute_action Wr MData m = kept Mute
 mute_action side kind m = passed_on Mute side m
 
+-- data of more than n bytes on its way down goes on in two: its first n bytes, then the rest, of the same band
+abbrev pub split_action : ℕ → Side → MsgKind → Msg → Action Kind
+split_action n Wr MData m =
+    let bytes = unwrap_or m.dat [] in
+    if nat_lt n (length bytes) then
+    record { kind = Split n; outs = (Wr, data_msg m.band (take n bytes)) ∷ ((Wr, data_msg m.band (drop n bytes)) ∷ []) }
+    else passed_on (Split n) Wr m
+split_action n side kind m = passed_on (Split n) side m
+
 -- an ordinary message, by the kind of the module
 abbrev pub ordinary_action : Kind → Side → Msg → Action Kind
 ordinary_action Pass side m = passed_on Pass side m
@@ -86,6 +95,7 @@ ordinary_action (Count n) side m = count_action n side m.kind m
 ordinary_action (Band b) side m = band_action b side m.kind m
 ordinary_action Tee side m = tee_action side m.kind m
 ordinary_action Mute side m = mute_action side m.kind m
+ordinary_action (Split n) side m = split_action n side m.kind m
 
 -- a flush of the read side, of all bands or of band 0, empties what a line discipline keeps
 abbrev pub flushed_kind : Kind → MsgKind → Kind

@@ -14,7 +14,7 @@ use Rattle.strm_module.specs.declared.outs.Put.TheVariants.{Queue, Sent}
 -- all kinds but a flush and an error, which a head answers with a flush
 abbrev pub is_calm : MsgKind → Bool
 is_calm (MFlush r w band) = false
-is_calm (MError errno) = false
+is_calm (MError rd wr) = false
 is_calm kind = true
 
 -- all that leaves is calm

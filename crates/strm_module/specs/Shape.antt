@@ -2,13 +2,15 @@
 use Rattle.std.specs.Prelude.{◌≡◌, ℕ, ◌==◌, ◌&&◌, ◌||◌, nat_le, nat_lt, Bool, true, Option, Some, None, List, length, if◌then◌else◌, is_some, option_map, codes}
 use Rattle.std.specs.Char.{is_ascii_alphanumeric}
 use Rattle.std.specs.List.{list_all}
+use Rattle.std.specs.Option.{option_or}
 use Rattle.strm_msg.specs.declared.words.Side.{Side}
 use Rattle.strm_msg.specs.declared.words.Side.TheVariants.{Rd, Wr}
 use Rattle.strm_msg.specs.Marks.{WaterMarks}
 use Rattle.strm_module.specs.declared.shape.Shape.{Shape}
+use Rattle.strm_module.specs.declared.kind.TheConstants.{MOST_SPLIT}
 use Rattle.strm_module.specs.declared.shape.TheConstants.{LONGEST_NAME}
 use Rattle.strm_module.specs.declared.shape.MakeFault.{MakeFault}
-use Rattle.strm_module.specs.declared.shape.MakeFault.TheVariants.{Name, Marks}
+use Rattle.strm_module.specs.declared.shape.MakeFault.TheVariants.{Name, Marks, Split}
 
 -- the marks of a side's queue, where the module has a queue there
 abbrev pub marks_on : {K : Type 0} → Shape K → Side → Option WaterMarks
@@ -44,15 +46,25 @@ abbrev pub make_fault : List ℕ → MarkPair → MarkPair → Option MakeFault
 make_fault name rd wr =
     if is_name name then (if are_marks rd && are_marks wr then None else Some Marks) else Some Name
 
+-- how many bytes a module that splits may let through at once
+abbrev pub is_split : ℕ → Bool
+is_split n = nat_le 1 n && nat_le n MOST_SPLIT
+
+-- why no module that splits is made: the number of bytes is judged last
+abbrev pub split_fault : List ℕ → MarkPair → MarkPair → ℕ → Option MakeFault
+split_fault name rd wr n = option_or (make_fault name rd wr) (if is_split n then None else Some Split)
+
 -- the number of a fault
 abbrev pub number_of : MakeFault → ℕ
 number_of Name = 1
 number_of Marks = 2
+number_of Split = 3
 
 -- what a fault is printed as
 abbrev pub text_of : MakeFault → List ℕ
 text_of Name = codes "a module's name must be 1 to 8 letters, digits or `_`"
 text_of Marks = codes "the low mark of a queue must be below its high mark"
+text_of Split = codes "a module that splits must let through 1 to 4096 bytes at once"
 
 -- the shape of a new module
 abbrev pub new_shape : {K : Type 0} → ℕ → List ℕ → MarkPair → MarkPair → K → Shape K

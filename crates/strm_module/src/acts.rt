@@ -1,9 +1,10 @@
 //! What each of the built-in kinds makes of an ordinary message.
 ghost use Rattle.std.specs.Prelude.{◌≡◌, [], ◌∷◌, IfOk, OnOk, OnErr, option_map};
 ghost use Rattle.strm_msg.specs.Message.{data_msg};
+ghost use Rattle.strm_msg.specs.declared.kind.MsgKind.TheVariants.{MData};
 ghost use Rattle.strm_module.specs.declared.kind.Kind.TheVariants as Kind;
 ghost use Rattle.strm_module.specs.Bytes.{mapped, with_cr, without_cr};
-ghost use Rattle.strm_module.specs.Builtin.{table_action, crnl_action, line_splits, line_action, count_action, band_action, tee_action, mute_action};
+ghost use Rattle.strm_module.specs.Builtin.{table_action, crnl_action, line_splits, line_action, count_action, band_action, tee_action, mute_action, split_action};
 
 use crate::bytes;
 use crate::kind::MOST_KEPT;
@@ -183,6 +184,30 @@ pub(crate) fn act_tee(alloc: Global, side: Side, m: Message) -> Result<Outs, NoM
             let twin = m.copy(alloc)?;
             Ok(both((Side::Rd, twin), (Side::Wr, m)))
         }
+        _ => Ok(pass_on(side, m)),
+    }
+}
+
+/// Sends data of a message on in two, where it is of more than `n` bytes: its first `n` bytes, then the rest.
+fn split_data(alloc: Global, n: usize, m: Message) -> Result<Outs, NoMem>
+    ensures { IfOk result (λ outs. outs.items ≡ (split_action n Side.Wr MData m).outs) }
+{
+    match &m.dat {
+        Some(bytes) if bytes.len() > n => {
+            let first = Message::of_data(alloc, m.band, &bytes.as_slice()[..n])?;
+            let rest = Message::of_data(alloc, m.band, &bytes.as_slice()[n..])?;
+            Ok(both((Side::Wr, first), (Side::Wr, rest)))
+        }
+        _ => Ok(pass_on(Side::Wr, m)),
+    }
+}
+
+/// Sends data of more than `n` bytes on its way down on in two messages.
+pub(crate) fn act_split(alloc: Global, n: usize, side: Side, m: Message) -> Result<Outs, NoMem>
+    ensures { IfOk result (λ outs. outs.items ≡ (split_action n side m.kind m).outs) }
+{
+    match (side, m.kind) {
+        (Side::Wr, MsgKind::MData) => split_data(alloc, n, m),
         _ => Ok(pass_on(side, m)),
     }
 }

@@ -2,7 +2,9 @@
 ghost use Rattle.std.specs.Prelude.{◌≡◌, IfOk, OnOk, OnErr};
 ghost use Rattle.strm_module.specs.Builtin.{ordinary_action, flushed_kind};
 
-use crate::acts::{act_band, act_count, act_crnl, act_line, act_mute, act_table, act_tee};
+use crate::acts::{
+    act_band, act_count, act_crnl, act_line, act_mute, act_split, act_table, act_tee,
+};
 use crate::outs::{Outs, pass_on};
 use crate::vocabulary::Kinds;
 use std::alloc::Global;
@@ -10,6 +12,9 @@ use strm_msg::{Bytes, Class, Message, MsgKind, NoMem, Side};
 
 /// The longest unfinished line that is kept, in bytes.
 pub const MOST_KEPT: usize = 4096;
+
+/// The greatest number of bytes that a `Kind::Split` lets through at once.
+pub const MOST_SPLIT: u16 = 4096;
 
 /// The built-in kinds of module: what each does with messages, and what it keeps for that.
 ///
@@ -52,6 +57,11 @@ pub enum Kind {
     Tee,
     /// Data messages on their way down are dropped.
     Mute,
+    /// A data message of more bytes on its way down goes on as two of its band: its first bytes, then the rest.
+    Split {
+        /// How many bytes of a message go first.
+        n: u16,
+    },
 }
 
 /// An ordinary message, by the kind of the module.
@@ -69,6 +79,7 @@ fn act(alloc: Global, kind: &mut Kind, side: Side, m: Message) -> Result<Outs, N
         Kind::Band { b } => Ok(act_band(*b, side, m)),
         Kind::Tee => act_tee(alloc, side, m),
         Kind::Mute => Ok(act_mute(side, m)),
+        Kind::Split { n } => act_split(alloc, usize::from(*n), side, m),
     }
 }
 
@@ -117,6 +128,7 @@ impl Kinds for Kind {
             Kind::Band { b } => Kind::Band { b: *b },
             Kind::Tee => Kind::Tee,
             Kind::Mute => Kind::Mute,
+            Kind::Split { n } => Kind::Split { n: *n },
         })
     }
 }

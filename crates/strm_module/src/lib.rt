@@ -26,10 +26,10 @@ mod vocabulary;
 
 pub use boxed::{Boxed, BoxedShape};
 pub use instance::Instance;
-pub use kind::{Kind, MOST_KEPT};
+pub use kind::{Kind, MOST_KEPT, MOST_SPLIT};
 pub use laws::builtin_are_calm;
 pub use module::{Module, ModuleOf};
-pub use objects::{Band, Count, CrNl, Line, Mute, Pass, Plain, Table, Tee};
+pub use objects::{Band, Count, CrNl, Line, Mute, Pass, Plain, Split, Table, Tee};
 pub use outs::{Outs, Put, both, pass_on, reply};
 pub use shape::{LONGEST_NAME, MakeFault, Shape};
 pub use vocabulary::Kinds;

@@ -1,10 +1,10 @@
 //! Objects for the built-in kinds. Each acts by its shape and keeps nothing.
 ghost use Rattle.std.specs.Prelude.{◌≡◌, [], is_ok, is_none, IfOk, IfErr, Some};
 ghost use Rattle.strm_module.specs.declared.kind.Kind.TheVariants as Kind;
-ghost use Rattle.strm_module.specs.Shape.{make_fault, new_shape};
+ghost use Rattle.strm_module.specs.Shape.{make_fault, split_fault, new_shape};
 
 use crate::instance::Instance;
-use crate::kind::Kind as Kinds;
+use crate::kind::{Kind as Kinds, MOST_SPLIT};
 use crate::module::Module;
 use crate::shape::{MakeFault, Shape};
 use std::alloc::Global;
@@ -227,3 +227,33 @@ impl Mute {
 }
 
 impl Module for Mute {}
+
+/// Sends data of more bytes on its way down on in two messages.
+#[derive(Debug, Drop)]
+pub struct Split;
+
+impl Split {
+    /// A new module of this serial and name, with a queue on each side for which a high and a low
+    /// mark are given, in bytes. `n` is how many bytes of a message go first, 1 to `MOST_SPLIT`. Takes no memory.
+    ///
+    /// Refused for the name first, then for the marks of either side, then for `n`.
+    pub fn new(
+        serial: u64,
+        name: &[u8],
+        rd: Option<(u32, u32)>,
+        wr: Option<(u32, u32)>,
+        n: u16,
+    ) -> Result<Instance<Split>, MakeFault>
+        ensures ok { IfOk result (λ it. it ≡ new_shape serial name.now rd wr (Kind.Split n)) }
+        ensures err { IfErr result (λ fault. split_fault name.now rd wr n ≡ Some fault) }
+        ensures variant { is_ok result ≡ is_none (split_fault name.now rd wr n) }
+    {
+        let shape = Shape::new(serial, name, rd, wr, Kinds::Split { n })?;
+        if n == 0 || n > MOST_SPLIT {
+            return Err(MakeFault::Split);
+        }
+        Ok(Instance::new(shape, Split))
+    }
+}
+
+impl Module for Split {}

@@ -41,16 +41,19 @@ pub enum MakeFault {
     Name,
     /// The low mark of a side is not below the high one.
     Marks,
+    /// A module that splits lets through no byte at once, or more than `MOST_SPLIT`. It is looked at last.
+    Split,
 }
 
 impl MakeFault {
-    /// The number of the fault: 1 for a name, 2 for marks.
+    /// The number of the fault: 1 for a name, 2 for marks, 3 for a split.
     pub fn number(self) -> u8
         ensures { result ≡ number_of self }
     {
         match self {
             MakeFault::Name => 1,
             MakeFault::Marks => 2,
+            MakeFault::Split => 3,
         }
     }
 
@@ -61,11 +64,12 @@ impl MakeFault {
         match self {
             MakeFault::Name => "a module's name must be 1 to 8 letters, digits or `_`",
             MakeFault::Marks => "the low mark of a queue must be below its high mark",
+            MakeFault::Split => "a module that splits must let through 1 to 4096 bytes at once",
         }
     }
 }
 
-/// Printed as what a name or marks must be.
+/// Printed as what a name, marks or a number of bytes must be.
 impl fmt::Display for MakeFault {
     ghost output = { λ fault. Some (text_of fault) };
 

@@ -14,7 +14,7 @@ use Rattle.strm_history.specs.declared.setup.TheConstants.{MOST_RING}
 use Rattle.strm_text.specs.Text.{number_of, number_from, halves_of}
 use Rattle.strm_verb.specs.Fault.{or_fault}
 use Rattle.strm_verb.specs.Field.{number_at, marks_at, kept_marks_at, part_upto, optional_upto, errno_at}
-use Rattle.strm_verb.specs.Arrival.{message_at, data_at, proto_at, pcproto_at, kept_mode_at, kept_prot_at, setopts_at, flush_at, flush_msg_at, hangup_at, error_at}
+use Rattle.strm_verb.specs.Arrival.{message_at, data_at, proto_at, pcproto_at, kept_mode_at, kept_prot_at, setopts_at, flush_at, flush_msg_at, hangup_at, error_at, kept_errno_at, error2_at}
 use Rattle.strm_verb.specs.declared.arrival.MessageWord.{MessageWord}
 use Rattle.strm_verb.specs.declared.fault.Cause.TheVariants as causes
 use Rattle.strm_verb.specs.declared.field.TheConstants.{MOST_BAND, MOST_WORD}
@@ -140,8 +140,17 @@ hangup_from_line (more ∷ texts) m is = absurd cc
 
 error_from_line : (texts : List (List ℕ)) (m : Msg) → error_at texts ≡ Ok m → FromLine m
 error_from_line [] m is = absurd cc
-error_from_line (text ∷ []) m is = through (errno_at text) _ m is (λ errno _ is. same FromLine (bare (MError errno)) m is refl)
+error_from_line (text ∷ []) m is = through (errno_at text) _ m is (λ errno _ is. same FromLine (bare (MError (Some errno) (Some errno))) m is refl)
 error_from_line (text ∷ more ∷ texts) m is = absurd cc
+
+error2_from_line : (texts : List (List ℕ)) (m : Msg) → error2_at texts ≡ Ok m → FromLine m
+error2_from_line [] m is = absurd cc
+error2_from_line (read ∷ []) m is = absurd cc
+error2_from_line (read ∷ write ∷ []) m is =
+    through (kept_errno_at read) _ m is (λ rd _ is.
+    through (kept_errno_at write) _ m is (λ wr _ is.
+    same FromLine (bare (MError rd wr)) m is refl))
+error2_from_line (read ∷ write ∷ more ∷ texts) m is = absurd cc
 
 -- a message of a feed is of a kind that comes from a line
 pub message_from_line : (word : MessageWord) (texts : List (List ℕ)) (m : Msg) → message_at word texts ≡ Ok m → FromLine m
@@ -152,3 +161,4 @@ message_from_line MessageWord.Setopts texts m is = setopts_from_line texts m is
 message_from_line MessageWord.Flush texts m is = flush_from_line texts m is
 message_from_line MessageWord.Hangup texts m is = hangup_from_line texts m is
 message_from_line MessageWord.Error texts m is = error_from_line texts m is
+message_from_line MessageWord.Error2 texts m is = error2_from_line texts m is

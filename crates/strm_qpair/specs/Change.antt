@@ -53,7 +53,7 @@ ended r = record r { pending = None; kept = None }
 
 -- the record of a new stream's head
 abbrev pub fresh_record : Record
-fresh_record = record { hung = false; errno = None; mode = Rnorm; prot = Norm; next = Some 1; pending = None; kept = None }
+fresh_record = record { hung = false; rd_errno = None; wr_errno = None; mode = Rnorm; prot = Norm; next = Some 1; pending = None; kept = None }
 
 abbrev pub fresh_end : {K : Type 0} → Bool → WaterMarks → WaterMarks → EndState K
 fresh_end is_open head drv =

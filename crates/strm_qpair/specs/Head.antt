@@ -1,9 +1,11 @@
 -- What a stream head does with a message that comes up (Programmer's Guide: STREAMS, "Stream Head"; streamio(7), getmsg(2)).
-use Rattle.std.specs.Prelude.{ℕ, ◌==◌, ◌&&◌, nat_lt, Bool, true, false, Option, Some, None, if◌then◌else◌, is_none, unwrap_or}
+use Rattle.std.specs.Prelude.{ℕ, ◌==◌, ◌&&◌, nat_lt, Bool, true, false, Option, Some, None, if◌then◌else◌, is_some, is_none, unwrap_or}
+use Rattle.std.specs.Option.{option_or}
 use Rattle.strm_msg.specs.Marks.{WaterMarks}
 use Rattle.strm_msg.specs.Message.{Msg, bare}
 use Rattle.strm_msg.specs.declared.kind.MsgKind.{MsgKind}
 use Rattle.strm_msg.specs.declared.kind.MsgKind.TheVariants.{MData, MProto, MPcproto, MSetopts, MIocack, MIocnak, MFlush, MHangup, MError}
+use Rattle.strm_msg.specs.declared.errno.Errno.{Errno}
 use Rattle.strm_msg.specs.declared.words.ReadMode.{ReadMode}
 use Rattle.strm_msg.specs.declared.words.Prot.{Prot}
 use Rattle.strm_queue.specs.Queue.{put_in, has_pcproto}
@@ -42,9 +44,17 @@ abbrev pub with_options : {K : Type 0} → EndState K → Option ReadMode → Op
 with_options e mode prot marks =
     record e { head_marks = marks_set e.head_marks marks; state = with_mode e.state (unwrap_or mode e.state.mode) (unwrap_or prot e.state.prot) }
 
+-- the error that is given for a side is kept in the place of the one before, and what is not given stays as it is (M_ERROR)
+abbrev pub with_errors : Record → Option Errno → Option Errno → Record
+with_errors r rd wr = record r { rd_errno = option_or rd r.rd_errno; wr_errno = option_or wr r.wr_errno }
+
+-- an error sends down a flush of the sides for which it is given
+abbrev pub error_flush : Option Errno → Option Errno → Option Msg
+error_flush None None = None
+error_flush rd wr = Some (bare (MFlush (is_some rd) (is_some wr) None))
+
 -- the head of an open end: data and protocol messages are put into its list, even a full one; of M_PCPROTO it holds one;
--- options are set, and not queued; an error is kept, a later one in place of it, and all queues are flushed; what else comes
--- is dropped
+-- options are set, and not queued; an error is kept, and the queues of its sides are flushed; what else comes is dropped
 abbrev pub open_head : {K : Type 0} → EndState K → MsgKind → Msg → HeadStep K
 open_head e MData m = keeps (in_head e (put_in e.head m))
 open_head e MProto m = keeps (in_head e (put_in e.head m))
@@ -54,8 +64,7 @@ open_head e (MIocack id rval) m = keeps (in_state e (kept_answer e.state id m))
 open_head e (MIocnak id errno) m = keeps (in_state e (kept_answer e.state id m))
 open_head e (MFlush r w band) m = record { state = in_head e (flushed_if r band e.head); sends = flush_down w band }
 open_head e MHangup m = keeps (in_state e (record e.state { hung = true }))
-open_head e (MError errno) m =
-    record { state = in_state e (record e.state { errno = Some errno }); sends = Some (bare (MFlush true true None)) }
+open_head e (MError rd wr) m = record { state = in_state e (with_errors e.state rd wr); sends = error_flush rd wr }
 open_head e kind m = keeps e
 
 -- the head of a closed end drops everything

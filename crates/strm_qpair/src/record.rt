@@ -1,7 +1,7 @@
 //! What a head remembers beside its list.
 ghost use Rattle.std.specs.Prelude.{◌≡◌, unwrap_or};
 ghost use Rattle.strm_qpair.specs.Change.{fresh_record, with_mode, begun, undone, ended};
-ghost use Rattle.strm_qpair.specs.Head.{kept_answer};
+ghost use Rattle.strm_qpair.specs.Head.{kept_answer, with_errors};
 ghost use Rattle.strm_qpair.specs.Modules.{SameIds};
 
 use strm_msg::{Errno, Message, Prot, ReadMode};
@@ -11,8 +11,10 @@ use strm_msg::{Errno, Message, Prot, ReadMode};
 pub struct Record {
     /// Whether the end was hung up (M_HANGUP).
     pub hung: bool,
-    /// The latest error (M_ERROR).
-    pub errno: Option<Errno>,
+    /// The latest error of the read side (M_ERROR).
+    pub rd_errno: Option<Errno>,
+    /// The latest error of the write side (M_ERROR).
+    pub wr_errno: Option<Errno>,
     /// How read treats the bounds of messages.
     pub mode: ReadMode,
     /// How read treats control parts.
@@ -32,7 +34,8 @@ impl Record {
     {
         Record {
             hung: false,
-            errno: None,
+            rd_errno: None,
+            wr_errno: None,
             mode: ReadMode::Rnorm,
             prot: Prot::Norm,
             next: Some(1),
@@ -49,6 +52,14 @@ impl Record {
         if self.pending == Some(id) && self.kept.is_none() {
             self.kept = Some(m);
         }
+    }
+
+    /// Keeps the error of each side for which one is given, in the place of the one before.
+    pub(crate) fn set_errors(&mut self, rd: Option<Errno>, wr: Option<Errno>)
+        ensures { self.new ≡ with_errors self.old rd wr }
+    {
+        self.rd_errno = rd.or(self.rd_errno);
+        self.wr_errno = wr.or(self.wr_errno);
     }
 
     /// Sets how read treats messages.

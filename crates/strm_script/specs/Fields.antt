@@ -1,10 +1,12 @@
 -- How the fields of calls, of modules and of messages are printed. The words and the fields of a call are those by which a
 -- script is read.
-use Rattle.std.specs.Prelude.{ℕ, ◌==◌, not, List, [], ◌∷◌, ◌++◌, map, filter, slice_index, Option, Some, None, codes}
+use Rattle.std.specs.Prelude.{ℕ, ◌==◌, not, Bool, false, if◌then◌else◌, List, [], ◌∷◌, ◌++◌, map, filter, slice_index, Option, Some, None, codes}
 use Rattle.std.specs.List.{flat_map, range_with_len}
 use Rattle.std.specs.Fmt.{decimal}
+use Rattle.std.specs.Str.{bytes_eq}
 use Rattle.strm_msg.specs.Message.{Msg}
 use Rattle.strm_msg.specs.Text.{name_of}
+use Rattle.strm_msg.specs.declared.errno.Errno.{Errno}
 use Rattle.strm_msg.specs.declared.kind.MsgKind.{MsgKind}
 use Rattle.strm_msg.specs.declared.kind.MsgKind.TheVariants.{MData, MProto, MPcproto, MSetopts, MFlush, MHangup, MError}
 use Rattle.strm_msg.specs.Marks.{WaterMarks}
@@ -41,6 +43,7 @@ word_of_kind (Kind.Count n) = KindWord.Count
 word_of_kind (Kind.Band b) = KindWord.Band
 word_of_kind Kind.Tee = KindWord.Tee
 word_of_kind Kind.Mute = KindWord.Mute
+word_of_kind (Kind.Split n) = KindWord.Split
 
 -- all bytes, ascending
 unfoldable pub all_bytes : List ℕ
@@ -58,6 +61,7 @@ images table = map (slice_index table) (changed table)
 abbrev pub own_fields : Kind → List Field
 own_fields (Kind.Table table) = Bytes (changed table) ∷ Bytes (images table) ∷ []
 own_fields (Kind.Band b) = Number b ∷ []
+own_fields (Kind.Split n) = Number n ∷ []
 own_fields kind = []
 
 -- the marks of a side, or `-` where the module has no queue there
@@ -98,6 +102,17 @@ abbrev pub flush_fields : Option ℕ → List ℕ → List Field
 flush_fields None flags = Word (message_word MessageWord.Flush) ∷ Word flags ∷ []
 flush_fields (Some band) flags = Word (codes "flushband") ∷ Number band ∷ Word flags ∷ []
 
+-- whether an error is given for both sides, and is the same
+abbrev pub is_one_error : Option Errno → Option Errno → Bool
+is_one_error (Some rd) (Some wr) = bytes_eq (name_of rd) (name_of wr)
+is_one_error rd wr = false
+
+-- an error that is the same for both sides, or else what is given for each
+abbrev pub error_fields : Option Errno → Option Errno → List Field
+error_fields rd wr =
+    if is_one_error rd wr then Word (message_word MessageWord.Error) ∷ kept_field name_of rd ∷ []
+    else Word (message_word MessageWord.Error2) ∷ kept_field name_of rd ∷ kept_field name_of wr ∷ []
+
 abbrev pub message_fields_by : MsgKind → Msg → List Field
 message_fields_by MData m = Word (message_word MessageWord.Data) ∷ Number m.band ∷ part_field m.dat ∷ []
 message_fields_by MProto m = Word (message_word MessageWord.Proto) ∷ Number m.band ∷ part_field m.ctl ∷ part_field m.dat ∷ []
@@ -106,7 +121,7 @@ message_fields_by (MSetopts mode prot marks) m =
     Word (message_word MessageWord.Setopts) ∷ kept_field mode_word mode ∷ kept_field prot_word prot ∷ kept_marks marks ∷ []
 message_fields_by (MFlush r w band) m = flush_fields band (flush_word r w)
 message_fields_by MHangup m = Word (message_word MessageWord.Hangup) ∷ []
-message_fields_by (MError errno) m = Word (message_word MessageWord.Error) ∷ Word (name_of errno) ∷ []
+message_fields_by (MError rd wr) m = error_fields rd wr
 message_fields_by kind m = []
 
 -- a message as a feed has it; nothing of a kind that comes from no line

@@ -1,6 +1,7 @@
 //! Messages that came in.
 ghost use Rattle.std.specs.Prelude.{◌∷◌, [], OnOk};
 ghost use Rattle.std.specs.Io.KnownBytes.{Appends};
+ghost use Rattle.strm_msg.specs.Text.{name_of};
 ghost use Rattle.strm_verb.specs.Field.{Number, Word};
 ghost use Rattle.strm_verb.specs.Arrival.{message_word};
 ghost use Rattle.strm_verb.specs.declared.arrival.MessageWord.TheVariants as message_words;
@@ -9,7 +10,7 @@ ghost use Rattle.strm_script.specs.Fields as text;
 
 use crate::field::{put_number, put_pair, put_part_or_none, put_word};
 use std::io::{self, Write};
-use strm_msg::{Message, MsgKind, Prot, ReadMode};
+use strm_msg::{Errno, Message, MsgKind, Prot, ReadMode};
 use strm_verb::{MessageWord, Verb, flush_word, mode_word, prot_word};
 
 /// Writes a band, and the sides of a flush.
@@ -84,6 +85,40 @@ fn put_options<W: Write>(
     put_marks(w, marks)
 }
 
+/// Whether an error is given for both sides, and is the same.
+fn is_one_error(rd: Option<Errno>, wr: Option<Errno>) -> bool
+    ensures { result ≡ text.is_one_error rd wr }
+{
+    match (rd, wr) {
+        (Some(rd), Some(wr)) => rd.name().as_bytes() == wr.name().as_bytes(),
+        _ => false,
+    }
+}
+
+/// Writes the name of an errno, or `-` where there is none.
+fn put_errno<W: Write>(w: &mut W, errno: Option<Errno>) -> io::Result<()>
+    ensures { OnOk result (Appends (W.contents w.old) (W.contents w.new) (text.spaced (text.kept_field name_of errno ∷ []))) }
+{
+    match errno {
+        None => put_word(w, b"-"),
+        Some(errno) => put_word(w, errno.name().as_bytes()),
+    }
+}
+
+/// Writes an error that is the same for both sides, or else what is given for each.
+#[tactic(auto, using(strm_text::proofs::WriteLemmas::appends_then))]
+fn put_error<W: Write>(w: &mut W, rd: Option<Errno>, wr: Option<Errno>) -> io::Result<()>
+    ensures { OnOk result (Appends (W.contents w.old) (W.contents w.new) (text.spaced (text.error_fields rd wr))) }
+{
+    if is_one_error(rd, wr) {
+        put_word(w, MessageWord::Error.word())?;
+        return put_errno(w, rd);
+    }
+    put_word(w, MessageWord::Error2.word())?;
+    put_errno(w, rd)?;
+    put_errno(w, wr)
+}
+
 /// Writes a message as a feed has it.
 #[tactic(auto, using(strm_text::proofs::WriteLemmas::appends_then))]
 pub(crate) fn put_message<W: Write>(w: &mut W, m: &Message) -> io::Result<()>
@@ -109,10 +144,7 @@ pub(crate) fn put_message<W: Write>(w: &mut W, m: &Message) -> io::Result<()>
         MsgKind::MSetopts { mode, prot, marks } => put_options(w, mode, prot, marks),
         MsgKind::MFlush { r, w: write, band } => put_flush(w, band, r, write),
         MsgKind::MHangup => put_word(w, MessageWord::Hangup.word()),
-        MsgKind::MError { errno } => {
-            put_word(w, MessageWord::Error.word())?;
-            put_word(w, errno.name().as_bytes())
-        }
+        MsgKind::MError { rd, wr } => put_error(w, rd, wr),
         MsgKind::MIoctl { .. } | MsgKind::MIocack { .. } | MsgKind::MIocnak { .. } => Ok(()),
     }
 }

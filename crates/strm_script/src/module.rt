@@ -23,6 +23,7 @@ fn word_of(kind: &Kind) -> KindWord
         Kind::Band { .. } => KindWord::Band,
         Kind::Tee => KindWord::Tee,
         Kind::Mute => KindWord::Mute,
+        Kind::Split { .. } => KindWord::Split,
     }
 }
 
@@ -65,6 +66,7 @@ fn put_own<W: Write>(w: &mut W, kind: &Kind) -> io::Result<()>
             put_part(w, images(map).as_slice())
         }
         Kind::Band { b } => put_number(w, u64::from(*b)),
+        Kind::Split { n } => put_number(w, u64::from(*n)),
         Kind::Pass | Kind::CrNl | Kind::Line { .. } | Kind::Count { .. } | Kind::Tee | Kind::Mute =>
             Ok(()),
     }

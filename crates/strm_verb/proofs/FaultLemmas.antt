@@ -5,7 +5,7 @@ use Rattle.strm_msg.specs.Message.{proto_msg}
 use Rattle.strm_verb.specs.Fault.{◌>>=◌, Fails}
 use Rattle.strm_verb.specs.Field.{number_at, part_at, part_upto, optional_upto}
 use Rattle.strm_verb.specs.Push.{table_at}
-use Rattle.strm_verb.specs.Arrival.{proto_at}
+use Rattle.strm_verb.specs.Arrival.{proto_at, kept_errno_at, error2_at}
 use Rattle.strm_verb.specs.declared.fault.Cause.{Cause}
 use Rattle.strm_verb.specs.declared.fault.ReadError.{ReadError}
 use Rattle.strm_verb.specs.declared.fault.ReadError.TheVariants as errors
@@ -27,6 +27,13 @@ from_fails error [] d least below fails = absurd (omega (arith, least))
 from_fails error (a ∷ []) d least below fails = absurd (omega (arith, least))
 from_fails error (a ∷ b ∷ []) d least below fails = fails_first error (part_at a.now) _ fails
 from_fails error (a ∷ b ∷ c ∷ texts) d least below fails = absurd (omega (arith, below))
+
+-- READ is no errno
+pub read_fails : (error : ReadError) (texts : List (Bor (List ℕ))) (d : Bor (List ℕ)) → 2 ≤ length texts → length texts < 3 → Fails error (kept_errno_at (get_or texts 0 d).now) → Fails error (error2_at (map (λ text. text.now) texts))
+read_fails error [] d least below fails = absurd (omega (arith, least))
+read_fails error (a ∷ []) d least below fails = absurd (omega (arith, least))
+read_fails error (a ∷ b ∷ []) d least below fails = fails_first error (kept_errno_at a.now) _ fails
+read_fails error (a ∷ b ∷ c ∷ texts) d least below fails = absurd (omega (arith, below))
 
 -- PART is no part behind a band
 pub control_fails : (error : ReadError) (texts : List (Bor (List ℕ))) (d : Bor (List ℕ)) (b : ℕ) → 3 ≤ length texts → length texts < 4 → number_at MOST_BAND (get_or texts 0 d).now ≡ Ok b → Fails error (part_upto MAX_CONTROL (get_or texts 1 d).now) → Fails error (proto_at (map (λ text. text.now) texts))

@@ -4,6 +4,7 @@ use Rattle.std.specs.Str.{bytes_eq}
 use Rattle.std.specs.List.{find}
 use Rattle.strm_msg.specs.Message.{Msg, bare, data_msg, proto_msg, pcproto_msg}
 use Rattle.strm_msg.specs.declared.kind.MsgKind.TheVariants.{MSetopts, MFlush, MHangup, MError}
+use Rattle.strm_msg.specs.declared.errno.Errno.{Errno}
 use Rattle.strm_msg.specs.declared.words.ReadMode.{ReadMode}
 use Rattle.strm_msg.specs.declared.words.ReadMode.TheVariants.{Rnorm, Rmsgn, Rmsgd}
 use Rattle.strm_msg.specs.declared.words.Prot.{Prot}
@@ -26,9 +27,10 @@ message_word MessageWord.Setopts = codes "setopts"
 message_word MessageWord.Flush = codes "flush"
 message_word MessageWord.Hangup = codes "hangup"
 message_word MessageWord.Error = codes "error"
+message_word MessageWord.Error2 = codes "error2"
 
 abbrev pub all_messages : List MessageWord
-all_messages = MessageWord.Data ∷ MessageWord.Proto ∷ MessageWord.Pcproto ∷ MessageWord.Setopts ∷ MessageWord.Flush ∷ MessageWord.Hangup ∷ MessageWord.Error ∷ []
+all_messages = MessageWord.Data ∷ MessageWord.Proto ∷ MessageWord.Pcproto ∷ MessageWord.Setopts ∷ MessageWord.Flush ∷ MessageWord.Hangup ∷ MessageWord.Error ∷ MessageWord.Error2 ∷ []
 
 -- the message that a word names
 abbrev pub message_named : List ℕ → Option MessageWord
@@ -107,8 +109,20 @@ hangup_at (text ∷ texts) = Err causes.Fields
 
 -- ERRNO
 abbrev pub error_at : List (List ℕ) → Result Msg Cause
-error_at (text ∷ []) = errno_at text >>= λ errno. Ok (bare (MError errno))
+error_at (text ∷ []) = errno_at text >>= λ errno. Ok (bare (MError (Some errno) (Some errno)))
 error_at texts = Err causes.Fields
+
+-- an errno, or `-` where that of a side stays
+abbrev pub kept_errno_at : List ℕ → Result (Option Errno) Cause
+kept_errno_at text = if bytes_eq text (codes "-") then Ok None else (errno_at text >>= λ errno. Ok (Some errno))
+
+-- READ WRITE, where `-` leaves a side as it is
+abbrev pub error2_at : List (List ℕ) → Result Msg Cause
+error2_at (read ∷ write ∷ []) = do
+  rd ← kept_errno_at read
+  wr ← kept_errno_at write
+  Ok (bare (MError rd wr))
+error2_at texts = Err causes.Fields
 
 -- the message that this word with these fields says
 abbrev pub message_at : MessageWord → List (List ℕ) → Result Msg Cause
@@ -119,3 +133,4 @@ message_at MessageWord.Setopts texts = setopts_at texts
 message_at MessageWord.Flush texts = flush_msg_at texts
 message_at MessageWord.Hangup texts = hangup_at texts
 message_at MessageWord.Error texts = error_at texts
+message_at MessageWord.Error2 texts = error2_at texts

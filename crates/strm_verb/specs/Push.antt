@@ -5,6 +5,8 @@ use Rattle.std.specs.List.{list_any, find, position_or_len, range_with_len}
 use Rattle.strm_module.specs.declared.kind.Kind.{Kind}
 use Rattle.strm_module.specs.declared.shape.Shape.{Shape}
 use Rattle.strm_module.specs.declared.shape.TheConstants.{LONGEST_NAME}
+use Rattle.strm_module.specs.declared.kind.TheConstants.{MOST_SPLIT}
+use Rattle.strm_module.specs.Shape.{is_split}
 use Rattle.strm_text.specs.Text.{name_of}
 use Rattle.strm_verb.specs.Fault.{◌>>=◌, or_fault}
 use Rattle.strm_verb.specs.Field.{number_at, part_at, side_at}
@@ -24,9 +26,10 @@ kind_word words.Count = codes "count"
 kind_word words.Band = codes "band"
 kind_word words.Tee = codes "tee"
 kind_word words.Mute = codes "mute"
+kind_word words.Split = codes "split"
 
 abbrev pub all_kinds : List KindWord
-all_kinds = words.Pass ∷ words.Table ∷ words.CrNl ∷ words.Line ∷ words.Count ∷ words.Band ∷ words.Tee ∷ words.Mute ∷ []
+all_kinds = words.Pass ∷ words.Table ∷ words.CrNl ∷ words.Line ∷ words.Count ∷ words.Band ∷ words.Tee ∷ words.Mute ∷ words.Split ∷ []
 
 -- the kind that a word names
 abbrev pub kind_named : List ℕ → Option KindWord
@@ -36,6 +39,7 @@ kind_named text = find (λ word. bytes_eq (kind_word word) text) all_kinds
 abbrev pub own_fields : KindWord → ℕ
 own_fields words.Table = 2
 own_fields words.Band = 1
+own_fields words.Split = 1
 own_fields word = 0
 
 -- how many fields follow NAME:END in a push: KIND, NAME, RD, WR, and those of the kind
@@ -73,6 +77,11 @@ abbrev pub band_at : List (List ℕ) → Result Kind Cause
 band_at (text ∷ []) = number_at MOST_BAND text >>= λ band. Ok (Kind.Band band)
 band_at texts = Err causes.Fields
 
+-- N, how many bytes a module that splits lets through at once
+abbrev pub size_at : List (List ℕ) → Result Kind Cause
+size_at (text ∷ []) = number_at MOST_SPLIT text >>= λ n. if is_split n then Ok (Kind.Split n) else Err causes.Number
+size_at texts = Err causes.Fields
+
 -- a kind without fields of its own
 abbrev pub alone : Kind → List (List ℕ) → Result Kind Cause
 alone kind [] = Ok kind
@@ -88,6 +97,7 @@ kind_at words.Count texts = alone (Kind.Count 0) texts
 kind_at words.Band texts = band_at texts
 kind_at words.Tee texts = alone Kind.Tee texts
 kind_at words.Mute texts = alone Kind.Mute texts
+kind_at words.Split texts = size_at texts
 
 -- the module that KIND NAME RD WR and the kind's own fields say, with this serial
 abbrev pub shape_at : ℕ → List (List ℕ) → Result (Shape Kind) Cause

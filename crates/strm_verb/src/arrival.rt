@@ -9,7 +9,7 @@ use crate::field::{byte_at, kept_marks_at, optional_upto, part_upto};
 use crate::words::{errno_at, flush_at, mode_at, prot_at};
 use std::alloc::Global;
 use strm_call::{MAX_CONTROL, MAX_DATA};
-use strm_msg::{Message, MsgKind, Prot, ReadMode};
+use strm_msg::{Errno, Message, MsgKind, Prot, ReadMode};
 
 /// The kind of a message that comes in from a line, by its word alone.
 #[derive(Clone, Copy, Debug, PartialEq, Eq)]
@@ -26,12 +26,14 @@ pub enum MessageWord {
     Flush,
     /// A hangup (M_HANGUP).
     Hangup,
-    /// An error (M_ERROR).
+    /// An error of both sides (M_ERROR).
     Error,
+    /// An error of either side (M_ERROR of two bytes).
+    Error2,
 }
 
 /// Each kind of message.
-const MESSAGES: [MessageWord; 7] = [
+const MESSAGES: [MessageWord; 8] = [
     MessageWord::Data,
     MessageWord::Proto,
     MessageWord::Pcproto,
@@ -39,6 +41,7 @@ const MESSAGES: [MessageWord; 7] = [
     MessageWord::Flush,
     MessageWord::Hangup,
     MessageWord::Error,
+    MessageWord::Error2,
 ];
 
 impl MessageWord {
@@ -54,6 +57,7 @@ impl MessageWord {
             MessageWord::Flush => b"flush",
             MessageWord::Hangup => b"hangup",
             MessageWord::Error => b"error",
+            MessageWord::Error2 => b"error2",
         }
     }
 
@@ -194,6 +198,29 @@ fn error(texts: &[&[u8]]) -> Result<Message, ReadError>
     Ok(Message::of_error(errno))
 }
 
+/// An errno, or none for `-`. Refused where none has this name.
+fn kept_errno_at(text: &[u8]) -> Result<Option<Errno>, ReadError>
+    ensures { Gives (λ errno. errno) result (arrivals.kept_errno_at text.now) }
+{
+    if text == b"-".as_slice() {
+        return Ok(None);
+    }
+    Ok(Some(errno_at(text)?))
+}
+
+/// `error2 READ WRITE`, where `-` leaves a side as it is.
+fn error2(texts: &[&[u8]]) -> Result<Message, ReadError>
+    ensures message { Gives (λ m. m) result (arrivals.error2_at (map (λ text. text.now) texts.now)) }
+    ensures line { IfOk result (λ m. is_from_line m.kind ≡ true) }
+{
+    let [read, write] = texts else {
+        return Err(ReadError::Fault(Cause::Fields));
+    };
+    let read = kept_errno_at(read)?;
+    let write = kept_errno_at(write)?;
+    Ok(Message::of_error2(read, write))
+}
+
 /// The message of a word with its fields. Refused where there are others than it has, and then for
 /// the first that does not say what it should, as a part of more bytes than a call may send.
 pub fn message_at(alloc: Global, word: MessageWord, texts: &[&[u8]]) -> Result<Message, ReadError>
@@ -208,5 +235,6 @@ pub fn message_at(alloc: Global, word: MessageWord, texts: &[&[u8]]) -> Result<M
         MessageWord::Flush => flush(texts),
         MessageWord::Hangup => hangup(texts),
         MessageWord::Error => error(texts),
+        MessageWord::Error2 => error2(texts),
     }
 }

@@ -6,10 +6,10 @@ ghost use Rattle.strm_verb.specs.Fault.{Gives, or_fault};
 ghost use Rattle.strm_verb.specs.Push as pushes;
 
 use crate::fault::{Cause, ReadError};
-use crate::field::{byte_at, part_at, side_at};
+use crate::field::{byte_at, number_at, part_at, side_at};
 use arrayvec::ArrayVec;
 use std::alloc::Global;
-use strm_module::{BoxedShape, Kind, LONGEST_NAME, Shape};
+use strm_module::{BoxedShape, Kind, LONGEST_NAME, MOST_SPLIT, Shape};
 use strm_msg::Bytes;
 use strm_text::name;
 
@@ -36,10 +36,12 @@ pub enum KindWord {
     Tee,
     /// Drops data messages.
     Mute,
+    /// Sends data messages on in two.
+    Split,
 }
 
 /// Each kind.
-const KINDS: [KindWord; 8] = [
+const KINDS: [KindWord; 9] = [
     KindWord::Pass,
     KindWord::Table,
     KindWord::CrNl,
@@ -48,6 +50,7 @@ const KINDS: [KindWord; 8] = [
     KindWord::Band,
     KindWord::Tee,
     KindWord::Mute,
+    KindWord::Split,
 ];
 
 impl KindWord {
@@ -64,6 +67,7 @@ impl KindWord {
             KindWord::Band => b"band",
             KindWord::Tee => b"tee",
             KindWord::Mute => b"mute",
+            KindWord::Split => b"split",
         }
     }
 
@@ -85,7 +89,7 @@ impl KindWord {
     {
         match self {
             KindWord::Table => 2,
-            KindWord::Band => 1,
+            KindWord::Band | KindWord::Split => 1,
             KindWord::Pass
             | KindWord::CrNl
             | KindWord::Line
@@ -196,6 +200,20 @@ fn band_at(texts: &[&[u8]]) -> Result<Kind, ReadError>
     Ok(Kind::Band { b: byte_at(band)? })
 }
 
+/// The kind of N. Refused where there is not this one field, and where it is no number of 1 to `MOST_SPLIT`.
+fn size_at(texts: &[&[u8]]) -> Result<Kind, ReadError>
+    ensures { Gives (λ kind. kind) result (pushes.size_at (map (λ text. text.now) texts.now)) }
+{
+    let [size] = texts else {
+        return Err(ReadError::Fault(Cause::Fields));
+    };
+    let n = number_at(size, u64::from(MOST_SPLIT))?;
+    if n == 0 {
+        return Err(ReadError::Fault(Cause::Number));
+    }
+    Ok(Kind::Split { n: n as u16 })
+}
+
 /// A kind without fields of its own. Refused where there is one.
 fn alone(kind: Kind, texts: &[&[u8]]) -> Result<Kind, ReadError>
     ensures { Gives (λ kind. kind) result (pushes.alone kind (map (λ text. text.now) texts.now)) }
@@ -225,6 +243,7 @@ fn kind_at(alloc: Global, word: KindWord, texts: &[&[u8]]) -> Result<Kind, ReadE
         KindWord::Band => band_at(texts),
         KindWord::Tee => alone(Kind::Tee, texts),
         KindWord::Mute => alone(Kind::Mute, texts),
+        KindWord::Split => size_at(texts),
     }
 }
 

@@ -155,7 +155,7 @@ const LINE_IS_FILLED_BELOW: &[Call] = &[
 
 const ERRORS_COME: &[Call] = &[
     Deliver(UP_3, Sample::Error(Errno::EPROTO)),
-    Errs(End::A, Some(Errno::EPROTO)),
+    Errs(End::A, Some(Errno::EPROTO), Some(Errno::EPROTO)),
     May(WR_1, false),
     May(RD_1, false),
     May(WR_2, false),
@@ -165,7 +165,7 @@ const ERRORS_COME: &[Call] = &[
     May(DRV_A, false),
     HeadLen(End::A, 0),
     Deliver(UP_3, Sample::Error(Errno::EIO)),
-    Errs(End::A, Some(Errno::EIO)),
+    Errs(End::A, Some(Errno::EIO), Some(Errno::EIO)),
 ];
 
 pub(super) const ROWS: &[Row] = &[

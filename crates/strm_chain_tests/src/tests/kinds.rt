@@ -3,12 +3,12 @@
 use super::Sample::{Ack, Data, Flush, Hangup, Ioctl, Proto};
 use super::{Sample, bytes, message, shaped};
 use Keeps::{Counted, Partial, Same};
-use Want::{GoesOn, Nothing, Sends, Twice, Waits};
+use Want::{GoesOn, InTwo, Nothing, Sends, Twice, Waits};
 use std::alloc::Global;
 use std::process::Abort;
 use strm_module::{
     Band, Count, CrNl, Instance, Kind, Kinds, Line, MakeFault, Module, Mute, Outs, Pass, Plain,
-    Put, Shape, Table, Tee,
+    Put, Shape, Split, Table, Tee,
 };
 use strm_msg::Side::{Rd, Wr};
 use strm_msg::{Marks, Message, NoMem, Side};
@@ -33,6 +33,8 @@ pub(super) enum Want {
     Sends(Side, Sample),
     /// A copy goes up, and then the message on.
     Twice,
+    /// These go down, in this order.
+    InTwo(Sample, Sample),
 }
 
 /// What the module keeps afterwards.
@@ -78,10 +80,10 @@ fn sent(side: Side, m: Message) -> Put {
     Put::Sent(outs)
 }
 
-fn sent_twice(first: Message, second: Message) -> Put {
+fn sent_twice(first: (Side, Message), second: (Side, Message)) -> Put {
     let mut outs = Outs::new();
-    outs.push((Rd, first));
-    outs.push((Wr, second));
+    outs.push(first);
+    outs.push(second);
     Put::Sent(outs)
 }
 
@@ -91,7 +93,14 @@ fn wanted(rt: &impl Abort, alloc: Global, side: Side, came: Sample, want: Want) 
         Nothing => Put::Sent(Outs::new()),
         GoesOn => sent(side, message(rt, alloc, came)),
         Sends(side, sample) => sent(side, message(rt, alloc, sample)),
-        Twice => sent_twice(message(rt, alloc, came), message(rt, alloc, came)),
+        Twice => sent_twice(
+            (Rd, message(rt, alloc, came)),
+            (Wr, message(rt, alloc, came)),
+        ),
+        InTwo(first, rest) => sent_twice(
+            (Wr, message(rt, alloc, first)),
+            (Wr, message(rt, alloc, rest)),
+        ),
     }
 }
 
@@ -338,8 +347,33 @@ fn mute_drops_data_and_pass_sends_it(rt: HostRuntime) {
     puts(&rt, rt.alloc(), Pass::new(2, b"p", None, None), SENT);
 }
 
+// A message of as many bytes as go at once stays one; a rest is not split again.
+const IN_TWO: &[Row] = &[
+    (
+        Wr,
+        Data(3, b"abcde"),
+        InTwo(Data(3, b"ab"), Data(3, b"cde")),
+        Same,
+    ),
+    (
+        Wr,
+        Data(3, b"abc"),
+        InTwo(Data(3, b"ab"), Data(3, b"c")),
+        Same,
+    ),
+    (Wr, Data(3, b"ab"), GoesOn, Same),
+    (Wr, Data(3, b""), GoesOn, Same),
+    (Wr, Proto(3, b"abc", Some(b"abc")), GoesOn, Same),
+    (Rd, Data(3, b"abcde"), GoesOn, Same),
+];
+
+#[test]
+fn split_sends_the_rest_behind(rt: HostRuntime) {
+    puts(&rt, rt.alloc(), Split::new(1, b"s", None, None, 2), IN_TWO);
+}
+
 /// One kind of each, with something kept where there is something to keep.
-fn one_of_each(rt: &impl Abort, alloc: Global) -> [Kind; 8] {
+fn one_of_each(rt: &impl Abort, alloc: Global) -> [Kind; 9] {
     [
         Kind::Pass,
         Kind::Table { map: capitals() },
@@ -349,6 +383,7 @@ fn one_of_each(rt: &impl Abort, alloc: Global) -> [Kind; 8] {
         Kind::Band { b: 3 },
         Kind::Tee,
         Kind::Mute,
+        Kind::Split { n: 2 },
     ]
 }
 
@@ -405,14 +440,35 @@ fn faults_are_for_the_name_first(rt: HostRuntime) {
     }
 }
 
+/// A name, write marks, a number of bytes, and the fault of a module that splits with these.
+const SPLIT_FAULTS: &[(&[u8], Option<(u32, u32)>, u16, Option<MakeFault>)] = &[
+    (b"s", None, 0, Some(MakeFault::Split)),
+    (b"s", EQUAL, 0, Some(MakeFault::Marks)),
+    (b"", EQUAL, 0, Some(MakeFault::Name)),
+    (b"s", MARKS, 1, None),
+    (b"s", MARKS, 4096, None),
+    (b"s", MARKS, 4097, Some(MakeFault::Split)),
+];
+
+#[test]
+fn bytes_of_a_split_are_looked_at_last(rt: HostRuntime) {
+    for (at, (name, wr, n, fault)) in SPLIT_FAULTS.iter().enumerate() {
+        let found = Split::new(1, name, None, *wr, *n).err();
+        assert!(rt; found == *fault, "row {at}");
+    }
+}
+
 const BAD_NAME: &str = "a module's name must be 1 to 8 letters, digits or `_`";
 
 const BAD_MARKS: &str = "the low mark of a queue must be below its high mark";
+
+const BAD_SPLIT: &str = "a module that splits must let through 1 to 4096 bytes at once";
 
 /// A fault, its number, and its text.
 const WORDS: &[(MakeFault, u8, &str)] = &[
     (MakeFault::Name, 1, BAD_NAME),
     (MakeFault::Marks, 2, BAD_MARKS),
+    (MakeFault::Split, 3, BAD_SPLIT),
 ];
 
 fn is_said(rt: &impl Abort, alloc: Global, fault: MakeFault, words: &str) -> bool {
@@ -471,4 +527,10 @@ fn new_modules_have_the_shape_asked_for(rt: HostRuntime) {
     has_shape(&rt, alloc, band, Kind::Band { b: 7 });
     has_shape(&rt, alloc, Tee::new(9, NAME, rd, wr), Kind::Tee);
     has_shape(&rt, alloc, Mute::new(9, NAME, rd, wr), Kind::Mute);
+    has_shape(
+        &rt,
+        alloc,
+        Split::new(9, NAME, rd, wr, 2),
+        Kind::Split { n: 2 },
+    );
 }

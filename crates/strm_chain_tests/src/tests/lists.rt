@@ -9,7 +9,7 @@ const READS_AS_IT_WAS_SET: &[Call] = &[
     Mode(End::B, ReadMode::Rmsgd, Prot::Dis),
     Mode(End::A, ReadMode::Rnorm, Prot::Norm),
     Hung(End::A, false),
-    Errs(End::A, None),
+    Errs(End::A, None, None),
 ];
 
 // With one module there are the spots 1 and 2 down, and 0 and 1 up.

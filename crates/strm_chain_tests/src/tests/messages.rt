@@ -1,5 +1,5 @@
 //! Messages: their fields, what is answered of them, and which are equal.
-use super::Sample::{Ack, Data, Error, Flush, Hangup, Ioctl, Nak, Options, Pcproto, Proto};
+use super::Sample::{Ack, Data, Error, Error2, Flush, Hangup, Ioctl, Nak, Options, Pcproto, Proto};
 use super::{Part, Sample, bytes, message};
 use std::alloc::Global;
 use std::process::Abort;
@@ -26,11 +26,19 @@ const OPTIONS: MsgKind = MsgKind::MSetopts {
     marks: Some((4, 9)),
 };
 
-const ERROR: MsgKind = MsgKind::MError { errno: Errno::EIO };
+const ERROR: MsgKind = MsgKind::MError {
+    rd: Some(Errno::EIO),
+    wr: Some(Errno::EIO),
+};
+
+const WRITE_ERROR: MsgKind = MsgKind::MError {
+    rd: None,
+    wr: Some(Errno::EPROTO),
+};
 
 // The fields are those that the table of kinds gives each kind: which parts it has, and band 0 for
 // all but data and protocol messages.
-const FIELDS: [Fields; 11] = [
+const FIELDS: [Fields; 12] = [
     (Data(7, b"wxyz"), MsgKind::MData, 7, None, Some(b"wxyz")),
     (
         Proto(255, b"ab", Some(b"")),
@@ -78,6 +86,13 @@ const FIELDS: [Fields; 11] = [
     ),
     (Hangup, MsgKind::MHangup, 0, None, None),
     (Error(Errno::EIO), ERROR, 0, None, None),
+    (
+        Error2(None, Some(Errno::EPROTO)),
+        WRITE_ERROR,
+        0,
+        None,
+        None,
+    ),
 ];
 
 fn is_part(found: &Option<Bytes>, want: Part) -> bool {

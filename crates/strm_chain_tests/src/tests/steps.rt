@@ -178,7 +178,10 @@ fn tells<M: ModuleOf>(chain: &Chain<M>, call: Call) -> bool {
         Call::Serial(i, want) => serial(chain, i) == want,
         Call::HasRoom(end, want) => chain.has_room(end) == want,
         Call::Hung(end, want) => chain.state(end).hung == want,
-        Call::Errs(end, want) => chain.state(end).errno == want,
+        Call::Errs(end, rd, wr) => {
+            let state = chain.state(end);
+            state.rd_errno == rd && state.wr_errno == wr
+        }
         Call::Mode(end, mode, prot) => {
             let state = chain.state(end);
             state.mode == mode && state.prot == prot

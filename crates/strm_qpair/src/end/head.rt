@@ -5,7 +5,7 @@ ghost use Rattle.strm_queue.specs.Queue.{put_in, put_back_in};
 ghost use Rattle.strm_queue.specs.Room.{room_for};
 ghost use Rattle.strm_qpair.specs.End.{KeepsRoom, SpendsOne, in_head, in_state};
 ghost use Rattle.strm_qpair.specs.Modules.{SameEnd};
-ghost use Rattle.strm_qpair.specs.Head.{marks_set, with_options, head_does};
+ghost use Rattle.strm_qpair.specs.Head.{marks_set, with_options, error_flush, head_does};
 ghost use Rattle.strm_qpair.specs.Change.{with_mode, begun, undone, ended};
 ghost use Rattle.strm_qpair.specs.Pair.{flushed_if};
 
@@ -13,7 +13,7 @@ use super::StreamEnd;
 use crate::record::Record;
 use std::alloc::Global;
 use strm_module::ModuleOf;
-use strm_msg::{Marks, Message, MsgKind, NoMem, Prot, ReadMode};
+use strm_msg::{Errno, Marks, Message, MsgKind, NoMem, Prot, ReadMode};
 use strm_queue::BandQueue;
 
 /// A flush of a whole list or of one band, where the flush names the list.
@@ -50,6 +50,16 @@ fn set_fit_marks(queue: &mut BandQueue, marks: Option<(u32, u32)>)
             queue.set_marks(marks);
         }
     }
+}
+
+/// The flush that an error sends down: of the sides for which it is given.
+fn error_flush(rd: Option<Errno>, wr: Option<Errno>) -> Option<Message>
+    ensures { result ≡ error_flush rd wr }
+{
+    if rd.is_none() && wr.is_none() {
+        return None;
+    }
+    Some(Message::of_flush(rd.is_some(), wr.is_some(), None))
 }
 
 impl<M: ModuleOf> StreamEnd<M> {
@@ -91,9 +101,9 @@ impl<M: ModuleOf> StreamEnd<M> {
                 self.state.hung = true;
                 Ok(None)
             }
-            MsgKind::MError { errno } => {
-                self.state.errno = Some(errno);
-                Ok(Some(Message::of_flush(true, true, None)))
+            MsgKind::MError { rd, wr } => {
+                self.state.set_errors(rd, wr);
+                Ok(error_flush(rd, wr))
             }
             MsgKind::MIoctl { .. } => Ok(None),
             MsgKind::MSetopts { mode, prot, marks } => {

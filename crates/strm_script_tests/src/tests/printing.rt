@@ -86,7 +86,7 @@ const CALLS: [(End, Ask, Say, &str); 17] = [
     (
         A,
         Getband,
-        Refused(Refusal::Error {
+        Refused(Refusal::ReadError {
             errno: Errno::EPROTO,
         }),
         "p getband s:a : EPROTO\n",
@@ -276,13 +276,14 @@ fn steps_are_spelt_with_their_answers(rt: HostRuntime) {
 /// Messages of a feed, also with words and parts that a transcript has otherwise.
 const FEED: &[u8] = b"stream s line 0016/04 16/4 4096\nfeed s\n\
     data 3 =a\nproto 0 =c -\npcproto =c =\nflush w\nhangup\nerror EPROTO\nflush rw\nflush r\n\
-    error\tEIO\nproto 003 *1:63 -\npcproto *0:00 =%2d\ndata 255 =a%20%62\n";
+    error\tEIO\nerror2\tEIO EIO\nerror2 - EPROTO\nerror2 EPROTO EIO\nerror2 - -\nproto 003 *1:63 -\npcproto *0:00 =%2d\ndata 255 =a%20%62\n";
 
 /// What is printed where each of them came in.
 const FED: &str = "stream s\n\
     line data 3 =a : 0\nline proto 0 =c - : 0\nline pcproto =c = : 0\nline flush w : 0\n\
     line hangup : 0\nline error EPROTO : 0\nline flush rw : 0\nline flush r : 0\n\
-    line error EIO : 0\nline proto 3 =c - : 0\nline pcproto = =- : 0\nline data 255 =a%20b : 0\n\
+    line error EIO : 0\nline error EIO : 0\nline error2 - EPROTO : 0\nline error2 EPROTO EIO : 0\n\
+    line error2 - - : 0\nline proto 3 =c - : 0\nline pcproto = =- : 0\nline data 255 =a%20b : 0\n\
     open a\nfeed accepted 3 arrived 2 overrun 1\n";
 
 /// A step for each message of the plan's feeds.

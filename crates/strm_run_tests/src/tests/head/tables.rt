@@ -4,9 +4,9 @@ use strm_head::{Driver, Refusal};
 use strm_msg::End::{A, B};
 use strm_msg::Errno;
 
-const EIO: Want = Want::Refused(Refusal::Error { errno: Errno::EIO });
+const EIO: Want = Want::Refused(Refusal::ReadError { errno: Errno::EIO });
 
-const EPROTO: Want = Want::Refused(Refusal::Error {
+const EPROTO: Want = Want::Refused(Refusal::ReadError {
     errno: Errno::EPROTO,
 });
 

@@ -3,12 +3,12 @@ ghost use Rattle.std.specs.Prelude.{◌≡◌, ℕ, true, None};
 ghost use Rattle.strm_history.specs.Setup.{is_fit};
 
 use super::{answer, ended, made};
-use crate::tests::{came, data_of, line};
+use crate::tests::{bytes, came, data_of, line};
 use std::alloc::Global;
 use std::marker::Brand;
 use std::process::Abort;
 use std::sync::Wait;
-use strm_head::{Answer, Refusal, Reply, Request, Wanted};
+use strm_head::{Answer, Priority, Refusal, Reply, Request, Wanted};
 use strm_history::Entry;
 use strm_module::{Boxed, Kind, Plain};
 use strm_msg::{Errno, Message, Prot, ReadMode};
@@ -21,8 +21,8 @@ enum Step {
     Data(&'static [u8], bool),
     /// A hangup is offered, and accepted.
     Hangup,
-    /// An error is offered, and accepted.
-    Error,
+    /// An error for reading and one for writing are offered, and accepted.
+    Errors(Option<Errno>, Option<Errno>),
     /// A read mode for the head is offered, and accepted.
     Options(ReadMode),
     /// The data of a message are taken.
@@ -35,10 +35,18 @@ enum Step {
     GetRead(ReadMode),
     /// The end is closed.
     Close,
-    /// A read is refused.
-    NoRead(Refusal),
-    /// A look is refused.
-    NoLook(Refusal),
+    /// A call is refused.
+    Refused(Ask, Refusal),
+}
+
+/// A call that is refused.
+#[derive(Clone, Copy, Drop)]
+enum Ask {
+    Read,
+    Look,
+    Putmsg,
+    Canput,
+    Write,
 }
 
 /// A line with its marks and its ring, what is done there, what its history has then, and what is left: of a message that
@@ -52,7 +60,11 @@ struct Row {
     left: &'static [&'static [u8]],
 }
 
-const EIO: Refusal = Refusal::Error { errno: Errno::EIO };
+const EIO: Refusal = Refusal::ReadError { errno: Errno::EIO };
+
+const EPROTO: Refusal = Refusal::WriteError {
+    errno: Errno::EPROTO,
+};
 
 /// What does not fit the ring comes back, what came in is taken in order, and a hangup is the end.
 const FULL_RING: Row = Row {
@@ -77,13 +89,46 @@ const ERROR: Row = Row {
     ring: 2,
     steps: &[
         Step::Data(b"x", true),
-        Step::Error,
-        Step::NoRead(EIO),
-        Step::NoLook(EIO),
+        Step::Errors(Some(Errno::EIO), Some(Errno::EIO)),
+        Step::Refused(Ask::Read, EIO),
+        Step::Refused(Ask::Look, EIO),
         Step::Close,
-        Step::NoLook(Refusal::Closed),
+        Step::Refused(Ask::Look, Refusal::Closed),
     ],
     history: &[Some(b"x"), Some(b""), None, None, None, None],
+    left: &[],
+};
+
+/// An error for writing leaves what was read alone, and one for reading does not end that for writing.
+const ERRORS: Row = Row {
+    marks: (16, 4),
+    ring: 4,
+    steps: &[
+        Step::Data(b"x", true),
+        Step::Errors(None, Some(Errno::EPROTO)),
+        Step::Refused(Ask::Putmsg, EPROTO),
+        Step::Refused(Ask::Canput, EPROTO),
+        Step::Refused(Ask::Look, EPROTO),
+        Step::Read(8, b"x"),
+        Step::Errors(Some(Errno::EIO), None),
+        Step::Refused(Ask::Read, EIO),
+        Step::Refused(Ask::Look, EIO),
+        Step::Refused(Ask::Write, EPROTO),
+        Step::Close,
+    ],
+    history: &[
+        Some(b"x"),
+        Some(b""),
+        None,
+        None,
+        None,
+        None,
+        Some(b""),
+        None,
+        None,
+        None,
+        None,
+    ],
     left: &[],
 };
 
@@ -151,7 +196,9 @@ const ALL_LEFT: Row = Row {
     left: &[b"ccccc", b"d", b"e"],
 };
 
-const ROWS: [Row; 6] = [FULL_RING, ERROR, OPTIONS, HELD_BACK, NO_CALL, ALL_LEFT];
+const ROWS: [Row; 7] = [
+    FULL_RING, ERROR, ERRORS, OPTIONS, HELD_BACK, NO_CALL, ALL_LEFT,
+];
 
 /// Whether a message is accepted.
 fn offers<N: Runs<Kind>>(rt: &impl Abort, feeder: &mut Feeder<Kind, N>, m: Message) -> bool
@@ -161,21 +208,37 @@ fn offers<N: Runs<Kind>>(rt: &impl Abort, feeder: &mut Feeder<Kind, N>, m: Messa
     feeder.arrive(m).is_ok()
 }
 
+/// A call that is to be refused.
+fn refused_of(rt: &impl Abort, alloc: Global, ask: Ask) -> Request<Boxed<Plain>> {
+    match ask {
+        Ask::Read => Request::Read { max: 8 },
+        Ask::Look => Request::Look,
+        Ask::Putmsg => Request::Putmsg {
+            ctl: None,
+            dat: Some(bytes(rt, alloc, b"y")),
+            flag: Priority::Norm,
+        },
+        Ask::Canput => Request::Canput { band: 0 },
+        Ask::Write => Request::Write {
+            dat: bytes(rt, alloc, b"z"),
+        },
+    }
+}
+
 /// What a step asks, if it asks something.
-fn request_of(step: Step) -> Option<Request<Boxed<Plain>>> {
+fn request_of(rt: &impl Abort, alloc: Global, step: Step) -> Option<Request<Boxed<Plain>>> {
     match step {
-        Step::Data(_, _) | Step::Hangup | Step::Error | Step::Options(_) => None,
+        Step::Data(_, _) | Step::Hangup | Step::Errors(_, _) | Step::Options(_) => None,
         Step::Getmsg(_) => Some(Request::Getmsg {
             maxctl: Some(64),
             maxdat: Some(64),
             flag: Wanted::Any,
         }),
         Step::Read(max, _) => Some(Request::Read { max }),
-        Step::NoRead(_) => Some(Request::Read { max: 8 }),
         Step::Nread(_, _) => Some(Request::Nread),
         Step::GetRead(_) => Some(Request::GetRead),
         Step::Close => Some(Request::Close),
-        Step::NoLook(_) => Some(Request::Look),
+        Step::Refused(ask, _) => Some(refused_of(rt, alloc, ask)),
     }
 }
 
@@ -193,9 +256,7 @@ fn is_answer(step: Step, answer: &Answer) -> bool {
             *mode == wanted && *prot == Prot::Norm
         }
         (Step::Close, Answer::Done(Reply::Close { .. })) => true,
-        (Step::NoRead(wanted) | Step::NoLook(wanted), Answer::Refused(refusal)) => {
-            *refusal == wanted
-        }
+        (Step::Refused(_, wanted), Answer::Refused(refusal)) => *refusal == wanted,
         _ => false,
     }
 }
@@ -208,7 +269,7 @@ fn message_of(rt: &impl Abort, alloc: Global, step: Step) -> Option<(Message, bo
             Some((m, is_accepted))
         }
         Step::Hangup => Some((Message::of_hangup(), true)),
-        Step::Error => Some((Message::of_error(Errno::EIO), true)),
+        Step::Errors(rd, wr) => Some((Message::of_error2(rd, wr), true)),
         Step::Options(mode) => Some((Message::of_setopts(Some(mode), None, None), true)),
         _ => None,
     }
@@ -229,7 +290,7 @@ fn goes<N: Runs<Kind>, R: Abort + Wait>(
     if let Some((m, is_accepted)) = message_of(rt, alloc, step) {
         return offers(rt, feeder, m) == is_accepted;
     }
-    match request_of(step) {
+    match request_of(rt, alloc, step) {
         Some(request) => is_answer(step, &answer(rt, shared, seat, request)),
         None => false,
     }

@@ -235,7 +235,7 @@ fn finish_ioctl<M: ModuleOf>(chain: &mut Chain<M>, end: End) -> Answered
     )
 }
 
-/// Begins and finishes a call that none of the refusals 1 to 9 refuses.
+/// Begins and finishes a call that none of the refusals 1 to 9 and 11 refuses.
 pub(crate) fn perform<M: ModuleOf>(
     chain: &mut Chain<M>,
     end: End,

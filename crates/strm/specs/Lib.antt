@@ -1,0 +1,23 @@
+-- The definitions that contracts of programs cite.
+pub use Rattle.strm_msg.specs.Kind
+pub use Rattle.strm_msg.specs.Message
+pub use Rattle.strm_msg.specs.Marks
+pub use Rattle.strm_msg.specs.Options
+pub use Rattle.strm_module.specs.Kinds
+pub use Rattle.strm_module.specs.Shape
+pub use Rattle.strm_module.specs.Module
+pub use Rattle.strm_module.specs.Calm
+pub use Rattle.strm_module.specs.Builtin
+pub use Rattle.strm_ends.specs.Image
+pub use Rattle.strm_ends.specs.Flow
+pub use Rattle.strm_chain.specs.Deliver
+pub use Rattle.strm_chain.specs.Service
+pub use Rattle.strm_head.specs.Begin
+pub use Rattle.strm_head.specs.Step
+pub use Rattle.strm_history.specs.Setup
+pub use Rattle.strm_history.specs.Entry
+pub use Rattle.strm_history.specs.History
+pub use Rattle.strm_shared.specs.Name
+pub use Rattle.strm_shared.specs.Runs
+pub use Rattle.strm_play.specs.Playing
+pub use Rattle.strm_play.specs.Played

@@ -1,5 +1,5 @@
 //! Messages that came in.
-ghost use Rattle.std.specs.Prelude.{◌∷◌, [], OnOk};
+ghost use Rattle.std.specs.Prelude.{◌≡◌, ◌∷◌, [], OnOk};
 ghost use Rattle.std.specs.Io.KnownBytes.{Appends};
 ghost use Rattle.strm_msg.specs.Text.{name_of};
 ghost use Rattle.strm_verb.specs.Field.{Number, Word};

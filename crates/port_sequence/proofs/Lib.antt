@@ -1,0 +1,3 @@
+mod CalmLemmas
+mod SequenceLemmas
+mod WorkedExamples

@@ -1,0 +1,2 @@
+pub mod Sequence
+pub mod SequenceLaws

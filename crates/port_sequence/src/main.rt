@@ -1,0 +1,23 @@
+//! A protocol on running streams: data is numbered on its way down, and judged by its number on its way up.
+//!
+//! Its module is a discipline of a program's own. It has an ioctl and a queue whose service numbers the data, and what takes it out
+//! finds how many messages were lost. The program plays it on a line, call by call, and then on a loop for two callers, with a feed
+//! beside them.
+#![tactic(auto)]
+
+mod kinds;
+mod laws;
+mod playing;
+mod saying;
+
+use playing::{play_calls, play_run};
+use std::process::ExitCode;
+
+fn main(rt: HostRuntime) -> ExitCode {
+    let alloc = rt.alloc();
+    if play_calls(&rt, alloc).is_some() && play_run(&rt, alloc).is_some() {
+        ExitCode::from(0)
+    } else {
+        ExitCode::from(1)
+    }
+}

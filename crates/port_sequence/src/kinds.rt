@@ -5,6 +5,7 @@ ghost use Rattle.strm_module.specs.Shape.{make_fault, new_shape};
 ghost use Rattle.port_sequence.specs.Sequence.{numbered_action, judged_action, fresh};
 
 use std::alloc::Global;
+use strm_history::SameKind;
 use strm_module::{Instance, Kinds, MakeFault, ModuleOf, Outs, Shape, pass_on, reply};
 use strm_msg::{Bytes, Message, MsgKind, NoMem, Side};
 
@@ -85,6 +86,13 @@ impl Kinds for Sequence {
             up: self.up,
             lost: self.lost,
         })
+    }
+}
+
+/// Whether two are the same, as a run must know that holds a history against what its callers were told.
+impl SameKind for Sequence {
+    fn is_same(&self, other: &Sequence) -> bool {
+        self.down == other.down && self.up == other.up && self.lost == other.lost
     }
 }
 

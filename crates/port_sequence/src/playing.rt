@@ -129,8 +129,8 @@ fn played<R: Threads + Wait + Sync>(rt: &R, alloc: Global) -> Option<Transcript<
 pub fn play_run<R: Print + Threads + Wait + Sync>(rt: &R, alloc: Global) -> Option<()> {
     let transcript = played(rt, alloc)?;
     for log in &transcript.streams {
-        for entry in &log.history {
-            say_entry(rt, entry)?;
+        for kept in &log.history {
+            say_entry(rt, kept.entry())?;
         }
         println!(rt; "fed: {} accepted, {} arrived", log.accepted, log.arrived).ok()?;
     }

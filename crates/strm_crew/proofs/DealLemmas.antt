@@ -46,25 +46,33 @@ script_at : {P : Type 0} (before after : List (Script P)) (script : Script P) �
 script_at [] after script = refl
 script_at (first ∷ before) after script = script_at before after script
 
--- a caller that was just seated has its whole script left
-pub player_before : {K : Type 0} (run : RunValue K) (caller : ℕ) (calls : List (ScriptCall (Shape K))) (seats now : List (Vec SeatValue Global)) (mine : Vec SeatValue Global) (answers : ℕ) → AreSeated run seats → caller < length run.scripts → script_of run.scripts caller ≡ calls → All (λ one. one.stream < length run.setups) calls → ((k : ℕ) (d : Vec SeatValue Global) → caller ≤ k → get_or now k d ≡ get_or seats k d) → mine ≡ get_or now caller mine → answers ≡ length run.setups → IsPlayer run caller calls mine.items answers
-player_before run caller calls seats now mine answers seated within script there behind stood told =
+-- the seats of a caller that was just seated
+fresh_seat : {K : Type 0} (run : RunValue K) (caller : ℕ) (seats : List (Vec SeatValue Global)) (mine : Vec SeatValue Global) → mine ≡ get_or seats caller mine → AreSeated run seats → caller < length run.scripts → (k : ℕ) (d : SeatValue) → k < length run.setups → get_or mine.items k d ≡ record { number = k; caller = caller; calls = 0; shown = true }
+fresh_seat run caller seats mine is seated within k d below = ap (λ (v : Vec SeatValue Global). get_or v.items k d) is ∙ seated.each caller k mine d within below
+
+pub none_called : {K : Type 0} (run : RunValue K) (caller : ℕ) (seats now : List (Vec SeatValue Global)) (mine : Vec SeatValue Global) → AreSeated run seats → caller < length run.scripts → ((k : ℕ) (d : Vec SeatValue Global) → caller ≤ k → get_or now k d ≡ get_or seats k d) → mine ≡ get_or now caller mine → All (λ seat. seat.calls ≡ 0) mine.items
+none_called run caller seats now mine seated within behind stood k d below =
     let is : mine ≡ get_or seats caller mine = stood ∙ behind caller mine (omega arith) in
     let long : length mine.items ≡ length run.setups = ap (λ (v : Vec SeatValue Global). length v.items) is ∙ seated.long caller mine within in
-    record {
+    ap (λ (s : SeatValue). s.calls) (fresh_seat run caller seats mine is seated within k d (subst (λ n. k < n) long below))
+
+-- a caller that was just seated has its whole script left
+pub player_before : {K : Type 0} (run : RunValue K) (caller : ℕ) (calls : List (ScriptCall (Shape K))) (seats now : List (Vec SeatValue Global)) (mine : Vec SeatValue Global) (sits : List SeatValue) → AreSeated run seats → caller < length run.scripts → script_of run.scripts caller ≡ calls → All (λ one. one.stream < length run.setups) calls → ((k : ℕ) (d : Vec SeatValue Global) → caller ≤ k → get_or now k d ≡ get_or seats k d) → mine ≡ get_or now caller mine → sits ≡ mine.items → IsPlayer run caller calls sits
+player_before run caller calls seats now mine sits seated within script there behind stood same =
+    let is : mine ≡ get_or seats caller mine = stood ∙ behind caller mine (omega arith) in
+    let long : length mine.items ≡ length run.setups = ap (λ (v : Vec SeatValue Global). length v.items) is ∙ seated.long caller mine within in
+    subst (λ l. IsPlayer run caller calls l) (sym same) (record {
       many = long;
-      told = told;
       there = there;
       seated = λ k d below.
-          let fresh : get_or mine.items k d ≡ record { number = k; caller = caller; calls = 0 } =
-          ap (λ (v : Vec SeatValue Global). get_or v.items k d) is ∙ seated.each caller k mine d within (subst (λ n. k < n) long below) in
+          let fresh = fresh_seat run caller seats mine is seated within k d (subst (λ n. k < n) long below) in
           subst (λ s. IsSeated run caller k calls s) (sym fresh) (record {
             number = refl;
             caller_is = refl;
             next = ap (λ l. calls_on k l) script;
             many = (let none : 0 + length (calls_on k calls) ≡ length (calls_on k calls) = omega arith in none) ∙ ap (λ l. length (calls_on k l)) (sym script);
           });
-    }
+    })
 
 -- the script that a loop over them has reached
 pub script_reached : {P : Type 0} (all before after : List (Script P)) (script : Script P) (caller : ℕ) → before ++ script ∷ after ≡ all → caller ≡ length before → script_of all caller ≡ script.calls.items

@@ -1,3 +1,4 @@
+pub mod AccountLemmas
 pub mod ArrivalLemmas
 pub mod DealLemmas
 pub mod EachLemmas
@@ -5,4 +6,3 @@ pub mod FeedLemmas
 pub mod PartLemmas
 pub mod PlayLemmas
 pub mod ReachedLemmas
-pub mod ToldLemmas

@@ -1,29 +1,15 @@
 -- A player, call by call.
-use Rattle.std.proofs.Common.{◌≡◌, ℕ, zero, suc, ◌+◌, ◌<◌, ◌==◌, Bool, true, false, Some, List, [], ◌∷◌, All, drop, get_or, length, set, slice_get, if◌then◌else◌, refl, sym, ◌∙◌, ap, subst, arith, Result, Ok, Err, OnOk}
+use Rattle.std.proofs.Common.{◌≡◌, ℕ, zero, suc, ◌+◌, ◌<◌, ◌==◌, Bool, true, false, Some, List, [], ◌∷◌, All, drop, get_or, length, set, slice_get, if◌then◌else◌, refl, sym, ◌∙◌, ap, subst, arith}
 use Rattle.std.proofs.lemmas.List.{length-set, get_or-set_same, get_or-set_other}
 use Rattle.std.proofs.lemmas.Bool.{eqb-true, eqb-false, eq-eqb}
 use Rattle.strm_module.specs.declared.shape.Shape.{Shape}
 use Rattle.strm_head.specs.declared.event.Event.TheVariants.{Asked}
-use Rattle.strm_history.specs.declared.call.Call.{Call}
-use Rattle.strm_history.specs.declared.call.Called.{Called}
-use Rattle.strm_history.specs.declared.call.Called.TheVariants.{Done, NoRoom}
-use Rattle.strm_history.specs.Log.{is_done}
 use Rattle.strm_shared.specs.Seat.{SeatValue}
-use Rattle.strm_shared.specs.Ending.{SharedValue, Counted}
+use Rattle.strm_shared.specs.Ending.{SharedValue}
 use Rattle.strm_crew.specs.declared.script.ScriptCall.{ScriptCall}
 use Rattle.strm_crew.specs.Scripts.{calls_on, script_of}
 use Rattle.strm_crew.specs.Run.{RunValue}
 use Rattle.strm_crew.specs.Play.{ArePlayed, AreStreams, IsPlayer, IsSeated}
-
--- a call that was made is counted
-pub done_counts : {P : Type 0} (call : Call P) (seat after : SeatValue) (called : Called P) → is_done called ≡ true → Counted call seat called after → after ≡ record seat { calls = seat.calls + 1 }
-done_counts call seat after (Done answer back) done counts = counts
-done_counts call seat after (NoRoom same) done counts = absurd cc
-
--- what follows from what holds where a call went well
-pub on_ok : {T E P Q : Type 0} (r : Result T E) → (P → Q) → OnOk r P → OnOk r Q
-on_ok (Ok x) follows p = follows p
-on_ok (Err e) follows p = tt
 
 -- what a loop over a vector has left is as long as it says
 pub iterated_len : {A : Type 0} (left rest : List A) (one : A) (n m : ℕ) → n ≡ length left → left ≡ one ∷ rest → m + 1 ≡ n → m ≡ length rest
@@ -50,16 +36,13 @@ number_at run streams number found are below is =
     ap (λ s. s.number) is ∙ ap (λ s. s.number) (are.each number found found.setup (subst (λ n. number < n) (sym are.many) below))
 
 -- for kinds of any meaning: a caller with one call and the rest left
-module _ {K : Type 0} (run : RunValue K) (caller : ℕ) (left : List (ScriptCall (Shape K))) (one : ScriptCall (Shape K)) (rest : List (ScriptCall (Shape K))) (seats : List SeatValue) (answers : ℕ) (is : left ≡ one ∷ rest) (was : IsPlayer run caller left seats answers) where
+module _ {K : Type 0} (run : RunValue K) (caller : ℕ) (left : List (ScriptCall (Shape K))) (one : ScriptCall (Shape K)) (rest : List (ScriptCall (Shape K))) (seats : List SeatValue) (is : left ≡ one ∷ rest) (was : IsPlayer run caller left seats) where
   there : All (λ call. call.stream < length run.setups) (one ∷ rest)
   there = subst (λ l. All (λ call. call.stream < length run.setups) l) is was.there
 
   -- its stream is there
   pub stream_there : one.stream < length run.setups
   stream_there = there 0 one (omega arith)
-
-  pub answer_there : one.stream < answers
-  answer_there = subst (λ n. one.stream < n) (sym was.told) stream_there
 
   pub seat_there : one.stream < length seats
   seat_there = subst (λ n. one.stream < n) (sym was.many) stream_there
@@ -87,9 +70,9 @@ module _ {K : Type 0} (run : RunValue K) (caller : ℕ) (left : List (ScriptCall
       (subst (λ n. slice_get (calls_on one.stream (script_of run.scripts n)) seat.calls ≡ Some (one.call.end, Asked one.call.request)) (sym sits.caller_is) here)
 
   -- the seat after it
-  module _ (seat : SeatValue) (at : seat ≡ get_or seats one.stream seat) where
+  module _ (seat : SeatValue) (shown : Bool) (at : seat ≡ get_or seats one.stream seat) where
     abbrev after : SeatValue
-    after = record seat { calls = seat.calls + 1 }
+    after = record seat { calls = seat.calls + 1; shown = shown }
 
     seat_after : IsSeated run caller one.stream rest after
     seat_after =
@@ -121,19 +104,17 @@ module _ {K : Type 0} (run : RunValue K) (caller : ℕ) (left : List (ScriptCall
           many = ap (λ l. (get_or seats k d).calls + length l) (sym apart) ∙ sits.many;
         })
 
-    pub player_after : (now : SeatValue) → now ≡ after → IsPlayer run caller rest (set seats one.stream now) answers
-    player_after now is_now = subst (λ s. IsPlayer run caller rest (set seats one.stream s) answers) (sym is_now) (record {
+    pub player_after : (now : SeatValue) → now ≡ after → IsPlayer run caller rest (set seats one.stream now)
+    player_after now is_now = subst (λ s. IsPlayer run caller rest (set seats one.stream s)) (sym is_now) (record {
       many = length-set seats one.stream after ∙ was.many;
-      told = was.told;
       there = λ k d below. there (suc k) d (omega arith);
       seated = λ k d below. seats_after k d (one.stream == k) refl (subst (λ n. k < n) (length-set seats one.stream after) below);
     })
 
 -- a caller that has no call left has played its script
-pub all_played : {K : Type 0} (run : RunValue K) (caller : ℕ) (left : List (ScriptCall (Shape K))) (seats : List SeatValue) (answers : ℕ) → left ≡ [] → IsPlayer run caller left seats answers → ArePlayed run seats answers
-all_played run caller left seats answers none was = record {
+pub all_played : {K : Type 0} (run : RunValue K) (caller : ℕ) (left : List (ScriptCall (Shape K))) (seats : List SeatValue) → left ≡ [] → IsPlayer run caller left seats → ArePlayed run seats
+all_played run caller left seats none was = record {
   many = was.many;
-  told = was.told;
   each = λ k d below.
       let sits = subst (λ l. IsSeated run caller k l (get_or seats k d)) none (was.seated k d below) in
       record {

@@ -1,5 +1,5 @@
 -- The callers of a run: where they sit, and who plays them.
-use Rattle.std.specs.Prelude.{◌≡◌, ℕ, zero, suc, ◌<◌, ◌==◌, ◌%◌, List, [], ◌∷◌, ◌++◌, filter, get_or, length, Vec}
+use Rattle.std.specs.Prelude.{◌≡◌, ℕ, zero, suc, true, ◌<◌, ◌==◌, ◌%◌, List, [], ◌∷◌, ◌++◌, filter, get_or, length, Vec}
 use Rattle.std.specs.Global.{Global}
 use Rattle.strm_shared.specs.Seat.{SeatValue}
 use Rattle.strm_crew.specs.Run.{RunValue}
@@ -8,7 +8,7 @@ use Rattle.strm_crew.specs.Run.{RunValue}
 pub record AreSeated {K : Type 0} (run : RunValue K) (seats : List (Vec SeatValue Global)) : Type 0 where
   pub many : length seats ≡ length run.scripts
   pub long : (caller : ℕ) (d : Vec SeatValue Global) → caller < length run.scripts → length (get_or seats caller d).items ≡ length run.setups
-  pub each : (caller k : ℕ) (d : Vec SeatValue Global) (x : SeatValue) → caller < length run.scripts → k < length run.setups → get_or (get_or seats caller d).items k x ≡ record { number = k; caller = caller; calls = 0 }
+  pub each : (caller k : ℕ) (d : Vec SeatValue Global) (x : SeatValue) → caller < length run.scripts → k < length run.setups → get_or (get_or seats caller d).items k x ≡ record { number = k; caller = caller; calls = 0; shown = true }
 
 -- so many callers, in order
 abbrev pub callers_of : ℕ → List ℕ

@@ -1,6 +1,6 @@
 pub mod Scripts
 pub mod Run
 pub mod Transcript
-pub mod Told
+pub mod Account
 pub mod Dealing
 pub mod Play

@@ -1,5 +1,5 @@
 -- What the streams, callers and feeders of a run have to do with it, while it goes on.
-use Rattle.std.specs.Prelude.{◌≡◌, ℕ, ◌+◌, ◌<◌, ◌^◌, List, [], ◌∷◌, All, drop, get_or, length}
+use Rattle.std.specs.Prelude.{◌≡◌, ℕ, ◌+◌, ◌<◌, ◌^◌, List, [], All, drop, get_or, length}
 use prog.Memory.{size}
 use mir.Syntax.{Ty}
 use denote.RattleType.{RattleType}
@@ -9,9 +9,6 @@ use Rattle.strm_module.specs.declared.shape.Shape.{Shape}
 use Rattle.strm_module.specs.declared.vocabulary.Kinds.{Ghosts}
 use Rattle.strm_module.specs.contracts.boxed.Boxed as boxed
 use Rattle.strm_history.specs.contracts.call.Called as called
-use Rattle.strm_history.specs.declared.call.Called.{Called}
-use Rattle.strm_history.specs.declared.call.Called.TheVariants.{Done, NoRoom}
-use Rattle.strm_call.specs.declared.answer.Answer.{Answer}
 use Rattle.strm_history.specs.declared.setup.Setup.{Setup}
 use Rattle.strm_shared.specs.Seat.{SeatValue}
 use Rattle.strm_shared.specs.Feed.{FeedValue}
@@ -27,12 +24,7 @@ Fits of = size of < 2 ^ 63
 
 -- what becomes of a call does (`CallsFit`), passed on
 abbrev pub CallsDoFit : (M K : RattleType) → Ghosts K.Denot → Type 0
-CallsDoFit M K kinds = Fits (layout (called.the_row (boxed.the_row M K kinds)))
-
--- what a call that was made tells: its answer
-abbrev pub told_of : {P : Type 0} → Called P → List Answer
-told_of (Done answer back) = answer ∷ []
-told_of (NoRoom same) = []
+CallsDoFit M K kinds = Fits (layout (called.the_row (boxed.the_row M K kinds) K))
 
 -- the streams of a run, in order, shared by its callers
 pub record AreStreams {K : Type 0} (run : RunValue K) (streams : List SharedValue) : Type 0 where
@@ -46,10 +38,9 @@ pub record IsSeated {K : Type 0} (run : RunValue K) (caller k : ℕ) (left : Lis
   pub next : drop seat.calls (calls_on k (script_of run.scripts caller)) ≡ calls_on k left
   pub many : seat.calls + length (calls_on k left) ≡ length (calls_on k (script_of run.scripts caller))
 
--- a caller that has these calls left, each on a stream that is there, with a seat on each stream and as many lists of answers
-pub record IsPlayer {K : Type 0} (run : RunValue K) (caller : ℕ) (left : List (ScriptCall (Shape K))) (seats : List SeatValue) (answers : ℕ) : Type 0 where
+-- a caller that has these calls left, each on a stream that is there, with a seat on each stream
+pub record IsPlayer {K : Type 0} (run : RunValue K) (caller : ℕ) (left : List (ScriptCall (Shape K))) (seats : List SeatValue) : Type 0 where
   pub many : length seats ≡ length run.setups
-  pub told : answers ≡ length run.setups
   pub there : All (λ one. one.stream < length run.setups) left
   pub seated : (k : ℕ) (d : SeatValue) → k < length seats → IsSeated run caller k left (get_or seats k d)
 
@@ -58,10 +49,9 @@ pub record HasPlayed {K : Type 0} (run : RunValue K) (k : ℕ) (seat : SeatValue
   pub number : seat.number ≡ k
   pub calls : seat.calls ≡ length (calls_on k (script_of run.scripts seat.caller))
 
--- a caller that has played its script, with a seat on each stream and as many lists of answers
-pub record ArePlayed {K : Type 0} (run : RunValue K) (seats : List SeatValue) (answers : ℕ) : Type 0 where
+-- a caller that has played its script, with a seat on each stream
+pub record ArePlayed {K : Type 0} (run : RunValue K) (seats : List SeatValue) : Type 0 where
   pub many : length seats ≡ length run.setups
-  pub told : answers ≡ length run.setups
   pub each : (k : ℕ) (d : SeatValue) → k < length seats → HasPlayed run k (get_or seats k d)
 
 -- a feeder that has offered none of its feed

@@ -12,7 +12,7 @@ use Rattle.strm_crew.specs.declared.script.Feed.{Feed}
 
 -- what becomes of a call fits into memory, as each type does that a compiler takes: for modules and kinds of these types
 abbrev pub CallsFit : (M K : RattleType) → Ghosts K.Denot → Type 0
-CallsFit M K kinds = FitsInMemory (called.the_row (boxed.the_row M K kinds))
+CallsFit M K kinds = FitsInMemory (called.the_row (boxed.the_row M K kinds) K)
 
 -- what a run is about: how its streams are made, the scripts of its callers, and what its lines are fed
 pub record RunValue (K : Type 0) : Type 0 where

@@ -63,7 +63,3 @@ module _ {K : Type 0} (means : Meaning K) where
   pub record AreLogs (run : RunValue K) (logs : List (StreamLog K)) : Type 0 where
     pub many : length logs ≡ length run.setups
     pub each : (k : ℕ) (s : Setup) (d : StreamLog K) → k < length run.setups → IsLog run k (get_or run.setups k s) (get_or logs k d)
-
-  -- each stream of a run has ended, and left a log
-  abbrev pub HaveEnded : RunValue K → Type 0
-  HaveEnded run = (logs : List (StreamLog K)) × AreLogs run logs

@@ -3,37 +3,22 @@ ghost use Rattle.std.specs.Prelude.{◌≡◌, ◌<◌, ◌^◌, [], length, All
 ghost use Rattle.strm_crew.specs.Dealing.{callers_of, AreDealt, AreSeated};
 
 use crate::about::Plays;
+use crate::account::accounts_of;
 use crate::player::Player;
 use crate::script::Script;
 use std::alloc::Global;
-use std::collections::VecDeque;
 use std::mem;
-use strm_head::Answer;
 use strm_module::{Boxed, ModuleOf};
 use strm_msg::NoMem;
 use strm_shared::Seat;
-
-/// A list of answers for each stream, with none in it. Refused for want of memory alone.
-fn no_answers(alloc: Global, streams: usize) -> Result<Vec<VecDeque<Answer>>, NoMem>
-    ensures many { IfOk result (λ all. length all.items ≡ streams) }
-    ensures none { IfOk result (λ all. All (λ answers. answers.items ≡ []) all.items) }
-{
-    let mut all = Vec::new(alloc);
-    for _ in 0..streams {
-        all.push(VecDeque::new(alloc))?;
-    }
-    Ok(all)
-}
 
 /// The callers of a run, in order, each with its script and its seats. Refused for want of memory alone.
 pub fn seated<M: ModuleOf, N: Plays<M::Kind>>(
     alloc: Global,
     scripts: Vec<Script<Boxed<M>>>,
     mut seats: Vec<Vec<Seat>>,
-    streams: usize,
 ) -> Result<Vec<Player<M, N>>, NoMem>
     requires scripts { N.run.scripts ≡ scripts.items }
-    requires streams { length N.run.setups ≡ streams }
     requires few { length scripts.items < 2 ^ 32 }
     requires there { All (λ script. All (λ one. one.stream < length N.run.setups) script.calls.items) scripts.items }
     requires seats { AreSeated N.run seats.items }
@@ -43,8 +28,8 @@ pub fn seated<M: ModuleOf, N: Plays<M::Kind>>(
     let mut caller: u32 = 0;
     for script in scripts {
         let mine = mem::replace(&mut seats[caller as usize], Vec::new(alloc));
-        let answers = no_answers(alloc, streams)?;
-        all.push(Player::new(caller, script.calls, mine, answers))?;
+        let accounts = accounts_of(alloc, mine)?;
+        all.push(Player::new(caller, script.calls, accounts))?;
         caller += 1;
     }
     Ok(all)

@@ -6,19 +6,19 @@
 #![tactic(auto)]
 
 mod about;
+mod account;
 mod dealing;
 mod feeding;
 mod player;
 mod script;
 mod streams;
-mod told;
 mod transcript;
 
 pub use about::{Of, Plays};
+pub use account::{Account, holds_all};
 pub use dealing::{deal, seated};
 pub use feeding::{Feeding, Offered};
 pub use player::{Played, Player};
 pub use script::{Feed, Gate, Script, ScriptCall};
 pub use streams::Streams;
-pub use told::are_all_told;
 pub use transcript::{StreamLog, Transcript, log_of};

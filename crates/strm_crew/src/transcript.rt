@@ -8,7 +8,7 @@ ghost use Rattle.strm_crew.specs.Transcript.{has_come_in};
 
 use arrayvec::ArrayVec;
 use strm_head::{Event, MOST_MODULES, Name, Stream};
-use strm_history::Entry;
+use strm_history::Kept;
 use strm_module::ModuleOf;
 use strm_msg::End;
 use strm_shared::Ended;
@@ -17,7 +17,7 @@ use strm_shared::Ended;
 #[derive(Drop)]
 pub struct StreamLog<K> {
     /// Every step, in order.
-    pub history: Vec<Entry<K>>,
+    pub history: Vec<Kept<K>>,
     /// The names of the modules on end A, topmost first; `None` where it is closed.
     pub a: Option<ArrayVec<Name, MOST_MODULES>>,
     /// The names of the modules on end B, topmost first; `None` where it is closed or not there.
@@ -58,14 +58,17 @@ fn has_come_in<P>(event: &Event<P>) -> bool
 }
 
 /// How many steps are of a message that came in.
-fn count_landed<K>(history: &[Entry<K>]) -> usize
+fn count_landed<K>(history: &[Kept<K>]) -> usize
     ensures { result ≡ count_by (λ entry. has_come_in entry.event) history.now }
 {
-    history.iter().filter(|e| has_come_in(&e.event)).count()
+    history
+        .iter()
+        .filter(|kept| has_come_in(&kept.entry().event))
+        .count()
 }
 
 /// How many messages came in.
-fn count_arrivals<K>(history: &[Entry<K>]) -> u64
+fn count_arrivals<K>(history: &[Kept<K>]) -> u64
     ensures { result ≡ length (arrivals history.now) }
 {
     count_landed(history) as u64
@@ -73,18 +76,14 @@ fn count_arrivals<K>(history: &[Entry<K>]) -> u64
 
 /// What is left of a stream that has ended, with how many messages of its feed were handed back.
 pub fn log_of<M: ModuleOf>(ended: Ended<M>, overrun: u64) -> StreamLog<M::Kind>
-    ensures history { result.history.items ≡ ended.history.items }
+    ensures history { result.history.items ≡ ended.history }
     ensures a { result.a ≡ names_at (end_of ended.stream A) }
     ensures b { result.b ≡ names_at (end_of ended.stream B) }
-    ensures accepted { result.accepted ≡ length (arrivals ended.history.items) + length ended.left.items }
-    ensures arrived { result.arrived ≡ length (arrivals ended.history.items) }
+    ensures accepted { result.accepted ≡ length (arrivals ended.history) + length ended.left }
+    ensures arrived { result.arrived ≡ length (arrivals ended.history) }
     ensures overrun { result.overrun ≡ overrun }
 {
-    let Ended {
-        history,
-        stream,
-        left,
-    } = ended;
+    let (history, stream, left) = ended.into_parts();
     let arrived = count_arrivals(history.as_slice());
     StreamLog {
         history,

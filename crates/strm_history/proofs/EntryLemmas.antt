@@ -18,15 +18,10 @@ use Rattle.strm_head.specs.Answered.{AnsweredCall, IsLooked, IsBounded}
 use Rattle.strm_head.specs.Begin.{begun_of, changes_modules, handed_out, back_of, out_of, serials_of}
 use Rattle.strm_head.specs.Step.{Step, Lands, arrived_of}
 use Rattle.strm_history.specs.declared.entry.Entry.{Entry}
-use Rattle.strm_history.specs.declared.entry.Who.TheVariants.{Caller}
 use Rattle.strm_history.specs.Entry.{serial_of, out_in, due_back, IsStep}
 use Rattle.strm_history.specs.History.{Legal}
 use Rattle.strm_history.specs.Log.{arrival_entry}
-
--- the entry of a call that was made
-abbrev pub call_entry : {K : Type 0} → ℕ → End → Request (Shape K) → Answer → List Place → ℕ → List ℕ → Entry K
-call_entry caller e request answer moves looks out =
-    record { who = Caller caller; end = e; event = Asked request; answer = answer; moves = moves; looks = looks; out = record { items = out } }
+use Rattle.strm_history.specs.Receipt.{filled, RoomValue}
 
 -- for kinds of any meaning
 module _ {K : Type 0} (means : Meaning K) where
@@ -85,11 +80,11 @@ module _ {K : Type 0} (means : Meaning K) where
   no_serials image e request answer out back same o b =
       o ∙ ap (λ l. out_in answer l) b ∙ out_back image e request answer ∙ none_out image e request answer same
 
-  -- a call, with the serials of the modules that came back, and the request as its history has it
-  pub call_step : (image : Image K) (caller : ℕ) (e : End) (request copy : Request (Shape K)) (made : AnsweredCall) (twin : Answer) (moves : List Place) (looks : ℕ) (out : List ℕ) (back : List (Option (Shape K))) (after : Image K) → copy ≡ request → twin ≡ made.answer → moves ≡ made.moves → looks ≡ made.looks → out ≡ out_in made.answer back → back ≡ back_of means image e request made.answer → Step means image e (Asked request) made.answer made.moves (out_of means image e request made.answer) after → IsLooked made.answer made.moves made.looks → (IsCalm means → IsBounded (begun_of means image e request).image made.answer made.moves made.looks after) → IsStep means image (call_entry caller e copy twin moves looks out) after
-  call_step image caller e request copy made twin moves looks out back after same equal m l o b step looked bound =
+  -- a call, with the serials of the modules that came back, and what was asked as its history has it
+  pub call_step : (image : Image K) (room : RoomValue K) (e : End) (request : Request (Shape K)) (made : AnsweredCall) (twin : Answer) (moves : List Place) (looks : ℕ) (out : List ℕ) (back : List (Option (Shape K))) (after : Image K) → room.end ≡ e → room.event ≡ Asked request → twin ≡ made.answer → moves ≡ made.moves → looks ≡ made.looks → out ≡ out_in made.answer back → back ≡ back_of means image e request made.answer → Step means image e (Asked request) made.answer made.moves (out_of means image e request made.answer) after → IsLooked made.answer made.moves made.looks → (IsCalm means → IsBounded (begun_of means image e request).image made.answer made.moves made.looks after) → IsStep means image (filled room twin moves looks (record { items = out })) after
+  call_step image room e request made twin moves looks out back after at same equal m l o b step looked bound =
       let taken : out ≡ out_of means image e request made.answer = o ∙ ap (λ l. out_in made.answer l) b ∙ out_back image e request made.answer in
-      rw (same, equal, m, l, taken) (record { by = refl; step = step; looks = looked; bound = bound })
+      rw (at, same, equal, m, l, taken) (record { by = refl; step = step; looks = looked; bound = bound })
 
   -- what comes back of a call has the serials that must
   pub call_back : (request : Request (Shape K)) (answer : Answer) (out : List ℕ) (back : List (Option (Shape K))) (image : Image K) (e : End) → out ≡ out_in answer back → back ≡ back_of means image e request answer → flat_map serial_of back ≡ due_back (Asked request) answer out

@@ -1,12 +1,12 @@
 -- What a call and an arrival leave, as the history then is.
-use Rattle.std.proofs.Common.{◌≡◌, ℕ, ◌++◌, List, [], ◌∷◌, Option, refl, sym, ◌∙◌, ap}
+use Rattle.std.proofs.Common.{◌≡◌, ℕ, ◌++◌, List, [], ◌∷◌, Option, refl, sym, ◌∙◌}
+use Rattle.std.specs.Prelude.{IfSome}
 use Rattle.strm_msg.specs.Message.{Msg}
 use Rattle.strm_msg.specs.declared.words.End.TheVariants.{A}
 use Rattle.strm_module.specs.Kinds.{Meaning}
 use Rattle.strm_module.specs.Calm.{IsCalm}
 use Rattle.strm_module.specs.declared.shape.Shape.{Shape}
 use Rattle.strm_ends.specs.declared.place.Place.{Place}
-use Rattle.strm_call.specs.declared.request.Request.{Request}
 use Rattle.strm_call.specs.declared.answer.Answer.{Answer}
 use Rattle.strm_head.specs.declared.event.Event.TheVariants.{Asked}
 use Rattle.strm_head.specs.Answered.{AnsweredCall, IsLooked, IsBounded}
@@ -16,7 +16,8 @@ use Rattle.strm_history.specs.declared.entry.Entry.{Entry}
 use Rattle.strm_history.specs.declared.call.Call.{Call}
 use Rattle.strm_history.specs.Entry.{out_in, IsStep}
 use Rattle.strm_history.specs.Log.{LogValue, arrival_entry, HasLanded, IsCalled}
-use Rattle.strm_history.proofs.EntryLemmas.{call_entry, call_back, landed_step}
+use Rattle.strm_history.specs.Receipt.{filled, ReceiptValue, RoomValue}
+use Rattle.strm_history.proofs.EntryLemmas.{call_back, landed_step}
 
 -- for kinds of any meaning
 module _ {K : Type 0} (means : Meaning K) where
@@ -36,14 +37,14 @@ module _ {K : Type 0} (means : Meaning K) where
     };
   }
 
-  -- a call that was made stands in the history
-  pub called : (old new : LogValue K) (caller : ℕ) (call : Call (Shape K)) (copy : Request (Shape K)) (made : AnsweredCall) (answer twin : Answer) (moves : List Place) (looks : ℕ) (out : List ℕ) (back : List (Option (Shape K))) → copy ≡ call.request → answer ≡ made.answer → twin ≡ made.answer → out ≡ out_in made.answer back → back ≡ back_of means old.image call.end call.request made.answer → IsStep means old.image (call_entry caller call.end copy twin moves looks out) new.image → new.history ≡ old.history ++ call_entry caller call.end copy twin moves looks out ∷ [] → new.setup ≡ old.setup → IsCalled means old caller call answer back new
-  called old new caller call copy made answer twin moves looks out back same a equal o b step history setup = record {
+  -- a call that was made stands in the history, as its receipt shows
+  pub called : (old new : LogValue K) (room : RoomValue K) (call : Call (Shape K)) (made : AnsweredCall) (answer twin : Answer) (moves : List Place) (looks : ℕ) (out : List ℕ) (back : List (Option (Shape K))) (receipt : Option (ReceiptValue K)) → room.end ≡ call.end → room.event ≡ Asked call.request → answer ≡ made.answer → twin ≡ made.answer → out ≡ out_in made.answer back → back ≡ back_of means old.image call.end call.request made.answer → IsStep means old.image (filled room twin moves looks (record { items = out })) new.image → new.history ≡ old.history ++ filled room twin moves looks (record { items = out }) ∷ [] → new.setup ≡ old.setup → IfSome receipt (λ r. r ≡ record { caller = room.caller; number = room.number; entry = filled room twin moves looks (record { items = out }) }) → IsCalled means old room.caller room.number call answer back receipt new
+  called old new room call made answer twin moves looks out back receipt at same a equal o b step history setup shown = record {
     enters = record {
-      entry = call_entry caller call.end copy twin moves looks out;
+      entry = filled room twin moves looks (record { items = out });
       by = refl;
-      at = refl;
-      has = ap (λ r. Asked r) same;
+      at = at;
+      has = same;
       answers = equal ∙ sym a;
       step = step;
       history = history;
@@ -51,4 +52,5 @@ module _ {K : Type 0} (means : Meaning K) where
     };
     comes_back = rw a b;
     handed = rw (same, a) (call_back means call.request made.answer out back old.image call.end o b);
+    shown = shown;
   }

@@ -1,5 +1,5 @@
 -- Histories: what happened to a stream, entry by entry.
-use Rattle.std.specs.Prelude.{◌≡◌, ℕ, List, [], ◌∷◌, filter, flat_map, length}
+use Rattle.std.specs.Prelude.{◌≡◌, ℕ, zero, suc, Option, None, List, [], ◌∷◌, filter, flat_map, length, slice_get}
 use Rattle.strm_msg.specs.Message.{Msg}
 use Rattle.strm_module.specs.Kinds.{Meaning}
 use Rattle.strm_ends.specs.Image.{Image}
@@ -13,6 +13,11 @@ own caller history = filter (λ entry. is_caller caller entry.who) history
 -- how many calls a caller has made
 abbrev pub calls_of : {K : Type 0} → ℕ → List (Entry K) → ℕ
 calls_of caller history = length (own caller history)
+
+-- the entry of a caller's call of this number, counted from 1
+abbrev pub entry_at : {K : Type 0} → ℕ → ℕ → List (Entry K) → Option (Entry K)
+entry_at caller zero history = None
+entry_at caller (suc before) history = slice_get (own caller history) before
 
 -- the messages that came in, in order
 abbrev pub arrivals : {K : Type 0} → List (Entry K) → List Msg

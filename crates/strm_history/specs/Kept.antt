@@ -1,8 +1,9 @@
--- The serials that are kept of what a call took out.
-use Rattle.std.specs.Prelude.{ℕ, Option, Some, None, []}
-use Rattle.arrayvec.specs.ArrayVec.{ArrayVec}
+-- Where the entries of a history stand.
+use Rattle.strm_history.specs.declared.entry.Entry.{Entry}
+use Rattle.strm_history.specs.declared.kept.Stored.{Stored}
+use Rattle.strm_history.specs.declared.kept.Stored.TheVariants.{InCell, Plain}
 
--- there are none without a place for them
-abbrev pub serials_in : Option (ArrayVec ℕ) → ArrayVec ℕ
-serials_in None = record { items = [] }
-serials_in (Some serials) = serials
+-- the entry that stands there
+abbrev pub entry_of : {K : Type 0} → Stored K → Entry K
+entry_of (InCell entry) = entry
+entry_of (Plain entry) = entry.value

@@ -1,6 +1,8 @@
 pub mod Setup
+pub mod Out
 pub mod Kept
 pub mod Entry
+pub mod Receipt
 pub mod Serials
 pub mod History
 pub mod Log

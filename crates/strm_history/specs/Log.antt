@@ -1,5 +1,5 @@
 -- What a call and an arrival do to a stream that keeps its history.
-use Rattle.std.specs.Prelude.{◌≡◌, ℕ, Bool, true, false, List, [], ◌∷◌, ◌++◌, Option, flat_map}
+use Rattle.std.specs.Prelude.{◌≡◌, ℕ, Bool, true, false, List, [], ◌∷◌, ◌++◌, Option, IfSome, flat_map, is_some}
 use Rattle.strm_msg.specs.Message.{Msg}
 use Rattle.strm_msg.specs.declared.words.End.{End}
 use Rattle.strm_msg.specs.declared.words.End.TheVariants.{A}
@@ -22,6 +22,7 @@ use Rattle.strm_history.specs.declared.call.Called.TheVariants.{Done, NoRoom}
 use Rattle.strm_history.specs.declared.call.Landed.{Landed}
 use Rattle.strm_history.specs.declared.call.Landed.TheVariants.{Entered, Full, NoMem}
 use Rattle.strm_history.specs.Entry.{serial_of, due_back, IsStep}
+use Rattle.strm_history.specs.Receipt.{ReceiptValue}
 
 -- a stream with its history: how it was made, its image, and its history
 pub record LogValue (K : Type 0) : Type 0 where
@@ -30,9 +31,14 @@ pub record LogValue (K : Type 0) : Type 0 where
   pub history : List (Entry K)
 
 -- the call was made
-abbrev pub is_done : {P : Type 0} → Called P → Bool
-is_done (Done answer back) = true
+abbrev pub is_done : {P K : Type 0} → Called P K → Bool
+is_done (Done answer back receipt) = true
 is_done (NoRoom same) = false
+
+-- it was made and has a receipt
+abbrev pub has_receipt : {P K : Type 0} → Called P K → Bool
+has_receipt (Done answer back receipt) = is_some receipt
+has_receipt (NoRoom same) = false
 
 -- the entry of a message that came in
 abbrev pub arrival_entry : {K : Type 0} → Msg → Answer → List Place → ℕ → Entry K
@@ -52,16 +58,18 @@ module _ {K : Type 0} (means : Meaning K) where
     pub history : new.history ≡ old.history ++ entry ∷ []
     pub setup : new.setup ≡ old.setup
 
-  -- a call that was made: a step that the history has, whose answer and modules the caller has
-  pub record IsCalled (old : LogValue K) (caller : ℕ) (call : Call (Shape K)) (answer : Answer) (back : List (Option (Shape K))) (new : LogValue K) : Type 0 where
+  -- a call that was made: a step that the history has, whose answer and modules the caller has, and whose entry the receipt shows,
+  -- if there is one
+  pub record IsCalled (old : LogValue K) (caller number : ℕ) (call : Call (Shape K)) (answer : Answer) (back : List (Option (Shape K))) (receipt : Option (ReceiptValue K)) (new : LogValue K) : Type 0 where
     pub enters : Enters old (Caller caller) call.end (Asked call.request) answer new
     pub comes_back : back ≡ back_of means old.image call.end call.request answer
     pub handed : flat_map serial_of back ≡ due_back enters.entry.event answer enters.entry.out.items
+    pub shown : IfSome receipt (λ r. r ≡ record { caller = caller; number = number; entry = enters.entry })
 
-  -- a call is made, or comes back and changes nothing
-  abbrev pub CallsBy : LogValue K → ℕ → Call (Shape K) → Called (Shape K) → LogValue K → Type 0
-  CallsBy old caller call (Done answer back) new = IsCalled old caller call answer back.items new
-  CallsBy old caller call (NoRoom same) new = (same ≡ call) × (new ≡ old)
+  -- the caller's call of this number is made, or comes back and changes nothing
+  abbrev pub CallsBy : LogValue K → ℕ → ℕ → Call (Shape K) → Called (Shape K) K → LogValue K → Type 0
+  CallsBy old caller number call (Done answer back receipt) new = IsCalled old caller number call answer back.items receipt new
+  CallsBy old caller number call (NoRoom same) new = (same ≡ call) × (new ≡ old)
 
   -- a message that came in: a step that the history has
   pub record HasLanded (old : LogValue K) (m : Msg) (new : LogValue K) : Type 0 where

@@ -8,7 +8,7 @@ use strm_msg::NoMem;
 
 /// A request as a history has it: a copy, with the module's shape in the module's place. Refused for
 /// want of memory alone.
-pub fn copy_request<M: ModuleOf>(
+pub(crate) fn copy_request<M: ModuleOf>(
     alloc: Global,
     request: &Request<Boxed<M>>,
 ) -> Result<Request<BoxedShape<M::Kind>>, NoMem>

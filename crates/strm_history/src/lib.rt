@@ -7,13 +7,20 @@
 mod call;
 mod copying;
 mod entry;
+mod kept;
 mod log;
+mod receipt;
+mod room;
+mod same;
 mod serials;
 mod setup;
 
 pub use call::{Call, Called, Landed};
-pub use copying::copy_request;
 pub use entry::{Entry, Who};
+pub use kept::Kept;
 pub use log::Log;
+pub use receipt::Receipt;
+pub use room::{Room, room_for};
+pub use same::SameKind;
 pub use serials::Serials;
 pub use setup::{MOST_RING, Setup};

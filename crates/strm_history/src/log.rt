@@ -3,20 +3,22 @@ ghost use Rattle.std.specs.Prelude.{◌≡◌, ◌↔◌, true, false, [], IfOk,
 ghost use Rattle.strm_msg.specs.Kind.{is_from_line};
 ghost use Rattle.strm_history.specs.Setup.{is_fit, opened};
 ghost use Rattle.strm_history.specs.History.{Legal};
-ghost use Rattle.strm_history.specs.Log.{arrival_entry, CallsBy, Lands};
+ghost use Rattle.strm_history.specs.Log.{CallsBy, Lands};
+ghost use Rattle.strm_head.specs.declared.event.Event.TheVariants.{Asked};
 ghost use Rattle.strm_history.specs.Serials.{AreAccounted};
 
 use crate::call::{Call, Called, Landed};
-use crate::copying::copy_request;
-use crate::entry::{Entry, Who, taken_out};
-use crate::serials::{Serials, room_for};
+use crate::entry::{Entry, taken_out};
+use crate::kept::Kept;
+use crate::room::{Room, room_for, room_for_arrival, taken};
 use crate::setup::Setup;
 use arrayvec::ArrayVec;
 use std::alloc::Global;
 use std::marker::Model;
-use strm_head::{Answer, Arrived, Event, Moves, NewFault, Reply, Request, Stream};
-use strm_module::{Boxed, BoxedShape, ModuleOf};
-use strm_msg::{End, Message};
+use strm_head::{Arrived, NewFault, Stream};
+use strm_module::{Boxed, ModuleOf};
+use strm_msg::Message;
+use strm_once::Cells;
 
 /// A stream that keeps its history.
 ///
@@ -26,7 +28,8 @@ use strm_msg::{End, Message};
 pub struct Log<M: ModuleOf> {
     setup: Setup,
     stream: Stream<M>,
-    history: Vec<Entry<M::Kind>>,
+    history: Vec<Kept<M::Kind>>,
+    cells: Cells<Entry<M::Kind>>,
     alloc: Global,
 }
 
@@ -42,21 +45,6 @@ impl<M: ModuleOf> Model for Log<M> {
     ghost invariant = { λ s. Legal M.Kind.means (opened s.setup) s.history.items s.stream };
 }
 
-/// The entry of a message that came in.
-fn arrival<K>(m: Message, answer: Answer, moves: Moves, looks: u64) -> Entry<K>
-    ensures { result ≡ arrival_entry m answer moves looks }
-{
-    Entry {
-        who: Who::Line,
-        end: End::A,
-        event: Event::Arrived(m),
-        answer,
-        moves,
-        looks,
-        out: Serials::none(),
-    }
-}
-
 impl<M: ModuleOf> Log<M> {
     /// A stream that was just made, to which nothing has happened yet.
     ///
@@ -67,62 +55,62 @@ impl<M: ModuleOf> Log<M> {
         ensures marks { IsErrOf result NewFault.Marks ↔ (is_fit setup ≡ false) }
     {
         let stream = Stream::new(alloc, setup.driver, setup.head, setup.drv)?;
+        let Ok(cells) = Cells::new(alloc) else {
+            return Err(NewFault::NoMem);
+        };
         Ok(Log {
             setup,
             stream,
             history: Vec::new(alloc),
+            cells,
             alloc,
         })
     }
 
-    /// One call of a caller, of whatever number: a step of the stream, and an entry of the history that
-    /// has the caller, the call and its answer.
+    /// One call of a caller, its call of this number: a step of the stream, and an entry of the history that has the
+    /// caller, the call and its answer, which the receipt shows. Whoever counts a caller's calls gives the number.
     ///
-    /// Room for the entry is found first, and the request is copied for it: where memory is wanting for
-    /// that, the call comes back and nothing is changed.
-    pub fn call(&mut self, caller: u32, call: Call<Boxed<M>>) -> Called<Boxed<M>>
-        ensures { CallsBy M.Kind.means self.old caller call result self.new }
+    /// Room for the entry is found first, and the request is copied for it: where memory is wanting for that, the call
+    /// comes back and nothing is changed.
+    pub fn call(
+        &mut self,
+        caller: u32,
+        number: u64,
+        call: Call<Boxed<M>>,
+    ) -> Called<Boxed<M>, M::Kind>
+        ensures { CallsBy M.Kind.means self.old caller number call result self.new }
     {
-        match copy_request(self.alloc, &call.request) {
-            Ok(copy) => self.enter(caller, call, copy),
+        match room_for(self.alloc, caller, number, &call) {
+            Ok(room) => self.enter(call, room),
             Err(_) => Called::NoRoom(call),
         }
     }
 
-    /// One call, as `call` makes it, with a copy of its request for the history that was made before, as
-    /// where a lock is held for the call.
-    pub fn enter(
-        &mut self,
-        caller: u32,
-        call: Call<Boxed<M>>,
-        copy: Request<BoxedShape<M::Kind>>,
-    ) -> Called<Boxed<M>>
-        requires { copy ≡ call.request }
-        ensures { CallsBy M.Kind.means self.old caller call result self.new }
+    /// One call, as `call` makes it, with room that was found for its entry before, as where a lock is held for the call.
+    pub fn enter(&mut self, call: Call<Boxed<M>>, room: Room<M::Kind>) -> Called<Boxed<M>, M::Kind>
+        requires { (room.end ≡ call.end) × (room.event ≡ Asked call.request) }
+        ensures { CallsBy M.Kind.means self.old room.caller room.number call result self.new }
     {
-        let Ok(room) = room_for(self.alloc, &call.request) else {
-            drop(copy);
+        let Ok(cell) = self.cells.next(self.alloc) else {
+            drop(room);
             return Called::NoRoom(call);
         };
         let Ok(()) = self.history.reserve(1) else {
-            drop(copy);
+            drop(cell);
             drop(room);
             return Called::NoRoom(call);
         };
         let Call { end, request } = call;
         let mut back = ArrayVec::new();
         let (answer, twin, settled) = self.stream.call(end, request, &mut back).into_parts();
-        let out = Serials::in_room(taken_out(&answer, &back), room);
-        self.history.push_reserved(Entry {
-            who: Who::Caller(caller),
-            end,
-            event: Event::Asked(copy),
-            answer: twin,
-            moves: settled.moves,
-            looks: settled.looks,
-            out,
-        });
-        Called::Done { answer, back }
+        let out = taken_out(&answer, &back);
+        let (kept, receipt) = room.fill(cell, twin, settled.moves, settled.looks, out);
+        self.history.push_reserved(kept);
+        Called::Done {
+            answer,
+            back,
+            receipt,
+        }
     }
 
     /// A message comes in from a line: a step of the stream and an entry of the history, or it comes back
@@ -134,41 +122,28 @@ impl<M: ModuleOf> Log<M> {
         requires { is_from_line m.kind ≡ true }
         ensures { Lands M.Kind.means self.old m result self.new }
     {
-        match m.copy(self.alloc) {
-            Ok(copy) => self.land(m, copy),
-            Err(_) => Landed::NoMem(m),
-        }
-    }
-
-    /// A message comes in, as `arrive` takes it in, with a copy of it for the history that was made
-    /// before, as where a lock is held for the arrival.
-    pub fn land(&mut self, m: Message, copy: Message) -> Landed
-        requires line { is_from_line m.kind ≡ true }
-        requires same { copy ≡ m }
-        ensures { Lands M.Kind.means self.old m result self.new }
-    {
+        let Ok(entry) = room_for_arrival(self.alloc, &m) else {
+            return Landed::NoMem(m);
+        };
         if self.history.reserve(1).is_err() {
-            drop(copy);
+            drop(entry);
             return Landed::NoMem(m);
         }
         match self.stream.arrive(m) {
             Arrived::Taken { moves, looks } => {
-                self.history
-                    .push_reserved(arrival(copy, Answer::Done(Reply::Line), moves, looks));
+                self.history.push_reserved(taken(entry, moves, looks));
                 Landed::Entered
             }
             Arrived::Broke => {
-                let moves = Moves::new(self.alloc);
-                self.history
-                    .push_reserved(arrival(copy, Answer::Broke, moves, 0));
+                self.history.push_reserved(Kept::plain(entry));
                 Landed::Entered
             }
             Arrived::Full(m) => {
-                drop(copy);
+                drop(entry);
                 Landed::Full(m)
             }
             Arrived::NoMem(m) => {
-                drop(copy);
+                drop(entry);
                 Landed::NoMem(m)
             }
         }
@@ -189,7 +164,7 @@ impl<M: ModuleOf> Log<M> {
     }
 
     /// What happened to it, in order.
-    pub fn history(&self) -> &[Entry<M::Kind>]
+    pub fn history(&self) -> &[Kept<M::Kind>]
         ensures { result.now ≡ self.now.history }
     {
         self.history.as_slice()
@@ -197,7 +172,7 @@ impl<M: ModuleOf> Log<M> {
 
     /// The history and the stream to which it leads. Each module that was put in was taken out, or stands
     /// there.
-    pub fn into_parts(self) -> (Vec<Entry<M::Kind>>, Stream<M>)
+    pub fn into_parts(self) -> (Vec<Kept<M::Kind>>, Stream<M>)
         ensures history { result.0.items ≡ self.history }
         ensures stream { result.1 ≡ self.image }
         ensures legal { Legal M.Kind.means (opened self.setup) self.history self.image }
@@ -207,6 +182,7 @@ impl<M: ModuleOf> Log<M> {
             setup: _,
             stream,
             history,
+            cells: _,
             alloc: _,
         } = self;
         (history, stream)

@@ -20,7 +20,7 @@ pub struct Serials {
 impl Model for Serials {
     ghost use Rattle.std.specs.Prelude.{ℕ, option_map};
     ghost use Rattle.arrayvec.specs.ArrayVec.{ArrayVec};
-    ghost use Rattle.strm_history.specs.Kept.{serials_in};
+    ghost use Rattle.strm_history.specs.Out.{serials_in};
 
     ghost Value = { ArrayVec ℕ };
 
@@ -71,7 +71,7 @@ fn changes_modules<P>(request: &Request<P>) -> bool
 }
 
 /// Room for the serials of what a call takes out, if it may take something out. Refused for want of memory alone.
-pub(crate) fn room_for<P>(
+pub(crate) fn room_for_serials<P>(
     alloc: Global,
     request: &Request<P>,
 ) -> Result<Option<Box<AllSerials>>, NoMem>

@@ -37,7 +37,7 @@ fn called<M: ModuleOf, N: Runs<M::Kind>, R: Wait>(
     shared: &Shared<M, N>,
     seat: &mut Seat,
     call: Call<Boxed<M>>,
-) -> Called<Boxed<M>>
+) -> Called<Boxed<M>, M::Kind>
     requires number { seat.old.number ≡ shared.now.number }
     requires calls { (number caller : ℕ) → N.calls number caller ≡ None }
 {
@@ -45,10 +45,15 @@ fn called<M: ModuleOf, N: Runs<M::Kind>, R: Wait>(
 }
 
 /// Whether a call was refused for want of memory; or the call, where it came back.
-fn told(called: Called<Boxed<Plain>>) -> Result<bool, Call<Boxed<Plain>>> {
+fn told(called: Called<Boxed<Plain>, Kind>) -> Result<bool, Call<Boxed<Plain>>> {
     match called {
-        Called::Done { answer, back } => {
+        Called::Done {
+            answer,
+            back,
+            receipt,
+        } => {
             drop(back);
+            drop(receipt);
             let is_wanting = is_wanting(&answer);
             drop(answer);
             Ok(is_wanting)

@@ -67,7 +67,8 @@ pub fn measure<R: Files + Print + Clock + Threads + Wait + AllocGlobal + Sync>(
 /// Prints a line for each thing that happened: how many queues moved after it, and at how many places service looked.
 fn tell_moves(rt: &impl Print, transcript: &Transcript<Kind>) -> anyhow::Result<()> {
     for log in &transcript.streams {
-        for entry in &log.history {
+        for kept in &log.history {
+            let entry = kept.entry();
             println!(rt; "{} {}", entry.moves.len(), entry.looks)?;
         }
     }

@@ -14,5 +14,5 @@ pub may_be : {T There : Type 0} (workers : ℕ) (fault : RunFault) (r : Result T
 may_be workers runs.Workers r is by_workers by_place there = ap not (by_workers.0 is)
 may_be workers runs.NoSuch r is by_workers by_place there = absurd ((by_place.0 is).1 there)
 may_be workers runs.NoMem r is by_workers by_place there = refl
-may_be workers runs.Unlike r is by_workers by_place there = unless_false (is_crew workers) (λ out. let told = by_workers.1 out in absurd cc)
+may_be workers runs.NoReceipt r is by_workers by_place there = unless_false (is_crew workers) (λ out. let told = by_workers.1 out in absurd cc)
 may_be workers runs.Unfinished r is by_workers by_place there = unless_false (is_crew workers) (λ out. let told = by_workers.1 out in absurd cc)

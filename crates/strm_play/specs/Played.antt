@@ -50,8 +50,8 @@ abbrev pub may_have : ℕ → RunFault → Bool
 may_have workers runs.Workers = not (is_crew workers)
 may_have workers runs.NoSuch = false
 may_have workers runs.NoMem = true
-may_have workers runs.Unlike = is_crew workers
 may_have workers runs.Unfinished = is_crew workers
+may_have workers runs.NoReceipt = is_crew workers
 
 -- the bytes are a script, and its run may have this fault
 pub record IsFaultOfRun (bytes : List ℕ) (workers : ℕ) (fault : RunFault) : Type 0 where

@@ -1,33 +1,35 @@
 -- Streams of a run, as they end.
-use Rattle.std.proofs.Common.{◌≡◌, ℕ, zero, suc, ◌+◌, ◌<◌, ◌≤◌, not, Bool, true, false, Option, Some, None, Result, Ok, Err, List, [], ◌∷◌, ◌++◌, All, length, get_or, map, set, append-nil, IfOk, Vec, Global, refl, sym, ◌∙◌, ap, subst, arith, below_more}
-use Rattle.std.specs.Prelude.{nat_lt, IsOkAnd, MatchResult}
+use Rattle.std.proofs.Common.{◌≡◌, ℕ, zero, suc, ◌+◌, ◌<◌, ◌≤◌, not, Bool, true, false, Option, Some, None, Result, Ok, Err, List, [], ◌∷◌, ◌++◌, All, length, get_or, map, set, take, append-nil, IfOk, Vec, Global, refl, sym, ◌∙◌, ap, subst, arith, below_more}
+use Rattle.std.specs.Prelude.{nat_lt, Any, IfSome}
 use Rattle.std.proofs.lemmas.Bool.{eqb-true, ltb-true, ltb-false}
 use Rattle.std.proofs.Math.Seq.{get_or-append_seam}
-use Rattle.std.proofs.lemmas.List.{take_all, length-append, length-set, length_push, get_or-set_other, get_or_append_left}
+use Rattle.std.proofs.lemmas.List.{take_all, length-append, length-map, length-set, length_push, get_or-set_other, get_or_append_left}
 use Rattle.strm_msg.specs.Message.{Msg}
 use Rattle.strm_module.specs.Kinds.{Meaning}
 use Rattle.strm_head.specs.Step.{is_line}
 use Rattle.strm_history.specs.declared.setup.Setup.{Setup}
 use Rattle.strm_history.specs.declared.entry.Entry.{Entry}
 use Rattle.strm_shared.specs.declared.fault.EndFault.{EndFault}
-use Rattle.strm_shared.specs.declared.shared.Ended.{Ended}
+use Rattle.strm_shared.specs.Ended.{EndedValue}
 use Rattle.strm_history.specs.Setup.{opened}
 use Rattle.strm_history.specs.History.{own, calls_of, arrivals, Legal}
 use Rattle.strm_history.specs.Serials.{AreAccounted}
 use Rattle.strm_shared.specs.Seat.{SeatValue}
 use Rattle.strm_history.specs.Entry.{asked_of}
+use Rattle.strm_history.specs.Receipt.{ReceiptValue}
 use Rattle.strm_shared.specs.Turns.{AreFirstOf}
 use Rattle.strm_shared.specs.Feed.{FeedValue, accepted_of}
-use Rattle.strm_shared.specs.Ending.{SharedValue, AreSeats, CountsAgree, is_fed}
+use Rattle.strm_shared.specs.Ending.{SharedValue, AreSeats, AreShown, CountsAgree, is_fed}
 use Rattle.strm_run.specs.declared.fault.RunFault.{RunFault}
 use Rattle.strm_crew.specs.declared.script.Script.{Script}
 use Rattle.strm_crew.specs.declared.transcript.StreamLog.{StreamLog}
 use Rattle.strm_crew.specs.Scripts.{calls_on, script_of, feed_of}
+use Rattle.strm_crew.specs.Account.{AreReceipts, HasReceipts, IsHeld}
 use Rattle.strm_crew.specs.Run.{RunValue}
 use Rattle.strm_crew.specs.Transcript.{AreLogs, IsFed, IsLog, IsPartOf}
 use Rattle.strm_crew.specs.Play.{ArePlayed, AreStreams, HasPlayed}
 use Rattle.strm_run.specs.Inside.Table.{IsTransposed}
-use Rattle.strm_run.specs.Inside.Ending.{fault_of, AreLinesFed, AreSeatsPlayed, IsLogOf, IsOffered, IsStream}
+use Rattle.strm_run.specs.Inside.Ending.{AreLinesFed, AreParted, AreSeatsPlayed, AreTold, IsOffered, IsStream, Leaves}
 use Rattle.strm_run.proofs.TableLemmas.{row_there}
 
 -- past the last caller there is no script
@@ -92,29 +94,79 @@ fed_by run shared (Some feed) history left overrun log unfed offered fed came sa
     }
 
 -- what a stream leaves that ended
-pub log_left : {M K : Type 0} (means : Meaning K) (run : RunValue K) (shared : SharedValue) (seats : List SeatValue) (feed : Option FeedValue) (overrun : ℕ) (ended : Result (Ended M K) EndFault) (result : Result (StreamLog K) RunFault) → IsStream run shared → All (HasPlayed run shared.number) seats → (is_line shared.setup.driver ≡ false → feed_of run.feeds shared.number ≡ []) → IsOffered run feed overrun → MatchResult ended (λ done. IsOkAnd result (λ log. IsLogOf done.history.items done.stream done.left.items overrun log)) (λ fault. result ≡ Err (fault_of fault)) → IfOk ended (λ done. Legal means (opened shared.setup) done.history.items done.stream) → IfOk ended (λ done. AreAccounted (opened shared.setup) done.history.items done.stream) → IfOk ended (λ done. CountsAgree done.history.items seats) → IfOk ended (λ done. (caller : ℕ) → AreFirstOf (Some (calls_on shared.number (script_of run.scripts caller))) (own caller done.history.items)) → IfOk ended (λ done. arrivals done.history.items ++ done.left.items ≡ accepted_of feed) → IfOk ended (λ done. is_fed shared.number shared.setup feed ≡ true) → IfOk ended (λ done. AreSeats shared.number shared.seats seats) → IfOk result (λ log. IsLog means run shared.number shared.setup log)
-log_left means run shared seats feed overrun (Ok done) (Ok log) stream played unfed offered is legal accounts counts first came fed are = record {
-  legal = record {
-    after = done.stream;
-    legal = subst (λ h. Legal means (opened shared.setup) h done.stream) (sym is.same) legal;
-    accounts = subst (λ h. AreAccounted (opened shared.setup) h done.stream) (sym is.same) accounts;
-    a = is.a;
-    b = is.b;
-  };
-  calls = λ caller. subst (λ h. map asked_of (own caller h) ≡ calls_on shared.number (script_of run.scripts caller)) (sym is.same) (calls_all run shared seats stream are played done.history.items caller counts (first caller));
-  fed = fed_by run shared feed done.history.items done.left.items overrun log unfed offered fed came is.same is.accepted_is is.arrived is.overrun_is;
-}
-log_left means run shared seats feed overrun (Ok done) (Err fault) stream played unfed offered is legal accounts counts first came fed are = tt
-log_left means run shared seats feed overrun (Err fault) (Ok log) stream played unfed offered is legal accounts counts first came fed are = absurd cc
-log_left means run shared seats feed overrun (Err fault) (Err other) stream played unfed offered is legal accounts counts first came fed are = tt
+pub log_left : {K : Type 0} (means : Meaning K) (run : RunValue K) (shared : SharedValue) (seats : List SeatValue) (receipts : List (Vec (ReceiptValue K) Global)) (feed : Option FeedValue) (overrun : ℕ) (ended : Result (EndedValue K) EndFault) (result : Result (Option (StreamLog K)) RunFault) → IsStream run shared → All (HasPlayed run shared.number) seats → (is_line shared.setup.driver ≡ false → feed_of run.feeds shared.number ≡ []) → IsOffered run feed overrun → Leaves ended receipts overrun result → IfOk ended (λ done. Legal means (opened shared.setup) done.history done.stream) → IfOk ended (λ done. AreAccounted (opened shared.setup) done.history done.stream) → IfOk ended (λ done. CountsAgree done.history seats) → IfOk ended (λ done. (caller : ℕ) → AreFirstOf (Some (calls_on shared.number (script_of run.scripts caller))) (own caller done.history)) → IfOk ended (λ done. arrivals done.history ++ done.left ≡ accepted_of feed) → IfOk ended (λ done. is_fed shared.number shared.setup feed ≡ true) → IfOk ended (λ done. AreSeats shared.number shared.seats seats) → IfOk result (λ found. IfSome found (λ log. IsLog means run shared.number shared.setup log))
+log_left means run shared seats receipts feed overrun (Ok done) (Ok (Some log)) stream played unfed offered leaves legal accounts counts first came fed are =
+    let is = leaves.0 in
+    record {
+      legal = record {
+        after = done.stream;
+        legal = subst (λ h. Legal means (opened shared.setup) h done.stream) (sym is.same) legal;
+        accounts = subst (λ h. AreAccounted (opened shared.setup) h done.stream) (sym is.same) accounts;
+        a = is.a;
+        b = is.b;
+      };
+      calls = λ caller. subst (λ h. map asked_of (own caller h) ≡ calls_on shared.number (script_of run.scripts caller)) (sym is.same) (calls_all run shared seats stream are played done.history caller counts (first caller));
+      fed = fed_by run shared feed done.history done.left overrun log unfed offered fed came is.same is.accepted_is is.arrived is.overrun_is;
+    }
+log_left means run shared seats receipts feed overrun (Ok done) (Ok None) stream played unfed offered leaves legal accounts counts first came fed are = tt
+log_left means run shared seats receipts feed overrun (Ok done) (Err fault) stream played unfed offered leaves legal accounts counts first came fed are = tt
+log_left means run shared seats receipts feed overrun (Err fault) (Ok (Some log)) stream played unfed offered leaves legal accounts counts first came fed are = absurd leaves
+log_left means run shared seats receipts feed overrun (Err fault) (Ok None) stream played unfed offered leaves legal accounts counts first came fed are = tt
+log_left means run shared seats receipts feed overrun (Err fault) (Err other) stream played unfed offered leaves legal accounts counts first came fed are = tt
+
+-- one seat more, and its receipts
+pub parted_more : {K : Type 0} (run : RunValue K) (seats more : List SeatValue) (receipts longer : List (Vec (ReceiptValue K) Global)) (seat : SeatValue) (mine : Vec (ReceiptValue K) Global) → more ≡ seats ++ seat ∷ [] → longer ≡ receipts ++ mine ∷ [] → HasReceipts run seat mine.items → AreParted run seats receipts → AreParted run more longer
+parted_more {K} run seats more receipts longer seat mine is its has was =
+    let long : length more ≡ length seats + 1 = ap (λ l. length l) is ∙ length_push seats seat in
+    record {
+      many = ap (λ l. length l) its ∙ length_push receipts mine ∙ ap (λ n. n + 1) was.many ∙ sym long;
+      each = λ k s d below.
+          subst (λ l. HasReceipts run (get_or more k s) (get_or l k d).items) (sym its)
+          (subst (λ l. HasReceipts run (get_or l k s) (get_or (receipts ++ mine ∷ []) k d).items) (sym is)
+          (below_more (λ (n : ℕ). HasReceipts run (get_or (seats ++ seat ∷ []) n s) (get_or (receipts ++ mine ∷ []) n d).items) (length seats)
+          (λ n lower.
+          subst (λ (v : Vec (ReceiptValue K) Global). HasReceipts run (get_or (seats ++ seat ∷ []) n s) v.items) (sym (get_or_append_left receipts (mine ∷ []) d n (subst (λ m. n < m) (sym was.many) lower)))
+          (subst (λ (a : SeatValue). HasReceipts run a (get_or receipts n d).items) (sym (get_or_append_left seats (seat ∷ []) s n lower)) (was.each n s d lower)))
+          (subst (λ (v : Vec (ReceiptValue K) Global). HasReceipts run (get_or (seats ++ seat ∷ []) (length seats) s) v.items) (sym (ap (λ n. get_or (receipts ++ mine ∷ []) n d) (sym was.many) ∙ get_or-append_seam receipts mine [] d))
+          (subst (λ (a : SeatValue). HasReceipts run a mine.items) (sym (get_or-append_seam seats seat [] s)) has))
+          k (subst (λ n. k < n) long below)));
+    }
+
+-- a caller that has played its script has a receipt of each call
+told_by : {K : Type 0} (run : RunValue K) (number : ℕ) (seats : List SeatValue) (receipts : List (Vec (ReceiptValue K) Global)) (history : List (Entry K)) (caller : ℕ) → AreParted run seats receipts → All (HasPlayed run number) seats → AreShown seats → All (λ mine. All (λ r. IsHeld history r) mine.items) receipts → Any (λ s. s.caller ≡ caller) seats → (mine : List (ReceiptValue K)) × AreReceipts caller (calls_on number (script_of run.scripts caller)) mine × All (IsHeld history) mine
+told_by run number seats [] history caller parted played shown held sits =
+    let none = parted.many in let below = sits.2 in absurd (omega arith)
+told_by run number seats (first ∷ rest) history caller parted played shown held sits =
+    let seat = get_or seats sits.0 sits.1 in
+    let here : seat.caller ≡ caller = ap (λ (s : SeatValue). s.caller) sits.3 ∙ sits.4 in
+    let mine = get_or (first ∷ rest) sits.0 first in
+    let has = parted.each sits.0 sits.1 first sits.2 (shown sits.0 sits.1 sits.2) in
+    let done = played sits.0 sits.1 sits.2 in
+    let calls = done.calls in
+    let whole : take seat.calls (calls_on seat.number (script_of run.scripts seat.caller)) ≡ calls_on number (script_of run.scripts caller) =
+    ap (λ n. take seat.calls (calls_on n (script_of run.scripts seat.caller))) done.number ∙ take_all _ _ (omega arith) ∙ ap (λ n. calls_on number (script_of run.scripts n)) here in (
+      mine.items,
+      subst (λ n. AreReceipts n (calls_on number (script_of run.scripts caller)) mine.items) here (subst (λ l. AreReceipts seat.caller l mine.items) whole has),
+      held sits.0 first (subst (λ n. sits.0 < n) (sym parted.many) sits.2),
+    )
+
+pub told_left : {K : Type 0} (run : RunValue K) (shared : SharedValue) (seats : List SeatValue) (receipts : List (Vec (ReceiptValue K) Global)) (overrun : ℕ) (ended : Result (EndedValue K) EndFault) (result : Result (Option (StreamLog K)) RunFault) → IsStream run shared → AreParted run seats receipts → All (HasPlayed run shared.number) seats → Leaves ended receipts overrun result → IfOk ended (λ done. AreShown seats) → IfOk ended (λ done. AreSeats shared.number shared.seats seats) → IfOk result (λ found. IfSome found (λ log. AreTold run shared.number log.history.items))
+told_left run shared seats receipts overrun (Ok done) (Ok (Some log)) stream parted played leaves shown are = λ caller there.
+    rw leaves.0.same
+    (told_by run shared.number seats receipts done.history caller parted played shown leaves.1 (are.each caller (subst (λ n. caller < n) (sym stream.callers) there)))
+told_left run shared seats receipts overrun (Ok done) (Ok None) stream parted played leaves shown are = tt
+told_left run shared seats receipts overrun (Ok done) (Err fault) stream parted played leaves shown are = tt
+told_left run shared seats receipts overrun (Err fault) (Ok (Some log)) stream parted played leaves shown are = absurd leaves
+told_left run shared seats receipts overrun (Err fault) (Ok None) stream parted played leaves shown are = tt
+told_left run shared seats receipts overrun (Err fault) (Err other) stream parted played leaves shown are = tt
 
 -- the streams of a run that have ended, and the seats of the others
-pub record AreEnding {K : Type 0} (means : Meaning K) (run : RunValue K) (streams : List SharedValue) (at : ℕ) (seats : List (Vec SeatValue Global)) (logs : List (StreamLog K)) : Type 0 where
+pub record AreEnding {K : Type 0} (means : Meaning K) (run : RunValue K) (streams : List SharedValue) (at : ℕ) (seats : List (Vec SeatValue Global)) (logs : List (Option (StreamLog K))) : Type 0 where
   pub streams_are : AreStreams run streams
   pub many : length seats ≡ length run.setups
   pub played : (k : ℕ) (d : Vec SeatValue Global) → at ≤ k → k < length run.setups → All (HasPlayed run k) (get_or seats k d).items
   pub ended : length logs ≡ at
-  pub are_logs : (k : ℕ) (s : Setup) (d : StreamLog K) → k < at → IsLog means run k (get_or run.setups k s) (get_or logs k d)
+  pub are_logs : (k : ℕ) (s : Setup) (d : Option (StreamLog K)) → k < at → IfSome (get_or logs k d) (λ log. IsLog means run k (get_or run.setups k s) log)
 
 -- the next stream of a run
 module _ {K : Type 0} (run : RunValue K) (streams so_far later : List SharedValue) (at : ℕ) (one : SharedValue) (are : AreStreams run streams) (is : streams ≡ so_far ++ one ∷ later) (place : at ≡ length so_far) where
@@ -144,35 +196,42 @@ module _ {K : Type 0} (run : RunValue K) (streams so_far later : List SharedValu
       ap (λ n. feed_of run.feeds n) number_is ∙ lines at one.setup place_there (ap (λ l. is_line l.setup.driver) (sym (here one.setup)) ∙ no_line)
 
   -- its seats, and what is left of it
-  module _ (means : Meaning K) (seats : List (Vec SeatValue Global)) (logs : List (StreamLog K)) (was : AreEnding means run streams at seats logs) where
+  module _ (means : Meaning K) (seats : List (Vec SeatValue Global)) (logs : List (Option (StreamLog K))) (was : AreEnding means run streams at seats logs) where
     pub next_played : (mine found : Vec SeatValue Global) → mine ≡ found → found ≡ get_or seats at found → All (HasPlayed run one.number) mine.items
     next_played mine found taken stood =
         subst (λ n. All (HasPlayed run n) mine.items) (sym number_is) (subst (λ v. All (HasPlayed run at) v.items) (sym (taken ∙ stood)) (was.played at found (omega arith) place_there))
 
-    pub ended_more : (log : StreamLog K) (none : Vec SeatValue Global) (more : List (StreamLog K)) → more ≡ logs ++ log ∷ [] → IsLog means run one.number one.setup log → AreEnding means run streams (at + 1) (set seats at none) more
+    pub ended_more : (log : Option (StreamLog K)) (none : Vec SeatValue Global) (more : List (Option (StreamLog K))) → more ≡ logs ++ log ∷ [] → IfSome log (λ l. IsLog means run one.number one.setup l) → AreEnding means run streams (at + 1) (set seats at none) more
     ended_more log none more pushed left = record {
       streams_are = are;
       many = length-set seats at none ∙ was.many;
       played = λ k d above below. subst (λ v. All (HasPlayed run k) v.items) (sym (get_or-set_other seats at k none d (λ same. omega arith))) (was.played k d (omega arith) below);
       ended = ap (λ l. length l) pushed ∙ length_push logs log ∙ ap (λ n. n + 1) was.ended;
-      are_logs = λ k s d below. subst (λ l. IsLog means run k (get_or run.setups k s) (get_or l k d)) (sym pushed) (below_more (λ (n : ℕ). IsLog means run n (get_or run.setups n s) (get_or (logs ++ log ∷ []) n d)) at
-          (λ n lower. subst (λ l. IsLog means run n (get_or run.setups n s) l) (sym (get_or_append_left logs (log ∷ []) d n (subst (λ m. n < m) (sym was.ended) lower))) (was.are_logs n s d lower))
-          (subst (λ l. IsLog means run at (get_or run.setups at s) l) (sym (ap (λ n. get_or (logs ++ log ∷ []) n d) (sym was.ended) ∙ get_or-append_seam logs log [] d))
-          (subst (λ l. IsLog means run l.number l.setup log) (here s) left))
+      are_logs = λ k s d below. subst (λ l. IfSome (get_or l k d) (λ x. IsLog means run k (get_or run.setups k s) x)) (sym pushed) (below_more (λ (n : ℕ). IfSome (get_or (logs ++ log ∷ []) n d) (λ x. IsLog means run n (get_or run.setups n s) x)) at
+          (λ n lower. subst (λ l. IfSome l (λ x. IsLog means run n (get_or run.setups n s) x)) (sym (get_or_append_left logs (log ∷ []) d n (subst (λ m. n < m) (sym was.ended) lower))) (was.are_logs n s d lower))
+          (subst (λ l. IfSome l (λ x. IsLog means run at (get_or run.setups at s) x)) (sym (ap (λ n. get_or (logs ++ log ∷ []) n d) (sym was.ended) ∙ get_or-append_seam logs log [] d))
+          (subst (λ (l : SharedValue). IfSome log (λ x. IsLog means run l.number l.setup x)) (here s) left))
           k below);
     }
 
+-- the elements of a list, each as `Some`
+get_some : {A : Type 0} (all : List A) (k : ℕ) (d : A) → get_or (map Some all) k (Some d) ≡ Some (get_or all k d)
+get_some [] k d = refl
+get_some (x ∷ xs) zero d = refl
+get_some (x ∷ xs) (suc k) d = get_some xs k d
+
 -- where none is left, all have ended
-pub ended_all : {K : Type 0} (means : Meaning K) (run : RunValue K) (so_far later : List SharedValue) (at : ℕ) (seats : List (Vec SeatValue Global)) (logs : List (StreamLog K)) → later ≡ [] → at ≡ length so_far → AreEnding means run (so_far ++ later) at seats logs → AreLogs means run logs
-ended_all means run so_far later at seats logs none place was =
+pub ended_all : {K : Type 0} (means : Meaning K) (run : RunValue K) (so_far later : List SharedValue) (at : ℕ) (seats : List (Vec SeatValue Global)) (found : List (Option (StreamLog K))) (logs : List (StreamLog K)) → later ≡ [] → at ≡ length so_far → AreEnding means run (so_far ++ later) at seats found → map Some logs ≡ found → AreLogs means run logs
+ended_all means run so_far later at seats found logs none place was all_found =
     let all : length so_far ≡ length run.setups = ap (λ l. length l) (sym (append-nil so_far) ∙ ap (λ l. so_far ++ l) (sym none)) ∙ was.streams_are.many in
     record {
-      many = was.ended ∙ place ∙ all;
-      each = λ k s d below. was.are_logs k s d (subst (λ n. k < n) (sym (place ∙ all)) below);
+      many = sym (length-map logs Some) ∙ ap (λ l. length l) all_found ∙ was.ended ∙ place ∙ all;
+      each = λ k s d below.
+          subst (λ l. IfSome l (λ x. IsLog means run k (get_or run.setups k s) x)) (ap (λ l. get_or l k (Some d)) (sym all_found) ∙ get_some logs k d) (was.are_logs k s (Some d) (subst (λ n. k < n) (sym (place ∙ all)) below));
     }
 
 -- the seats of callers that have played their scripts, by the streams
-pub seats_played : {K : Type 0} (run : RunValue K) (columns : List (Vec SeatValue Global)) (many : ℕ) (all : List (Vec SeatValue Global)) → length run.setups ≡ many → All (λ seats. ArePlayed run seats.items (length run.setups)) columns → IsTransposed columns many all → AreSeatsPlayed run all
+pub seats_played : {K : Type 0} (run : RunValue K) (columns : List (Vec SeatValue Global)) (many : ℕ) (all : List (Vec SeatValue Global)) → length run.setups ≡ many → All (λ seats. ArePlayed run seats.items) columns → IsTransposed columns many all → AreSeatsPlayed run all
 seats_played run columns many all is played turned = record {
   many = turned.many ∙ sym is;
   each = λ k d below i x inside.

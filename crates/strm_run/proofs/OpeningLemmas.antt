@@ -1,5 +1,5 @@
 -- Streams that are made, one more at a time, and who sits there.
-use Rattle.std.proofs.Common.{◌≡◌, ℕ, zero, suc, ◌+◌, ◌<◌, Option, List, [], ◌∷◌, ◌++◌, length, get_or, map, Vec, Global, All, refl, sym, ◌∙◌, ap, subst, arith, below_more, Result, Ok, Err, IfOk, IsOk}
+use Rattle.std.proofs.Common.{◌≡◌, ℕ, zero, suc, true, ◌+◌, ◌<◌, Option, List, [], ◌∷◌, ◌++◌, length, get_or, map, Vec, Global, All, refl, sym, ◌∙◌, ap, subst, arith, below_more, Result, Ok, Err, IfOk, IsOk}
 use Rattle.std.proofs.lemmas.List.{length-map, get_or-map, length_push, get_or_push, get_or_append_left, get_or_default}
 use Rattle.strm_history.specs.declared.setup.Setup.{Setup}
 use Rattle.strm_shared.specs.declared.fault.SharedFault.{SharedFault}
@@ -91,12 +91,12 @@ opened_all run at streams seats feeders was all = record {
 pub fresh_many : (number callers : ℕ) → length (fresh_seats number callers) ≡ callers
 fresh_many number zero = refl
 fresh_many number (suc callers) =
-    length_push (fresh_seats number callers) (record { number = number; caller = callers; calls = 0 }) ∙ (let more : length (fresh_seats number callers) + 1 ≡ suc callers = omega (arith, fresh_many number callers) in more)
+    length_push (fresh_seats number callers) (record { number = number; caller = callers; calls = 0; shown = true }) ∙ (let more : length (fresh_seats number callers) + 1 ≡ suc callers = omega (arith, fresh_many number callers) in more)
 
-pub fresh_at : (number callers caller : ℕ) (d : SeatValue) → caller < callers → get_or (fresh_seats number callers) caller d ≡ record { number = number; caller = caller; calls = 0 }
+pub fresh_at : (number callers caller : ℕ) (d : SeatValue) → caller < callers → get_or (fresh_seats number callers) caller d ≡ record { number = number; caller = caller; calls = 0; shown = true }
 fresh_at number zero caller d below = absurd (omega arith)
 fresh_at number (suc callers) caller d below =
-    each_push (λ (k : ℕ) (one : SeatValue). one ≡ record { number = number; caller = k; calls = 0 }) (fresh_seats number callers) (record { number = number; caller = callers; calls = 0 }) callers (fresh_many number callers) (λ k e under. fresh_at number callers k e under) refl caller d (omega arith)
+    each_push (λ (k : ℕ) (one : SeatValue). one ≡ record { number = number; caller = k; calls = 0; shown = true }) (fresh_seats number callers) (record { number = number; caller = callers; calls = 0; shown = true }) callers (fresh_many number callers) (λ k e under. fresh_at number callers k e under) refl caller d (omega arith)
 
 -- the seats on each stream are as many as the callers
 pub columns_high : {K : Type 0} (run : RunValue K) (columns : List (Vec SeatValue Global)) → AreSeatsOn run columns → All (λ column. length column.items ≡ length run.scripts) columns

@@ -1,13 +1,10 @@
 -- What a run that gave a transcript has.
 use Rattle.std.proofs.Common.{Result, Ok, Err, IsErrOf}
 use Rattle.std.specs.Prelude.{IfOk, IfErr}
-use Rattle.strm_module.specs.Kinds.{Meaning}
 use Rattle.strm_qpair.specs.declared.driver.Driver.TheVariants.{Echo}
 use Rattle.strm_history.specs.declared.setup.Setup.{Setup}
 use Rattle.strm_run.specs.declared.fault.RunFault.{RunFault}
-use Rattle.strm_run.specs.declared.fault.RunFault.TheVariants.{Workers, NoSuch, NoMem, Unlike, Unfinished}
-use Rattle.strm_crew.specs.Run.{RunValue}
-use Rattle.strm_crew.specs.Transcript.{HaveEnded}
+use Rattle.strm_run.specs.declared.fault.RunFault.TheVariants.{Workers, NoSuch, NoMem, Unfinished, NoReceipt}
 use Rattle.strm_run.specs.Inside.Ending.{IsLate}
 
 -- what follows from a fact about a value follows where there is one
@@ -19,22 +16,11 @@ if_ok P Q (Err e) follows is = is
 pub any_setup : Setup
 any_setup = record { driver = Echo; head = (0, 0); drv = (0, 0); ring = 0 }
 
--- for kinds of any meaning: the faults that a run has when all is there
-module _ {K : Type 0} (means : Meaning K) (run : RunValue K) where
-  -- where answers are unlike each stream has ended
-  pub ended_where_unlike : {T : Type 0} (r : Result T RunFault) → IfErr r (λ fault. IsLate means run fault) → IsErrOf r Unlike → HaveEnded means run
-  ended_where_unlike (Ok x) late is = absurd cc
-  ended_where_unlike (Err Workers) late is = absurd late
-  ended_where_unlike (Err NoSuch) late is = absurd late
-  ended_where_unlike (Err NoMem) late is = absurd cc
-  ended_where_unlike (Err Unlike) late is = late
-  ended_where_unlike (Err Unfinished) late is = absurd cc
-
-  -- all is there
-  pub none_such : {T C : Type 0} (r : Result T RunFault) → IfErr r (λ fault. IsLate means run fault) → IsErrOf r NoSuch → C
-  none_such (Ok x) late is = absurd cc
-  none_such (Err Workers) late is = absurd late
-  none_such (Err NoSuch) late is = absurd late
-  none_such (Err NoMem) late is = absurd cc
-  none_such (Err Unlike) late is = absurd cc
-  none_such (Err Unfinished) late is = absurd cc
+-- a fault of a run of which all is there is not that something is not there
+pub none_such : {T C : Type 0} (r : Result T RunFault) → IfErr r (λ fault. IsLate fault) → IsErrOf r NoSuch → C
+none_such (Ok x) late is = absurd cc
+none_such (Err Workers) late is = absurd late
+none_such (Err NoSuch) late is = absurd late
+none_such (Err NoMem) late is = absurd cc
+none_such (Err Unfinished) late is = absurd cc
+none_such (Err NoReceipt) late is = absurd cc

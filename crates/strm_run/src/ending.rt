@@ -1,19 +1,20 @@
 //! The streams of a run, as they end.
-ghost use Rattle.std.specs.Prelude.{◌≡◌, true, false, [], length, option_map, All, Err, IfErr, IfOk, IsOkAnd, MatchResult};
+ghost use Rattle.std.specs.Prelude.{◌≡◌, true, false, [], length, map, option_map, All, IfErr, IfOk, IfSome, Some};
 ghost use Rattle.strm_head.specs.Step.{is_line};
 ghost use Rattle.strm_crew.specs.Transcript.{AreLogs, IsLog};
 ghost use Rattle.strm_crew.specs.Play.{ArePlayed, HasPlayed};
-ghost use Rattle.strm_run.specs.Inside.Ending.{fault_of, is_end_refused, overrun_of, AreLinesFed, AreSeatsPlayed, IsLate, IsLogOf, IsOffered, IsStream};
+ghost use Rattle.strm_run.specs.Inside.Ending.{is_end_refused, overrun_of, AreLinesFed, AreParted, AreSeatsPlayed, AreTold, IsLate, IsOffered, IsStream, Leaves};
 ghost use Rattle.strm_crew.specs.Scripts.{feed_of};
 
 use crate::fault::RunFault;
 use crate::feeds::offered_on;
 use crate::table::transposed;
 use std::alloc::Global;
-use std::collections::VecDeque;
 use std::mem;
-use strm_crew::{Of, Offered, Played, Plays, StreamLog, Streams, Transcript, are_all_told, log_of};
-use strm_head::Answer;
+use strm_crew::{
+    Account, Of, Offered, Played, Plays, StreamLog, Streams, Transcript, holds_all, log_of,
+};
+use strm_history::{Receipt, SameKind};
 use strm_module::ModuleOf;
 use strm_msg::NoMem;
 use strm_shared::{EndFault, Ended, FeedEnd, Seat, Shared};
@@ -33,87 +34,138 @@ fn fed<K, N: Plays<K>>(offered: Option<Offered<K, N>>) -> (Option<FeedEnd<K, Of<
     }
 }
 
-/// What is left of a stream, where it ended.
+/// What is left of a stream, where it ended, and its history holds each receipt; nothing where a call has none, or the history
+/// does not hold it.
 fn log_of_end<M: ModuleOf>(
     ended: Result<Ended<M>, EndFault>,
+    receipts: &[Vec<Receipt<M::Kind>>],
     overrun: u64,
-) -> Result<StreamLog<M::Kind>, RunFault>
-    ensures ended { MatchResult ended (λ done. IsOkAnd result (λ log. IsLogOf done.history.items done.stream done.left.items overrun log)) (λ fault. result ≡ Err (fault_of fault)) }
+) -> Result<Option<StreamLog<M::Kind>>, RunFault>
+where
+    M::Kind: SameKind,
+    ensures left { Leaves ended receipts.now overrun result }
     ensures refusal { IfErr result (λ fault. is_end_refused fault ≡ true) }
 {
     match ended {
-        Ok(ended) => Ok(log_of(ended, overrun)),
+        Ok(ended) => {
+            if holds_all(&ended, receipts) {
+                Ok(Some(log_of(ended, overrun)))
+            } else {
+                Ok(None)
+            }
+        }
+        Err(EndFault::NoReceipt) => Ok(None),
         Err(EndFault::NoMem) => Err(RunFault::NoMem),
-        Err(_) => Err(RunFault::Unfinished),
+        Err(EndFault::Seats | EndFault::Unfinished) => Err(RunFault::Unfinished),
     }
 }
 
-/// Ends one stream of a run.
+/// Seats, and apart from them the receipts of what was done from each. Refused for want of memory alone.
+fn parted<K: Drop, N: Plays<K>>(
+    alloc: Global,
+    accounts: Vec<Account<K, N>>,
+) -> Result<(Vec<Seat>, Vec<Vec<Receipt<K>>>), NoMem>
+    ensures seats { IfOk result (λ all. all.0.items ≡ accounts.items) }
+    ensures receipts { IfOk result (λ all. AreParted N.run all.0.items all.1.items) }
+{
+    let mut seats = Vec::new(alloc);
+    let mut receipts = Vec::new(alloc);
+    for account in accounts {
+        let (seat, mine) = account.into_parts();
+        seats.push(seat)?;
+        receipts.push(mine)?;
+    }
+    Ok((seats, receipts))
+}
+
+/// Ends one stream of a run: what is left of it, or nothing, where a call has no receipt that its history holds.
 fn end_one<M: ModuleOf, N: Plays<M::Kind>>(
+    alloc: Global,
     shared: Shared<M, Of<N>>,
-    seats: Vec<Seat>,
+    accounts: Vec<Account<M::Kind, N>>,
     offered: Option<Offered<M::Kind, N>>,
-) -> Result<StreamLog<M::Kind>, RunFault>
+) -> Result<Option<StreamLog<M::Kind>>, RunFault>
+where
+    M::Kind: SameKind,
     requires stream { IsStream N.run shared }
-    requires seats { All (HasPlayed N.run shared.number) seats.items }
+    requires seats { All (HasPlayed N.run shared.number) accounts.items }
     requires unfed { is_line shared.setup.driver ≡ false → feed_of N.run.feeds shared.number ≡ [] }
-    ensures log { IfOk result (λ log. IsLog M.Kind.means N.run shared.number shared.setup log) }
+    ensures log { IfOk result (λ found. IfSome found (λ log. IsLog M.Kind.means N.run shared.number shared.setup log)) }
+    ensures told { IfOk result (λ found. IfSome found (λ log. AreTold N.run shared.number log.history.items)) }
     ensures refusal { IfErr result (λ fault. is_end_refused fault ≡ true) }
 {
     let (feed, overrun) = fed(offered);
-    log_of_end(shared.end(seats, feed), overrun)
+    let (seats, receipts) = parted(alloc, accounts)?;
+    log_of_end(shared.end(seats, feed), receipts.as_slice(), overrun)
 }
 
-/// Ends the streams of a run, in order. The first that does not end gives the fault.
+/// The logs, where each stream has left one. Refused for want of memory alone.
+fn all_of<K: Drop>(
+    alloc: Global,
+    found: Vec<Option<StreamLog<K>>>,
+) -> Result<Option<Vec<StreamLog<K>>>, NoMem>
+    ensures { IfOk result (λ all. IfSome all (λ logs. map Some logs.items ≡ found.items)) }
+{
+    let mut logs = Vec::new(alloc);
+    for one in found {
+        let Some(log) = one else {
+            return Ok(None);
+        };
+        logs.push(log)?;
+    }
+    Ok(Some(logs))
+}
+
+/// Ends the streams of a run, in order. The first that does not end gives the fault; else a stream with a call that has no
+/// receipt that its history holds does.
 pub(crate) fn end_all<M: ModuleOf, N: Plays<M::Kind>>(
     alloc: Global,
     streams: Streams<M, N>,
-    mut seats: Vec<Vec<Seat>>,
+    mut accounts: Vec<Vec<Account<M::Kind, N>>>,
     mut offered: Vec<Option<Offered<M::Kind, N>>>,
 ) -> Result<Vec<StreamLog<M::Kind>>, RunFault>
-    requires seats { AreSeatsPlayed N.run seats.items }
+where
+    M::Kind: SameKind,
+    requires seats { AreSeatsPlayed N.run accounts.items }
     requires offered { length offered.items ≡ length N.run.setups }
     requires lines { AreLinesFed N.run }
     ensures logs { IfOk result (λ logs. AreLogs M.Kind.means N.run logs.items) }
-    ensures refusal { IfErr result (λ fault. is_end_refused fault ≡ true) }
+    ensures late { IfErr result (λ fault. IsLate fault) }
 {
     let Ok(mut logs) = Vec::with_capacity(alloc, offered.len()) else {
         return Err(RunFault::NoMem);
     };
     let mut at: usize = 0;
     for shared in streams.into_all() {
-        let mine = mem::replace(&mut seats[at], Vec::new(alloc));
-        let log = end_one(shared, mine, offered[at].take())?;
+        let mine = mem::replace(&mut accounts[at], Vec::new(alloc));
+        let log = end_one(alloc, shared, mine, offered[at].take())?;
         let Ok(()) = logs.push(log) else {
             return Err(RunFault::NoMem);
         };
         at += 1;
     }
-    Ok(logs)
+    match all_of(alloc, logs)? {
+        Some(logs) => Ok(logs),
+        None => Err(RunFault::NoReceipt),
+    }
 }
 
-/// What callers leave, in order of their numbers: the seats of each, and what it was told. Refused for
-/// want of memory alone.
-fn returned<K, N: Plays<K>>(
+/// What callers leave, in order of their numbers: the seats of each, with their receipts. Refused for want of memory alone.
+fn returned<K: Drop, N: Plays<K>>(
     alloc: Global,
     mut played: Vec<Played<K, N>>,
-) -> Result<(Vec<Vec<Seat>>, Vec<Vec<VecDeque<Answer>>>), NoMem>
-    ensures seats { IfOk result (λ all. All (λ seats. ArePlayed N.run seats.items (length N.run.setups)) all.0.items) }
-    ensures told { IfOk result (λ all. All (λ told. length told.items ≡ length N.run.setups) all.1.items) }
+) -> Result<Vec<Vec<Account<K, N>>>, NoMem>
+    ensures { IfOk result (λ all. All (λ accounts. ArePlayed N.run accounts.items) all.items) }
 {
     played.sort_unstable_by_key(|one| one.caller());
-    let mut seats = Vec::new(alloc);
-    let mut told = Vec::new(alloc);
+    let mut all = Vec::new(alloc);
     for one in played {
-        let (mine, answers) = one.into_parts();
-        seats.push(mine)?;
-        told.push(answers)?;
+        all.push(one.into_accounts())?;
     }
-    Ok((seats, told))
+    Ok(all)
 }
 
-/// Ends a run: the transcript, where each stream ended, and the histories have what each caller was told.
-/// `Unlike` is answered only where each stream has ended.
+/// Ends a run: the transcript, where each stream ended, and its history holds each receipt.
 pub(crate) fn finish<M: ModuleOf, N: Plays<M::Kind>>(
     alloc: Global,
     streams: Streams<M, N>,
@@ -121,18 +173,16 @@ pub(crate) fn finish<M: ModuleOf, N: Plays<M::Kind>>(
     offered: Vec<Offered<M::Kind, N>>,
     many: usize,
 ) -> Result<Transcript<M::Kind>, RunFault>
+where
+    M::Kind: SameKind,
     requires many { length N.run.setups ≡ many }
     requires lines { AreLinesFed N.run }
     ensures logs { IfOk result (λ transcript. AreLogs M.Kind.means N.run transcript.streams.items) }
-    ensures late { IfErr result (λ fault. IsLate M.Kind.means N.run fault) }
+    ensures late { IfErr result (λ fault. IsLate fault) }
 {
-    let (seats, told) = returned(alloc, played)?;
-    let seats = transposed(alloc, seats, many)?;
-    let told = transposed(alloc, told, many)?;
+    let columns = returned(alloc, played)?;
+    let accounts = transposed(alloc, columns, many)?;
     let offered = offered_on(alloc, offered, many)?;
-    let logs = end_all(alloc, streams, seats, offered)?;
-    if !are_all_told(logs.as_slice(), told) {
-        return Err(RunFault::Unlike);
-    }
+    let logs = end_all(alloc, streams, accounts, offered)?;
     Ok(Transcript { streams: logs })
 }

@@ -17,15 +17,15 @@ pub enum RunFault {
     NoSuch,
     /// Want of memory, or of a thread.
     NoMem,
-    /// The answers that a caller has are not those that the history has.
-    Unlike,
     /// A stream did not end: seats or a feeder do not agree with what stood under its lock.
     Unfinished,
+    /// A call has no receipt, or has one that the history does not hold, which no test has met. Looked at last.
+    NoReceipt,
 }
 
 impl RunFault {
     /// The number of the fault: 1 for workers, 2 for what is not there, 3 for want of memory or of a
-    /// thread, 4 for unlike answers, 5 for unfinished.
+    /// thread, 5 for unfinished, 6 for a call without a receipt that holds. There is no 4.
     pub fn number(self) -> u8
         ensures { result ≡ number_of self }
     {
@@ -33,8 +33,8 @@ impl RunFault {
             RunFault::Workers => 1,
             RunFault::NoSuch => 2,
             RunFault::NoMem => 3,
-            RunFault::Unlike => 4,
             RunFault::Unfinished => 5,
+            RunFault::NoReceipt => 6,
         }
     }
 
@@ -46,8 +46,8 @@ impl RunFault {
             RunFault::Workers => "workers",
             RunFault::NoSuch => "no such stream or end",
             RunFault::NoMem => "no memory",
-            RunFault::Unlike => "unlike",
             RunFault::Unfinished => "unfinished",
+            RunFault::NoReceipt => "no receipt",
         }
     }
 }

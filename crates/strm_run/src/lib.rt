@@ -17,4 +17,4 @@ mod threads;
 pub use fault::RunFault;
 pub use judge::{MOST_WORKERS, are_from_line, are_setups};
 pub use running::run;
-pub use strm_crew::{Feed, Gate, Script, ScriptCall, StreamLog, Transcript, are_all_told};
+pub use strm_crew::{Feed, Gate, Script, ScriptCall, StreamLog, Transcript};

@@ -5,7 +5,7 @@ ghost use Rattle.strm_history.specs.Entry.{asked_of};
 ghost use Rattle.strm_crew.specs.Scripts.{calls_on, script_of, feed_of};
 ghost use Rattle.strm_run.specs.There.{is_crew, is_setup, AreFromLine, AreThere};
 ghost use Rattle.strm_crew.specs.Run.{CallsFit};
-ghost use Rattle.strm_crew.specs.Transcript.{AreLogs, HaveEnded, IsFed, IsLegal};
+ghost use Rattle.strm_crew.specs.Transcript.{AreLogs, IsFed, IsLegal};
 ghost use Rattle.strm_crew.specs.Play.{CallsDoFit};
 ghost use Rattle.strm_run.specs.Inside.Ending.{IsLate};
 
@@ -21,7 +21,7 @@ use std::marker::Brand;
 use std::sync::Wait;
 use std::thread::Threads;
 use strm_crew::{Feed, Gate, Plays, Script, Streams, Transcript, deal, seated};
-use strm_history::Setup;
+use strm_history::{SameKind, Setup};
 use strm_module::{Boxed, ModuleOf};
 use strm_shared::Ring;
 
@@ -37,7 +37,7 @@ fn run_named<M: ModuleOf, N: Plays<M::Kind> + Send + Sync, R: Threads + Wait + S
     gate: &G,
 ) -> Result<Transcript<M::Kind>, RunFault>
 where
-    M::Kind: Send,
+    M::Kind: SameKind + Send + Sync,
     requires fits { CallsDoFit M.row M.Kind.row M.Kind.Kinds }
     requires setups { N.run.setups ≡ setups.items }
     requires scripts { N.run.scripts ≡ scripts.items }
@@ -50,14 +50,14 @@ where
     requires crew { is_crew workers ≡ true }
     requires there { AreThere setups.items scripts.items feeds.items }
     ensures logs { IfOk result (λ transcript. AreLogs M.Kind.means N.run transcript.streams.items) }
-    ensures late { IfErr result (λ fault. IsLate M.Kind.means N.run fault) }
+    ensures late { IfErr result (λ fault. IsLate fault) }
 {
     let many = setups.len();
     let callers = scripts.len();
     let (all, seats, feeders) = open(alloc, rings, callers as u32)?;
     let seats = transposed(alloc, seats, callers)?;
     let feedings = feedings(alloc, feeders, feeds_of(alloc, feeds, many)?)?;
-    let crews = deal(alloc, seated(alloc, scripts, seats, many)?, workers)?;
+    let crews = deal(alloc, seated(alloc, scripts, seats)?, workers)?;
     let streams = Streams::<M, N>::new(all);
     let (played, offered) = play_out(rt, alloc, &streams, crews, feedings, gate)?;
     finish(alloc, streams, played, offered, many)
@@ -79,8 +79,8 @@ where
 /// Refused, in this order: with `Workers` exactly where there are not 1 to 64 workers; with `NoSuch`
 /// exactly where a call is on a stream or an end that is not there, or a feed is for no line or for one
 /// that has another; both before anything is made. Then with `NoMem` for want of memory or of a thread,
-/// with `Unfinished` where a stream did not end, the first of them, and where all ended with `Unlike`, if a
-/// caller was told another answer than the history has. Then all modules are dropped.
+/// with `Unfinished` where a stream did not end, the first of them, and else with `NoReceipt`, where a call has no
+/// receipt or one that its stream's history does not hold. Then all modules are dropped.
 pub fn run<M: ModuleOf, R: Threads + Wait + Sync, G: Gate>(
     rt: &R,
     alloc: Global,
@@ -91,14 +91,13 @@ pub fn run<M: ModuleOf, R: Threads + Wait + Sync, G: Gate>(
     gate: &G,
 ) -> Result<Transcript<M::Kind>, RunFault>
 where
-    M::Kind: Send,
+    M::Kind: SameKind + Send + Sync,
     requires fits { CallsFit M.row M.Kind.row M.Kind.Kinds }
     requires few { (length setups.items < 2 ^ 32) × (length scripts.items < 2 ^ 32) }
     requires setups { All (λ setup. is_setup setup ≡ true) setups.items }
     requires feeds { AreFromLine feeds.items }
     ensures workers { IsErrOf result RunFault.Workers ↔ (is_crew workers ≡ false) }
     ensures no_such { IsErrOf result RunFault.NoSuch ↔ ((is_crew workers ≡ true) × (AreThere setups.items scripts.items feeds.items → ⊥)) }
-    ensures unlike { IsErrOf result RunFault.Unlike → HaveEnded M.Kind.means (record { setups = setups.items; scripts = scripts.items; feeds = feeds.items }) }
     ensures many { IfOk result (λ transcript. length transcript.streams.items ≡ length setups.items) }
     ensures legal { IfOk result (λ transcript. (k : ℕ) (setup : _) (log : _) → k < length setups.items → IsLegal M.Kind.means (get_or setups.items k setup) (get_or transcript.streams.items k log)) }
     ensures calls { IfOk result (λ transcript. (k caller : ℕ) (log : _) → k < length setups.items → map asked_of (own caller (get_or transcript.streams.items k log).history.items) ≡ calls_on k (script_of scripts.items caller)) }

@@ -47,14 +47,14 @@ fn play_all<M: ModuleOf, N: Plays<M::Kind> + Send + Sync, R: Threads + Wait + Sy
     gate: &G,
 ) -> Result<Vec<Played<M::Kind, N>>, NoMem>
 where
-    M::Kind: Send,
+    M::Kind: Send + Sync,
     requires { CallsDoFit M.row M.Kind.row M.Kind.Kinds }
 {
     thread::scope(
         thread::scope_env(),
         rt,
         |scope| -> Result<Vec<Played<M::Kind, N>>, NoMem>
-            requires { IsSync R.row × IsSync G.row × IsSend M.row × IsSend M.Kind.row × IsSend N.row × IsSync N.row × CallsDoFit M.row M.Kind.row M.Kind.Kinds }
+            requires { IsSync R.row × IsSync G.row × IsSend M.row × IsSend M.Kind.row × IsSync M.Kind.row × IsSend N.row × IsSync N.row × CallsDoFit M.row M.Kind.row M.Kind.Kinds }
         {
             let mut handles = Vec::new(alloc);
             let mut played = Ok(Vec::new(alloc));
@@ -106,14 +106,14 @@ pub(crate) fn play_out<
     gate: &G,
 ) -> Result<(Vec<Played<M::Kind, N>>, Vec<Offered<M::Kind, N>>), NoMem>
 where
-    M::Kind: Send,
+    M::Kind: Send + Sync,
     requires { CallsDoFit M.row M.Kind.row M.Kind.Kinds }
 {
     thread::scope(
         thread::scope_env(),
         rt,
         |scope| -> Result<(Vec<Played<M::Kind, N>>, Vec<Offered<M::Kind, N>>), NoMem>
-            requires { IsSync R.row × IsSync G.row × IsSend M.row × IsSend M.Kind.row × IsSend N.row × IsSync N.row × CallsDoFit M.row M.Kind.row M.Kind.Kinds }
+            requires { IsSync R.row × IsSync G.row × IsSend M.row × IsSend M.Kind.row × IsSync M.Kind.row × IsSend N.row × IsSync N.row × CallsDoFit M.row M.Kind.row M.Kind.Kinds }
         {
             let mut handles = Vec::new(alloc);
             let mut offered = Ok(Vec::new(alloc));

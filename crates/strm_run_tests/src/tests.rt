@@ -3,7 +3,7 @@
 use std::alloc::Global;
 use std::process::Abort;
 use strm_head::{Answer, Driver, Event, MOST_MODULES, Reply, Request};
-use strm_history::{Called, Entry, Setup, Who};
+use strm_history::{Called, Kept, Setup, Who};
 use strm_module::{Boxed, Instance, Kind, Module, ModuleOf, Plain, Shape};
 use strm_msg::{Bytes, Message};
 
@@ -81,16 +81,24 @@ fn padded(serials: &[u64]) -> Serials {
 }
 
 /// What a call answered, and the serials of the modules that came back; of a call that found no room nothing.
-fn told(called: Called<Boxed<Plain>>) -> Option<(Answer, Serials)> {
+fn told(called: Called<Boxed<Plain>, Kind>) -> Option<(Answer, Serials)> {
     match called {
-        Called::Done { answer, back } => Some((answer, came_back(back.as_slice()))),
+        Called::Done {
+            answer,
+            back,
+            receipt,
+        } => {
+            drop(receipt);
+            Some((answer, came_back(back.as_slice())))
+        }
         Called::NoRoom(_) => None,
     }
 }
 
 /// Who wrote an entry, and the first byte and the length of what was written; an entry of something else
 /// has none.
-fn wrote(entry: &Entry<Kind>) -> Option<(u32, u8, u64)> {
+fn wrote(kept: &Kept<Kind>) -> Option<(u32, u8, u64)> {
+    let entry = kept.entry();
     match (entry.who, &entry.event, &entry.answer) {
         (
             Who::Caller(caller),
@@ -102,7 +110,8 @@ fn wrote(entry: &Entry<Kind>) -> Option<(u32, u8, u64)> {
 }
 
 /// The data of a message that came in with an entry; of a call nothing.
-fn came(entry: &Entry<Kind>) -> Option<&[u8]> {
+fn came(kept: &Kept<Kind>) -> Option<&[u8]> {
+    let entry = kept.entry();
     match (&entry.who, &entry.event) {
         (Who::Line, Event::Arrived(m)) => Some(data_of(m)),
         _ => None,

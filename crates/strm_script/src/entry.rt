@@ -13,7 +13,7 @@ use crate::request::{put_fields, verb_of};
 use std::io::{self, Write};
 use strm_call::Request;
 use strm_head::Event;
-use strm_history::{Entry, Who};
+use strm_history::{Entry, Kept, Who};
 use strm_module::Kind;
 use strm_msg::End;
 use strm_plan::ProcessDecl;
@@ -111,12 +111,12 @@ pub(crate) fn put_entries<W: Write>(
     w: &mut W,
     processes: &[ProcessDecl],
     stream: &[u8],
-    entries: &[Entry<Kind>],
+    entries: &[Kept<Kind>],
 ) -> io::Result<()>
     ensures { OnOk result (Appends (W.contents w.old) (W.contents w.new) (text.entries_text (map process_view processes.now) stream.now entries.now)) }
 {
-    for entry in entries {
-        put_entry(w, processes, stream, entry)?;
+    for kept in entries {
+        put_entry(w, processes, stream, kept.entry())?;
     }
     Ok(())
 }

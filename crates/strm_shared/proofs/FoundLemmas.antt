@@ -1,5 +1,6 @@
 -- What callers of a shared stream find of its history.
-use Rattle.std.proofs.Common.{◌≡◌, ℕ, zero, suc, Bool, List, [], ◌∷◌, Option, Some, None, map, take, sym, ◌∙◌, subst}
+use Rattle.std.proofs.Common.{◌≡◌, ℕ, ◌+◌, zero, suc, Bool, List, [], ◌∷◌, Option, Some, None, map, take, ap, sym, ◌∙◌, subst}
+use Rattle.std.specs.Prelude.{flat_map}
 use Rattle.std.specs.Option.{option_or}
 use Rattle.std.proofs.lemmas.Simd.{map-map}
 use Rattle.arrayvec.specs.ArrayVec.{ArrayVec}
@@ -29,8 +30,12 @@ use Rattle.strm_head.proofs.RefusalLemmas.{first_of_all}
 use Rattle.strm_history.specs.declared.call.Call.{Call}
 use Rattle.strm_history.specs.declared.call.Called.{Called}
 use Rattle.strm_history.specs.declared.call.Called.TheVariants.{Done, NoRoom}
+use Rattle.strm_history.specs.declared.entry.Entry.{Entry}
+use Rattle.strm_history.specs.Entry.{asked_of, due_back, serial_of}
 use Rattle.strm_history.specs.Log.{LogValue, CallsBy, IsCalled}
-use Rattle.strm_shared.specs.Ending.{Replies, HandsOut, HandsBackMade, HandsBack}
+use Rattle.strm_history.specs.Receipt.{ReceiptValue}
+use Rattle.strm_shared.specs.Seat.{SeatValue}
+use Rattle.strm_shared.specs.Ending.{Replies, HandsOut, HandsBackMade, HandsBack, Shows}
 
 -- where the second refusal holds, one does
 second_none : (first second : Option Refusal) → option_or first second ≡ None → second ≡ None
@@ -87,14 +92,29 @@ module _ {K : Type 0} (means : Meaning K) where
       hands_out image call.end call.request (Answers.Done reply) back (end_of step.2.settled call.end).state.kept step.0 step.2.replies comes
   made_back image call Answers.Broke moves out after back step comes = hands_out image call.end call.request Answers.Broke back None step.0 tt comes
 
-  called_back : (old new : LogValue K) (caller : ℕ) (call : Call (Shape K)) (answer : Answer) (back : List (Option (Shape K))) → IsCalled means old caller call answer back new → HandsBackMade call answer back
-  called_back old new caller call answer back is =
+  called_back : (old new : LogValue K) (caller number : ℕ) (call : Call (Shape K)) (answer : Answer) (back : List (Option (Shape K))) (receipt : Option (ReceiptValue K)) → IsCalled means old caller number call answer back receipt new → HandsBackMade call answer back
+  called_back old new caller number call answer back receipt is =
       let entry = is.enters.entry in
       let at_end : Step means old.image call.end entry.event entry.answer entry.moves entry.out.items new.image = subst (λ (e : End). Step means old.image e entry.event entry.answer entry.moves entry.out.items new.image) is.enters.at is.enters.step.step in
       let has : Step means old.image call.end (Asked call.request) entry.answer entry.moves entry.out.items new.image = subst (λ (event : Event (Shape K)). Step means old.image call.end event entry.answer entry.moves entry.out.items new.image) is.enters.has at_end in
       made_back old.image call answer entry.moves entry.out.items new.image back (subst (λ (a : Answer). Step means old.image call.end (Asked call.request) a entry.moves entry.out.items new.image) is.enters.answers has) is.comes_back
 
   -- what a caller can tell of it
-  pub hands_back : (old : LogValue K) (caller : ℕ) (call : Call (Shape K)) (result : Called (Shape K)) (new : LogValue K) → CallsBy means old caller call result new → HandsBack call result
-  hands_back old caller call (Done answer back) new is = called_back old new caller call answer back.items is
-  hands_back old caller call (NoRoom same) new is = is.0
+  pub hands_back : (old : LogValue K) (caller number : ℕ) (call : Call (Shape K)) (result : Called (Shape K) K) (new : LogValue K) → CallsBy means old caller number call result new → HandsBack call result
+  hands_back old caller number call (Done answer back receipt) new is = called_back old new caller number call answer back.items receipt is
+  hands_back old caller number call (NoRoom same) new is = is.0
+
+  -- and what its receipt shows
+  pub shows : (old : LogValue K) (seat : SeatValue) (call : Call (Shape K)) (result : Called (Shape K) K) (new : LogValue K) → CallsBy means old seat.caller (seat.calls + 1) call result new → Shows seat call result
+  shows old seat call (Done answer back None) new is = tt
+  shows old seat call (Done answer back (Some r)) new is =
+      let entry : r.entry ≡ is.enters.entry = ap (λ (r : ReceiptValue K). r.entry) is.shown in
+      record {
+        caller = ap (λ (r : ReceiptValue K). r.caller) is.shown;
+        number = ap (λ (r : ReceiptValue K). r.number) is.shown;
+        by = ap (λ (e : Entry K). e.who) entry ∙ is.enters.by;
+        asked = ap (λ (e : Entry K). asked_of e) entry ∙ (λ i. (is.enters.at i, is.enters.has i));
+        answers = ap (λ (e : Entry K). e.answer) entry ∙ is.enters.answers;
+        handed = subst (λ (e : Entry K). flat_map serial_of back.items ≡ due_back e.event answer e.out.items) (sym entry) is.handed;
+      }
+  shows old seat call (NoRoom same) new is = tt

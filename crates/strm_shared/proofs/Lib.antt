@@ -1,3 +1,4 @@
 pub mod ArrivalLemmas
 pub mod FoundLemmas
+mod PlaceLemmas
 pub mod TurnLemmas

@@ -1,5 +1,5 @@
 -- Histories whose calls are in turn, with one entry more.
-use Rattle.std.proofs.Common.{◌≡◌, ℕ, zero, suc, ◌+◌, ◌<◌, ◌==◌, ◌++◌, Bool, true, false, cond, if◌then◌else◌, Option, Some, None, List, [], ◌∷◌, All, length, take, slice_get, get_or, set, replicate, Err, IsErrOf, refl, sym, ◌∙◌, ap, subst, arith}
+use Rattle.std.proofs.Common.{◌≡◌, ℕ, zero, suc, ◌+◌, ◌<◌, ◌==◌, ◌++◌, Bool, true, false, cond, if◌then◌else◌, ◌&&◌, Option, Some, None, List, [], ◌∷◌, All, length, take, slice_get, get_or, set, replicate, Err, IsErrOf, refl, sym, ◌∙◌, ap, subst, arith}
 use Rattle.std.proofs.lemmas.List.{length-append, length-set, get_or-set_same, get_or-set_other, get_or-replicate, length-replicate, append-nil, map-append}
 use Rattle.std.proofs.lemmas.List.Elements.{All-push, filter-append}
 use Rattle.std.proofs.lemmas.Option.{same_Some}
@@ -18,7 +18,7 @@ use Rattle.strm_history.specs.declared.call.Called.{Called}
 use Rattle.strm_history.specs.declared.call.Called.TheVariants.{Done, NoRoom}
 use Rattle.strm_history.specs.Entry.{is_caller}
 use Rattle.strm_history.specs.History.{own, calls_of}
-use Rattle.strm_history.specs.Log.{LogValue, Enters, CallsBy, is_done}
+use Rattle.strm_history.specs.Log.{LogValue, Enters, CallsBy, has_receipt, is_done}
 use Rattle.strm_shared.specs.Seat.{SeatValue}
 use Rattle.strm_shared.specs.Ending.{has_seat, CountsAgree, Counted}
 use Rattle.strm_history.specs.Entry.{asked_of}
@@ -43,11 +43,11 @@ own_more : {K : Type 0} (caller : ℕ) (history longer : List (Entry K)) (entry 
 own_more caller history longer entry is = ap (λ l. own caller l) is ∙ filter-append _ history (entry ∷ [])
 
 -- a step of another
-other_step : {K : Type 0} (caller : ℕ) (history longer : List (Entry K)) (entry : Entry K) → longer ≡ history ++ entry ∷ [] → is_caller caller entry.who ≡ false → own caller longer ≡ own caller history
+pub other_step : {K : Type 0} (caller : ℕ) (history longer : List (Entry K)) (entry : Entry K) → longer ≡ history ++ entry ∷ [] → is_caller caller entry.who ≡ false → own caller longer ≡ own caller history
 other_step caller history longer entry is not = own_more caller history longer entry is ∙ ap (λ b. own caller history ++ cond b (entry ∷ []) []) not ∙ append-nil _
 
 -- a step of its own
-own_step : {K : Type 0} (caller : ℕ) (history longer : List (Entry K)) (entry : Entry K) → longer ≡ history ++ entry ∷ [] → is_caller caller entry.who ≡ true → own caller longer ≡ own caller history ++ entry ∷ []
+pub own_step : {K : Type 0} (caller : ℕ) (history longer : List (Entry K)) (entry : Entry K) → longer ≡ history ++ entry ∷ [] → is_caller caller entry.who ≡ true → own caller longer ≡ own caller history ++ entry ∷ []
 own_step caller history longer entry is so = own_more caller history longer entry is ∙ ap (λ b. own caller history ++ cond b (entry ∷ []) []) so
 
 -- a step of the line: no caller has one more
@@ -106,13 +106,13 @@ none_in_turn calls callers = record {
 }
 
 -- a call that was made is counted, by what its seat counts after it
-pub counted_is : (number : ℕ) (seat after : SeatValue) (turns new : TurnsValue) (next : Bool) → next ≡ is_next number seat turns.counts → after ≡ record seat { calls = seat.calls + 1 } → new ≡ (if next then record { counts = set turns.counts after.caller after.calls; in_turn = turns.in_turn } else record { counts = turns.counts; in_turn = false }) → new ≡ counted number seat turns
-counted_is number seat after turns new next same counts is =
+pub counted_is : (number : ℕ) (seat after : SeatValue) (shown : Bool) (turns new : TurnsValue) (next : Bool) → next ≡ is_next number seat turns.counts → after ≡ record seat { calls = seat.calls + 1; shown = shown } → new ≡ (if next then record { counts = set turns.counts after.caller after.calls; in_turn = turns.in_turn } else record { counts = turns.counts; in_turn = false }) → new ≡ counted number seat turns
+counted_is number seat after shown turns new next same counts is =
     is ∙ (λ i. if same i then record { counts = set turns.counts (counts i).caller (counts i).calls; in_turn = turns.in_turn } else record { counts = turns.counts; in_turn = false })
 
 -- a call that was not made is not counted
-pub none_turned : {P : Type 0} (number : ℕ) (seat : SeatValue) (result : Called P) (turns : TurnsValue) → false ≡ is_done result → turns ≡ turned number seat result turns
-none_turned number seat (Done answer back) turns none = absurd cc
+pub none_turned : {P K : Type 0} (number : ℕ) (seat : SeatValue) (result : Called P K) (turns : TurnsValue) → false ≡ is_done result → turns ≡ turned number seat result turns
+none_turned number seat (Done answer back receipt) turns none = absurd cc
 none_turned number seat (NoRoom same) turns none = refl
 
 -- the seat of a call that is next sits on this stream, and has the count of its caller
@@ -137,28 +137,28 @@ module _ {K : Type 0} (means : Meaning K) (calls : ℕ → ℕ → Option (List 
       subst (λ l. AreInTurn (calls number) l new.history) (sym (ap (λ t. t.counts) is)) more
   done_in_turn old new seat call answer turns after false next enters is one was so = absurd (both_ways after.in_turn (ap (λ t. t.in_turn) is) so)
 
-  pub call_keeps : (old new : LogValue K) (seat : SeatValue) (call : Call (Shape K)) (result : Called (Shape K)) (turns after : TurnsValue) → CallsBy means old seat.caller call result new → after ≡ turned number seat result turns → IsNextOf (calls seat.number seat.caller) seat.calls (call.end, Asked call.request) → (turns.in_turn ≡ true → AreInTurn (calls number) turns.counts old.history) → after.in_turn ≡ true → AreInTurn (calls number) after.counts new.history
-  call_keeps old new seat call (Done answer back) turns after by is one was so = done_in_turn old new seat call answer turns after (is_next number seat turns.counts) refl by.enters is one was so
+  pub call_keeps : (old new : LogValue K) (seat : SeatValue) (call : Call (Shape K)) (result : Called (Shape K) K) (turns after : TurnsValue) → CallsBy means old seat.caller (seat.calls + 1) call result new → after ≡ turned number seat result turns → IsNextOf (calls seat.number seat.caller) seat.calls (call.end, Asked call.request) → (turns.in_turn ≡ true → AreInTurn (calls number) turns.counts old.history) → after.in_turn ≡ true → AreInTurn (calls number) after.counts new.history
+  call_keeps old new seat call (Done answer back receipt) turns after by is one was so = done_in_turn old new seat call answer turns after (is_next number seat turns.counts) refl by.enters is one was so
   call_keeps old new seat call (NoRoom same) turns after by is one was so =
       subst (λ (l : LogValue K). AreInTurn (calls number) after.counts l.history) (sym by.1) (subst (λ (t : TurnsValue). AreInTurn (calls number) t.counts old.history) (sym is) (was (sym (ap (λ t. t.in_turn) is) ∙ so)))
 
 -- a call that was made, or not, is counted in the turns as the seat counts it
-pub done_turned : {P : Type 0} (number : ℕ) (seat after : SeatValue) (result : Called P) (turns new : TurnsValue) (next : Bool) → true ≡ is_done result → next ≡ is_next number seat turns.counts → after ≡ record seat { calls = seat.calls + 1 } → new ≡ (if next then record { counts = set turns.counts after.caller after.calls; in_turn = turns.in_turn } else record { counts = turns.counts; in_turn = false }) → new ≡ turned number seat result turns
-done_turned number seat after (Done answer back) turns new next done same counts is = counted_is number seat after turns new next same counts is
-done_turned number seat after (NoRoom again) turns new next done same counts is = absurd cc
+pub done_turned : {P K : Type 0} (number : ℕ) (seat after : SeatValue) (shown : Bool) (result : Called P K) (turns new : TurnsValue) (next : Bool) → true ≡ is_done result → next ≡ is_next number seat turns.counts → after ≡ record seat { calls = seat.calls + 1; shown = shown } → new ≡ (if next then record { counts = set turns.counts after.caller after.calls; in_turn = turns.in_turn } else record { counts = turns.counts; in_turn = false }) → new ≡ turned number seat result turns
+done_turned number seat after shown (Done answer back receipt) turns new next done same counts is = counted_is number seat after shown turns new next same counts is
+done_turned number seat after shown (NoRoom again) turns new next done same counts is = absurd cc
 
 -- so does the seat
-pub done_counted : {P : Type 0} (call : Call P) (seat after : SeatValue) (result : Called P) → true ≡ is_done result → after ≡ record seat { calls = seat.calls + 1 } → Counted call seat result after
-done_counted call seat after (Done answer back) done counts = counts
+pub done_counted : {P K : Type 0} (call : Call P) (seat after : SeatValue) (result : Called P K) → true ≡ is_done result → after ≡ record seat { calls = seat.calls + 1; shown = seat.shown && has_receipt result } → Counted call seat result after
+done_counted call seat after (Done answer back receipt) done counts = counts
 done_counted call seat after (NoRoom same) done counts = absurd cc
 
-pub none_counted : {P : Type 0} (call : Call P) (seat : SeatValue) (result : Called P) → false ≡ is_done result → Counted call seat result seat
-none_counted call seat (Done answer back) none = absurd cc
+pub none_counted : {P K : Type 0} (call : Call P) (seat : SeatValue) (result : Called P K) → false ≡ is_done result → Counted call seat result seat
+none_counted call seat (Done answer back receipt) none = absurd cc
 none_counted call seat (NoRoom same) none = refl
 
 -- the seat that was next has a count
-pub next_within : (number : ℕ) (seat after : SeatValue) (counts : List ℕ) → after ≡ record seat { calls = seat.calls + 1 } → is_next number seat counts ≡ true → after.caller < length counts
-next_within number seat after counts is next = subst (λ (s : SeatValue). s.caller < length counts) (sym is) (is_next_is number seat counts next).1
+pub next_within : (number : ℕ) (seat after : SeatValue) (shown : Bool) (counts : List ℕ) → after ≡ record seat { calls = seat.calls + 1; shown = shown } → is_next number seat counts ≡ true → after.caller < length counts
+next_within number seat after shown counts is next = subst (λ (s : SeatValue). s.caller < length counts) (sym is) (is_next_is number seat counts next).1
 
 -- seats that have the counts of their callers count their calls
 pub counts_agree : {K : Type 0} (calls : ℕ → Option (List (End × Event (Shape K)))) (counts : List ℕ) (history : List (Entry K)) (seats : List SeatValue) → AreInTurn calls counts history → All (λ s. has_count s counts ≡ true) seats → CountsAgree history seats
@@ -167,6 +167,9 @@ counts_agree calls counts history seats are all i d below =
     let has = and_parts _ _ (all i d below) in
     sym (are.counts_are s.caller (ltb-true s.caller (length counts) has.0)) ∙ eqb-true _ s.calls has.1
 
--- an end that is unfinished is not refused for its seats
+-- an end that is unfinished, or that is refused for a call without a receipt, is not refused for its seats
+pub no_receipt_apart : {T C : Type 0} → IsErrOf {T = T} (Err EndFaults.NoReceipt) EndFaults.Seats → C
+no_receipt_apart h = cc
+
 pub unfinished_apart : {T C : Type 0} → IsErrOf {T = T} (Err EndFaults.Unfinished) EndFaults.Seats → C
 unfinished_apart h = cc

@@ -28,7 +28,7 @@ module _ {K : Type 0} (means : Meaning K) where
     pub takes : TakesIn old came new
 
   -- some messages came in, and then the call was made, or it came back
-  pub record CallsAfter (old : LogValue K) (caller : ℕ) (call : Call (Shape K)) (result : Called (Shape K)) (new : LogValue K) : Type 0 where
+  pub record CallsAfter (old : LogValue K) (caller number : ℕ) (call : Call (Shape K)) (result : Called (Shape K) K) (new : LogValue K) : Type 0 where
     pub before : LogValue K
     pub comes : ComesIn old before
-    pub calls : CallsBy means before caller call result new
+    pub calls : CallsBy means before caller number call result new

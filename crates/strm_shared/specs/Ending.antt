@@ -1,5 +1,5 @@
 -- What a shared stream and its seats are to a contract, what comes back of a call, and what must agree at the end.
-use Rattle.std.specs.Prelude.{◌≡◌, ℕ, ◌+◌, ◌<◌, ◌==◌, nat_lt, zero, suc, not, Bool, true, Option, Some, None, List, [], ◌∷◌, ◌++◌, length, map, All, Any, ⊤}
+use Rattle.std.specs.Prelude.{◌≡◌, ℕ, ◌+◌, ◌<◌, ◌==◌, nat_lt, zero, suc, not, ◌&&◌, Bool, true, Option, Some, None, IfSome, List, [], ◌∷◌, ◌++◌, length, map, flat_map, is_some, All, Any, ⊤}
 use Rattle.strm_module.specs.declared.shape.Shape.{Shape}
 use Rattle.strm_call.specs.declared.request.Request.{Request}
 use Rattle.strm_call.specs.declared.request.Request.TheVariants as Requests
@@ -7,6 +7,7 @@ use Rattle.strm_call.specs.declared.answer.Reply.{Reply}
 use Rattle.strm_call.specs.declared.answer.Reply.TheVariants as ReplyOf
 use Rattle.strm_call.specs.declared.answer.Answer.{Answer}
 use Rattle.strm_call.specs.declared.answer.Answer.TheVariants as Answers
+use Rattle.strm_head.specs.declared.event.Event.TheVariants.{Asked}
 use Rattle.strm_head.specs.Begin.{pushed_of, handed_out}
 use Rattle.strm_head.specs.Step.{is_line}
 use Rattle.strm_history.specs.declared.setup.Setup.{Setup}
@@ -16,7 +17,9 @@ use Rattle.strm_history.specs.declared.entry.Entry.{Entry}
 use Rattle.strm_history.specs.declared.call.Call.{Call}
 use Rattle.strm_history.specs.declared.call.Called.{Called}
 use Rattle.strm_history.specs.declared.call.Called.TheVariants.{Done, NoRoom}
+use Rattle.strm_history.specs.Entry.{asked_of, due_back, serial_of}
 use Rattle.strm_history.specs.History.{calls_of}
+use Rattle.strm_history.specs.Receipt.{ReceiptValue, RoomValue}
 use Rattle.strm_shared.specs.Feed.{FeedValue}
 use Rattle.strm_shared.specs.Seat.{SeatValue}
 
@@ -29,7 +32,7 @@ pub record SharedValue : Type 0 where
 -- a seat for each caller, that has made no call
 abbrev pub fresh_seats : ℕ → ℕ → List SeatValue
 fresh_seats number zero = []
-fresh_seats number (suc callers) = fresh_seats number callers ++ record { number = number; caller = callers; calls = 0 } ∷ []
+fresh_seats number (suc callers) = fresh_seats number callers ++ record { number = number; caller = callers; calls = 0; shown = true } ∷ []
 
 -- as many seats as callers, all of one stream, and one for each caller
 pub record AreSeats (number callers : ℕ) (seats : List SeatValue) : Type 0 where
@@ -37,9 +40,17 @@ pub record AreSeats (number callers : ℕ) (seats : List SeatValue) : Type 0 whe
   pub of_one : All (λ s. s.number ≡ number) seats
   pub each : (caller : ℕ) → caller < callers → Any (λ s. s.caller ≡ caller) seats
 
--- the seat counts a call that was made, and no other
-abbrev pub Counted : {P : Type 0} → Call P → SeatValue → Called P → SeatValue → Type 0
-Counted call seat (Done answer back) after = after ≡ record seat { calls = seat.calls + 1 }
+-- each call that was made from these seats has a receipt
+abbrev pub AreShown : List SeatValue → Type 0
+AreShown seats = All (λ s. s.shown ≡ true) seats
+
+-- room for the seat's next call
+abbrev pub room_of : {K : Type 0} → SeatValue → Call (Shape K) → RoomValue K
+room_of seat call = record { caller = seat.caller; number = seat.calls + 1; end = call.end; event = Asked call.request }
+
+-- the seat counts a call that was made, and no other, and whether all have receipts
+abbrev pub Counted : {P K : Type 0} → Call P → SeatValue → Called P K → SeatValue → Type 0
+Counted call seat (Done answer back receipt) after = after ≡ record seat { calls = seat.calls + 1; shown = seat.shown && is_some receipt }
 Counted call seat (NoRoom same) after = after ≡ seat
 
 -- the answer has this reply, if it has one
@@ -63,9 +74,23 @@ HandsBackMade call (Answers.Done reply) back = HandsOut call.request (Answers.Do
 HandsBackMade call Answers.Broke back = HandsOut call.request Answers.Broke back
 
 -- a call that was not made comes back
-abbrev pub HandsBack : {K : Type 0} → Call (Shape K) → Called (Shape K) → Type 0
-HandsBack call (Done answer back) = HandsBackMade call answer back.items
+abbrev pub HandsBack : {K : Type 0} → Call (Shape K) → Called (Shape K) K → Type 0
+HandsBack call (Done answer back receipt) = HandsBackMade call answer back.items
 HandsBack call (NoRoom same) = same ≡ call
+
+-- a receipt of a seat's next call: the entry that it shows has this caller, end, request and answer, and accounts for what came back
+pub record IsReceiptOf {K : Type 0} (seat : SeatValue) (call : Call (Shape K)) (answer : Answer) (back : List (Option (Shape K))) (receipt : ReceiptValue K) : Type 0 where
+  pub caller : receipt.caller ≡ seat.caller
+  pub number : receipt.number ≡ seat.calls + 1
+  pub by : receipt.entry.who ≡ Caller seat.caller
+  pub asked : asked_of receipt.entry ≡ (call.end, Asked call.request)
+  pub answers : receipt.entry.answer ≡ answer
+  pub handed : flat_map serial_of back ≡ due_back receipt.entry.event answer receipt.entry.out.items
+
+-- so is the receipt of a call that was made, if it has one
+abbrev pub Shows : {K : Type 0} → SeatValue → Call (Shape K) → Called (Shape K) K → Type 0
+Shows seat call (Done answer back receipt) = IfSome receipt (λ r. IsReceiptOf seat call answer back.items r)
+Shows seat call (NoRoom same) = ⊤
 
 -- the step was made by the line, or by a caller who has a seat
 abbrev pub has_seat : ℕ → Who → Bool

@@ -3,7 +3,7 @@ use Rattle.std.specs.Prelude.{ℕ, List, codes}
 use Rattle.strm_shared.specs.declared.fault.SharedFault.{SharedFault}
 use Rattle.strm_shared.specs.declared.fault.SharedFault.TheVariants as Shared
 use Rattle.strm_shared.specs.declared.fault.EndFault.{EndFault}
-use Rattle.strm_shared.specs.declared.fault.EndFault.TheVariants.{Seats, Unfinished, NoMem}
+use Rattle.strm_shared.specs.declared.fault.EndFault.TheVariants.{Seats, Unfinished, NoMem, NoReceipt}
 
 -- of making, in the order in which the faults are looked for
 abbrev pub shared_number : SharedFault → ℕ
@@ -15,14 +15,16 @@ abbrev pub shared_text : SharedFault → List ℕ
 shared_text Shared.Ring = codes "the ring of a line does not hold 1 to 4096 messages"
 shared_text Shared.NoMem = codes "no memory"
 
--- of ending, in the order in which the faults are looked for
+-- of ending; they are looked for in the order 1, 2, 4, 3
 abbrev pub end_number : EndFault → ℕ
 end_number Seats = 1
 end_number Unfinished = 2
 end_number NoMem = 3
+end_number NoReceipt = 4
 
 -- the texts that the faults print
 abbrev pub end_text : EndFault → List ℕ
 end_text Seats = codes "not the seats of this stream, one for each caller"
 end_text Unfinished = codes "a caller or the feeder has not ended"
 end_text NoMem = codes "no memory"
+end_text NoReceipt = codes "a call has no receipt"

@@ -6,5 +6,6 @@ pub mod Inlet
 pub mod Fault
 pub mod Seat
 pub mod Ending
+pub mod Ended
 pub mod Turns
 pub mod Arrivals

@@ -1,8 +1,9 @@
 -- The seats of callers.
-use Rattle.std.specs.Prelude.{ℕ}
+use Rattle.std.specs.Prelude.{ℕ, Bool}
 
--- a caller's seat: the number of the stream, that of the caller, and how many of its calls were made
+-- a caller's seat: the number of the stream, that of the caller, how many of its calls were made, and whether each has a receipt
 pub record SeatValue : Type 0 where
   pub number : ℕ
   pub caller : ℕ
   pub calls : ℕ
+  pub shown : Bool

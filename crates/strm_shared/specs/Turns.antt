@@ -45,8 +45,8 @@ counted number seat turns =
     if is_next number seat turns.counts then record { counts = set turns.counts seat.caller (seat.calls + 1); in_turn = turns.in_turn } else record { counts = turns.counts; in_turn = false }
 
 -- so is each call that was made, and no other
-abbrev pub turned : {P : Type 0} → ℕ → SeatValue → Called P → TurnsValue → TurnsValue
-turned number seat (Done answer back) turns = counted number seat turns
+abbrev pub turned : {P K : Type 0} → ℕ → SeatValue → Called P K → TurnsValue → TurnsValue
+turned number seat (Done answer back receipt) turns = counted number seat turns
 turned number seat (NoRoom same) turns = turns
 
 -- the counts are those of the history, each step was made by the line or by a caller with a count, and the calls of each caller

@@ -1,6 +1,6 @@
 //! What must agree before a shared stream has ended.
 ghost use Rattle.std.specs.Prelude.{◌≡◌, ◌↔◌, ◌<◌, ℕ, true, Any};
-ghost use Rattle.strm_shared.specs.Ending.{is_fed, AreSeats};
+ghost use Rattle.strm_shared.specs.Ending.{is_fed, AreSeats, AreShown};
 
 use crate::feeder::FeedEnd;
 use crate::runs::Runs;
@@ -33,6 +33,13 @@ pub(crate) fn are_seats(number: u32, callers: u32, seats: &[Seat]) -> bool
     seats.len() == callers as usize
         && seats.iter().all(|s| s.number() == number)
         && are_seated(callers, seats)
+}
+
+/// Whether each call that was made from these seats has a receipt.
+pub(crate) fn are_shown(seats: &[Seat]) -> bool
+    ensures { result ≡ true ↔ AreShown seats.now }
+{
+    seats.iter().all(|s| s.is_shown())
 }
 
 /// Whether a line's feeder has ended; the other drivers have none.

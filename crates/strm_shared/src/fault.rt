@@ -56,12 +56,14 @@ pub enum EndFault {
     /// It is not shown that the line's feeder has ended, or what stood under the lock does not agree with
     /// the seats. Looked at second.
     Unfinished,
-    /// Want of memory for the messages that are left.
+    /// Want of memory for what is left. Looked at last.
     NoMem,
+    /// A call that was made has no receipt: a cell did not take its entry, which no test has met. Looked at third.
+    NoReceipt,
 }
 
 impl EndFault {
-    /// The number of the fault: 1 for seats, 2 for unfinished, 3 for want of memory.
+    /// The number of the fault: 1 for seats, 2 for unfinished, 3 for want of memory, 4 for a call without a receipt.
     pub fn number(self) -> u8
         ensures { result ≡ end_number self }
     {
@@ -69,6 +71,7 @@ impl EndFault {
             EndFault::Seats => 1,
             EndFault::Unfinished => 2,
             EndFault::NoMem => 3,
+            EndFault::NoReceipt => 4,
         }
     }
 
@@ -80,6 +83,7 @@ impl EndFault {
             EndFault::Seats => "not the seats of this stream, one for each caller",
             EndFault::Unfinished => "a caller or the feeder has not ended",
             EndFault::NoMem => "no memory",
+            EndFault::NoReceipt => "a call has no receipt",
         }
     }
 }

@@ -4,6 +4,7 @@
 //! legal: the stream alone, called by one thread in the order of the history, could have given it.
 #![tactic(auto)]
 
+mod ended;
 mod ending;
 mod fault;
 mod feeder;
@@ -15,10 +16,11 @@ mod seat;
 mod shared;
 mod turns;
 
+pub use ended::Ended;
 pub use fault::{EndFault, SharedFault};
 pub use feeder::{FeedEnd, Feeder};
 pub use inlet::Inlet;
 pub use ring::Ring;
 pub use runs::{AnyCalls, Runs};
 pub use seat::Seat;
-pub use shared::{Ended, Shared};
+pub use shared::Shared;

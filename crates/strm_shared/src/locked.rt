@@ -7,7 +7,7 @@ ghost use Rattle.strm_history.specs.Setup.{is_fit, opened};
 ghost use Rattle.strm_history.specs.Log.{CallsBy};
 ghost use Rattle.strm_shared.specs.Runs.{IsNextOf};
 ghost use Rattle.strm_shared.specs.Inlet.{fresh_inlet};
-ghost use Rattle.strm_shared.specs.Ending.{Counted};
+ghost use Rattle.strm_shared.specs.Ending.{room_of, Counted};
 ghost use Rattle.strm_shared.specs.Turns.{turned, AreInTurn};
 ghost use Rattle.strm_shared.specs.Arrivals.{Intakes, CallsAfter, ComesIn};
 
@@ -17,9 +17,8 @@ use crate::seat::Seat;
 use crate::turns::Turns;
 use std::alloc::Global;
 use std::marker::Model;
-use strm_head::Request;
-use strm_history::{Call, Called, Landed, Log, Setup};
-use strm_module::{Boxed, BoxedShape, ModuleOf};
+use strm_history::{Call, Called, Landed, Log, Room, Setup};
+use strm_module::{Boxed, ModuleOf};
 use strm_msg::NoMem;
 
 /// What stands under the lock of a shared stream: the number of the stream, the stream with its history,
@@ -135,50 +134,48 @@ impl<M: ModuleOf, N: Runs<M::Kind>> Locked<M, N> {
         &mut self,
         seat: &mut Seat,
         call: Call<Boxed<M>>,
-        copy: Request<BoxedShape<M::Kind>>,
-    ) -> Called<Boxed<M>>
-        requires same { copy ≡ call.request }
+        room: Room<M::Kind>,
+    ) -> Called<Boxed<M>, M::Kind>
+        requires room { room ≡ room_of seat.old call }
         requires next { IsNextOf (N.calls seat.old.number seat.old.caller) seat.old.calls (call.end, Asked call.request) }
         requires counts { seat.old.calls + 1 < 2 ^ 64 }
         ensures number { self.new.number ≡ self.old.number }
-        ensures log { CallsBy M.Kind.means self.old.log seat.old.caller call result self.new.log }
+        ensures log { CallsBy M.Kind.means self.old.log seat.old.caller (seat.old.calls + 1) call result self.new.log }
         ensures counts { Counted call seat.old result seat.new }
         ensures turns { self.new.turns ≡ turned self.old.number seat.old result self.old.turns }
     {
         let is_next = self.turns.is_next(self.number, seat);
-        let called = self.log.enter(seat.caller(), call, copy);
+        let called = self.log.enter(call, room);
         if called.is_done() {
-            seat.count();
+            seat.count(called.has_receipt());
             self.turns.count(is_next, seat);
         }
         called
     }
 
-    /// One call of a seat, after the messages of the line that can come in. Where the seat can count no more, the call comes
-    /// back and nothing is changed; where memory was wanting for a message, those before it came in, and the call comes
-    /// back.
+    /// One call of a seat, with room for its entry, after the messages of the line that can come in. Where memory was
+    /// wanting for a message, those before it came in, and the call comes back.
     ///
-    /// To be called with the call that the run has next for the seat.
+    /// To be called with the call that the run has next for the seat, which can count one more.
     pub(crate) fn call(
         &mut self,
         seat: &mut Seat,
         call: Call<Boxed<M>>,
-        copy: Request<BoxedShape<M::Kind>>,
-    ) -> Called<Boxed<M>>
-        requires same { copy ≡ call.request }
+        room: Room<M::Kind>,
+    ) -> Called<Boxed<M>, M::Kind>
+        requires room { room ≡ room_of seat.old call }
         requires next { IsNextOf (N.calls seat.old.number seat.old.caller) seat.old.calls (call.end, Asked call.request) }
+        requires counts { seat.old.calls + 1 < 2 ^ 64 }
         ensures number { self.new.number ≡ self.old.number }
-        ensures log { CallsAfter M.Kind.means self.old.log seat.old.caller call result self.new.log }
+        ensures log { CallsAfter M.Kind.means self.old.log seat.old.caller (seat.old.calls + 1) call result self.new.log }
         ensures counts { Counted call seat.old result seat.new }
         ensures turns { self.new.turns ≡ turned self.old.number seat.old result self.old.turns }
     {
-        if seat.calls() == u64::MAX {
-            return Called::NoRoom(call);
-        }
         if !self.take_in() {
+            drop(room);
             return Called::NoRoom(call);
         }
-        self.enter(seat, call, copy)
+        self.enter(seat, call, room)
     }
 
     /// The stream with its history, the counts, and the inlet.

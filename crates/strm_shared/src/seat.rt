@@ -1,15 +1,16 @@
 //! What a caller of a shared stream holds.
-ghost use Rattle.std.specs.Prelude.{◌≡◌, ◌+◌, ◌<◌, ◌^◌};
+ghost use Rattle.std.specs.Prelude.{◌≡◌, ◌+◌, ◌<◌, ◌^◌, ◌&&◌, true};
 
 use std::marker::Model;
 
-/// What a caller of a shared stream holds: its number, that of the stream, and how many of its calls
-/// were made. Only `Shared::new` makes seats.
+/// What a caller of a shared stream holds: its number, that of the stream, how many of its calls were made,
+/// and whether each of them has a receipt. Only `Shared::new` makes seats.
 #[derive(Drop)]
 pub struct Seat {
     number: u32,
     caller: u32,
     calls: u64,
+    shown: bool,
 }
 
 impl Model for Seat {
@@ -17,18 +18,19 @@ impl Model for Seat {
 
     ghost Value = { SeatValue };
 
-    ghost view = { λ s. record { number = s.number; caller = s.caller; calls = s.calls } };
+    ghost view = { λ s. record { number = s.number; caller = s.caller; calls = s.calls; shown = s.shown } };
 }
 
 impl Seat {
     /// A seat that has made no call.
     pub(crate) fn new(number: u32, caller: u32) -> Seat
-        ensures { result ≡ record { number = number; caller = caller; calls = 0 } }
+        ensures { result ≡ record { number = number; caller = caller; calls = 0; shown = true } }
     {
         Seat {
             number,
             caller,
             calls: 0,
+            shown: true,
         }
     }
 
@@ -53,11 +55,19 @@ impl Seat {
         self.calls
     }
 
-    /// One call more was made.
-    pub(crate) fn count(&mut self)
+    /// Whether each call that was made from here has a receipt.
+    pub fn is_shown(&self) -> bool
+        ensures { result ≡ self.now.shown }
+    {
+        self.shown
+    }
+
+    /// One call more was made, which has a receipt or has none.
+    pub(crate) fn count(&mut self, has_receipt: bool)
         requires { self.old.calls + 1 < 2 ^ 64 }
-        ensures { self.new ≡ record self.old { calls = self.old.calls + 1 } }
+        ensures { self.new ≡ record self.old { calls = self.old.calls + 1; shown = self.old.shown && has_receipt } }
     {
         self.calls += 1;
+        self.shown = self.shown && has_receipt;
     }
 }

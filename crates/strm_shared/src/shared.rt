@@ -6,10 +6,11 @@ ghost use Rattle.strm_history.specs.History.{arrivals, own, Legal};
 ghost use Rattle.strm_history.specs.Serials.{AreAccounted};
 ghost use Rattle.strm_shared.specs.Feed.{accepted_of, fresh_feeder};
 ghost use Rattle.strm_shared.specs.Runs.{IsNextOf};
-ghost use Rattle.strm_shared.specs.Ending.{fresh_seats, has_seat, is_fed, AreSeats, CountsAgree, Counted, HandsBack};
+ghost use Rattle.strm_shared.specs.Ending.{fresh_seats, has_seat, is_fed, AreSeats, AreShown, CountsAgree, Counted, HandsBack, Shows};
 ghost use Rattle.strm_shared.specs.Turns.{AreFirstOf};
 
-use crate::ending::{are_seats, is_fed};
+use crate::ended::{Ended, places_of};
+use crate::ending::{are_seats, are_shown, is_fed};
 use crate::fault::{EndFault, SharedFault};
 use crate::feeder::{FeedEnd, Feeder};
 use crate::locked::Locked;
@@ -19,10 +20,9 @@ use crate::seat::Seat;
 use std::alloc::Global;
 use std::marker::Model;
 use std::sync::{Mutex, Wait};
-use strm_head::Stream;
-use strm_history::{Call, Called, Entry, Setup, copy_request};
+use strm_history::{Call, Called, Setup, room_for};
 use strm_module::{Boxed, ModuleOf};
-use strm_msg::{Message, NoMem};
+use strm_msg::NoMem;
 
 /// A stream that several callers share.
 ///
@@ -42,17 +42,6 @@ impl<M: ModuleOf, N: Runs<M::Kind>> Model for Shared<M, N> {
     ghost Value = { SharedValue };
 
     ghost view = { λ s. record { number = s.number; setup = s.setup; seats = s.seats } };
-}
-
-/// What is left of a shared stream.
-#[derive(Drop)]
-pub struct Ended<M: ModuleOf> {
-    /// Every step, in order.
-    pub history: Vec<Entry<M::Kind>>,
-    /// The stream to which they led.
-    pub stream: Stream<M>,
-    /// The messages that were accepted and had not come in, in order: the one that was held back, and what the ring still held.
-    pub left: Vec<Message>,
 }
 
 /// A seat for each caller, that has made no call. Refused for want of memory alone.
@@ -123,18 +112,27 @@ impl<M: ModuleOf, N: Runs<M::Kind>> Shared<M, N> {
     /// message of the line, or since the seat can count no more, and then it has changed nothing.
     ///
     /// To be called with a seat of this number, and with the call that the run has next for it; in a run of
-    /// `AnyCalls` any is. Modules that come back are the caller's, and are not
-    /// dropped under the lock.
-    pub fn call<R: Wait>(&self, rt: &R, seat: &mut Seat, call: Call<Boxed<M>>) -> Called<Boxed<M>>
+    /// `AnyCalls` any is. Modules that come back are the caller's, and are not dropped under the lock. The receipt is of
+    /// the seat's next call: its entry is the one that the history has, with this caller, end, request and answer.
+    pub fn call<R: Wait>(
+        &self,
+        rt: &R,
+        seat: &mut Seat,
+        call: Call<Boxed<M>>,
+    ) -> Called<Boxed<M>, M::Kind>
         requires number { seat.old.number ≡ self.now.number }
         requires next { IsNextOf (N.calls seat.old.number seat.old.caller) seat.old.calls (call.end, Asked call.request) }
         ensures counts { Counted call seat.old result seat.new }
         ensures back { HandsBack call result }
+        ensures shown { Shows seat.old call result }
     {
-        let Ok(copy) = copy_request(self.alloc, &call.request) else {
+        if seat.calls() == u64::MAX {
+            return Called::NoRoom(call);
+        }
+        let Ok(room) = room_for(self.alloc, seat.caller(), seat.calls() + 1, &call) else {
             return Called::NoRoom(call);
         };
-        self.locked.lock(rt).call(seat, call, copy)
+        self.locked.lock(rt).call(seat, call, room)
     }
 
     /// Ends the stream, when no caller and no feeder has it any more: its whole history, the stream
@@ -143,22 +141,25 @@ impl<M: ModuleOf, N: Runs<M::Kind>> Shared<M, N> {
     /// Refused with `Seats` exactly where the seats are not those of this number, one for each caller, in
     /// any order; then with `Unfinished`, where a line's feeder is not shown to have ended, or what stood
     /// under the lock has another number or setup, calls of a seat that is not of this stream, or another
-    /// number of calls than a seat counts; and then with `NoMem` for want of memory for what is left. Then all is
-    /// dropped.
+    /// number of calls than a seat counts; then with `NoReceipt`, where a call that was made has no receipt; and then
+    /// with `NoMem` for want of memory for what is left. Then all is dropped.
     pub fn end(
         self,
         seats: Vec<Seat>,
         feed: Option<FeedEnd<M::Kind, N>>,
     ) -> Result<Ended<M>, EndFault>
-        ensures legal { IfOk result (λ ended. Legal M.Kind.means (opened self.setup) ended.history.items ended.stream) }
-        ensures accounts { IfOk result (λ ended. AreAccounted (opened self.setup) ended.history.items ended.stream) }
-        ensures callers { IfOk result (λ ended. All (λ entry. has_seat self.seats entry.who ≡ true) ended.history.items) }
-        ensures counts { IfOk result (λ ended. CountsAgree ended.history.items seats.items) }
-        ensures first { IfOk result (λ ended. (caller : ℕ) → AreFirstOf (N.calls self.number caller) (own caller ended.history.items)) }
-        ensures arrived { IfOk result (λ ended. arrivals ended.history.items ++ ended.left.items ≡ accepted_of feed) }
+        ensures legal { IfOk result (λ ended. Legal M.Kind.means (opened self.setup) ended.history ended.stream) }
+        ensures accounts { IfOk result (λ ended. AreAccounted (opened self.setup) ended.history ended.stream) }
+        ensures callers { IfOk result (λ ended. All (λ entry. has_seat self.seats entry.who ≡ true) ended.history) }
+        ensures counts { IfOk result (λ ended. CountsAgree ended.history seats.items) }
+        ensures first { IfOk result (λ ended. (caller : ℕ) → AreFirstOf (N.calls self.number caller) (own caller ended.history)) }
+        ensures arrived { IfOk result (λ ended. arrivals ended.history ++ ended.left ≡ accepted_of feed) }
         ensures fed { OnOk result (is_fed self.number self.setup feed ≡ true) }
         ensures seated { OnOk result (AreSeats self.number self.seats seats.items) }
+        ensures shown { OnOk result (AreShown seats.items) }
         ensures seats { IsErrOf result EndFault.Seats ↔ (AreSeats self.number self.seats seats.items → ⊥) }
+        ensures no_receipt { IsErrOf result EndFault.NoReceipt → (AreSeats self.number self.seats seats.items) × (is_fed self.number self.setup feed ≡ true) × (AreShown seats.items → ⊥) }
+        ensures memory { IsErrOf result EndFault.NoMem → AreShown seats.items }
     {
         let Shared {
             number,
@@ -191,16 +192,23 @@ impl<M: ModuleOf, N: Runs<M::Kind>> Shared<M, N> {
             drop(feed);
             return Err(EndFault::Unfinished);
         }
+        if !are_shown(seats.as_slice()) {
+            drop(log);
+            drop(inlet);
+            drop(feed);
+            return Err(EndFault::NoReceipt);
+        }
         let (history, stream) = log.into_parts();
         let Ok(left) = inlet.drain(alloc, feed) else {
             drop(history);
             drop(stream);
             return Err(EndFault::NoMem);
         };
-        Ok(Ended {
-            history,
-            stream,
-            left,
-        })
+        let Ok(places) = places_of(alloc, callers, history.as_slice()) else {
+            drop(history);
+            drop(stream);
+            return Err(EndFault::NoMem);
+        };
+        Ok(Ended::new(history, stream, left, places))
     }
 }

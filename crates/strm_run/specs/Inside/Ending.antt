@@ -1,13 +1,14 @@
 -- The seats and feeders of a run when its threads have ended, and how its streams end.
-use Rattle.std.specs.Prelude.{◌≡◌, ℕ, ◌+◌, ◌<◌, Bool, true, false, Option, Some, None, List, [], All, get_or, length, Vec, ⊤}
+use Rattle.std.specs.Prelude.{◌≡◌, ℕ, ◌+◌, ◌<◌, Bool, true, false, Option, Some, None, Result, Ok, Err, List, [], All, get_or, length, Vec, ⊤}
 use Rattle.std.specs.Global.{Global}
 use Rattle.strm_msg.specs.Message.{Msg}
 use Rattle.strm_msg.specs.declared.words.End.TheVariants.{A, B}
-use Rattle.strm_module.specs.Kinds.{Meaning}
 use Rattle.strm_ends.specs.Image.{Image, end_of}
 use Rattle.strm_head.specs.Step.{is_line}
 use Rattle.strm_history.specs.declared.setup.Setup.{Setup}
 use Rattle.strm_history.specs.declared.entry.Entry.{Entry}
+use Rattle.strm_history.specs.Receipt.{ReceiptValue}
+use Rattle.strm_shared.specs.Ended.{EndedValue}
 use Rattle.strm_shared.specs.declared.fault.EndFault.{EndFault}
 use Rattle.strm_shared.specs.declared.fault.EndFault.TheVariants as EndFaults
 use Rattle.strm_history.specs.History.{arrivals}
@@ -17,10 +18,11 @@ use Rattle.strm_shared.specs.Ending.{SharedValue}
 use Rattle.strm_run.specs.declared.fault.RunFault.{RunFault}
 use Rattle.strm_run.specs.declared.fault.RunFault.TheVariants as RunFaults
 use Rattle.strm_crew.specs.declared.transcript.StreamLog.{StreamLog}
-use Rattle.strm_crew.specs.Scripts.{feed_of}
+use Rattle.strm_crew.specs.Scripts.{calls_on, feed_of, script_of}
+use Rattle.strm_crew.specs.Account.{AreReceipts, HasReceipts, IsHeld}
 use Rattle.strm_crew.specs.Run.{RunValue}
 use Rattle.strm_crew.specs.Play.{OfferedValue, HasOffered, HasPlayed}
-use Rattle.strm_crew.specs.Transcript.{names_at, HaveEnded}
+use Rattle.strm_crew.specs.Transcript.{names_at}
 
 -- the seats of callers that have played their scripts, in order of the streams
 pub record AreSeatsPlayed {K : Type 0} (run : RunValue K) (seats : List (Vec SeatValue Global)) : Type 0 where
@@ -52,14 +54,8 @@ abbrev pub is_end_refused : RunFault → Bool
 is_end_refused RunFaults.Workers = false
 is_end_refused RunFaults.NoSuch = false
 is_end_refused RunFaults.NoMem = true
-is_end_refused RunFaults.Unlike = false
 is_end_refused RunFaults.Unfinished = true
-
--- what the end of a stream that was refused is to the run
-abbrev pub fault_of : EndFault → RunFault
-fault_of EndFaults.Seats = RunFaults.Unfinished
-fault_of EndFaults.Unfinished = RunFaults.Unfinished
-fault_of EndFaults.NoMem = RunFaults.NoMem
+is_end_refused RunFaults.NoReceipt = false
 
 -- what is left of a stream that ended with this history, and with these messages not come in
 pub record IsLogOf {K : Type 0} (history : List (Entry K)) (stream : Image K) (left : List Msg) (overrun : ℕ) (log : StreamLog K) : Type 0 where
@@ -70,13 +66,34 @@ pub record IsLogOf {K : Type 0} (history : List (Entry K)) (stream : Image K) (l
   pub arrived : log.arrived ≡ length (arrivals history)
   pub overrun_is : log.overrun ≡ overrun
 
--- for kinds of any meaning
-module _ {K : Type 0} (means : Meaning K) where
-  -- a fault of a run of which all is there: want of memory, a stream that did not end, or, where each has ended, answers that are
-  -- unlike
-  abbrev pub IsLate : RunValue K → RunFault → Type 0
-  IsLate run RunFaults.Workers = ⊥
-  IsLate run RunFaults.NoSuch = ⊥
-  IsLate run RunFaults.NoMem = ⊤
-  IsLate run RunFaults.Unfinished = ⊤
-  IsLate run RunFaults.Unlike = HaveEnded means run
+-- what is left of a stream, where each receipt holds, or nothing, where one does not or a call has none: of a stream that ended, or did
+-- not
+abbrev pub Leaves : {K : Type 0} → Result (EndedValue K) EndFault → List (Vec (ReceiptValue K) Global) → ℕ → Result (Option (StreamLog K)) RunFault → Type 0
+Leaves (Ok ended) receipts overrun (Ok (Some log)) =
+    IsLogOf ended.history ended.stream ended.left overrun log × All (λ mine. All (λ r. IsHeld ended.history r) mine.items) receipts
+Leaves (Ok ended) receipts overrun (Ok None) = All (λ mine. All (λ r. IsHeld ended.history r) mine.items) receipts → ⊥
+Leaves (Ok ended) receipts overrun (Err fault) = ⊥
+Leaves (Err fault) receipts overrun (Ok (Some log)) = ⊥
+Leaves (Err fault) receipts overrun (Ok None) = fault ≡ EndFaults.NoReceipt
+Leaves (Err EndFaults.Seats) receipts overrun (Err refused) = refused ≡ RunFaults.Unfinished
+Leaves (Err EndFaults.Unfinished) receipts overrun (Err refused) = refused ≡ RunFaults.Unfinished
+Leaves (Err EndFaults.NoMem) receipts overrun (Err refused) = refused ≡ RunFaults.NoMem
+Leaves (Err EndFaults.NoReceipt) receipts overrun (Err refused) = ⊥
+
+-- seats, and of each the receipts of what was done from it
+pub record AreParted {K : Type 0} (run : RunValue K) (seats : List SeatValue) (receipts : List (Vec (ReceiptValue K) Global)) : Type 0 where
+  pub many : length receipts ≡ length seats
+  pub each : (k : ℕ) (s : SeatValue) (d : Vec (ReceiptValue K) Global) → k < length seats → HasReceipts run (get_or seats k s) (get_or receipts k d).items
+
+-- each caller has receipts of all calls that its script has for a stream, in order, and the history holds each
+abbrev pub AreTold : {K : Type 0} → RunValue K → ℕ → List (Entry K) → Type 0
+AreTold {K} run number history =
+    (caller : ℕ) → caller < length run.scripts → (receipts : List (ReceiptValue K)) × AreReceipts caller (calls_on number (script_of run.scripts caller)) receipts × All (IsHeld history) receipts
+
+-- a fault of a run of which all is there: none of those that were looked at before
+abbrev pub IsLate : RunFault → Type 0
+IsLate RunFaults.Workers = ⊥
+IsLate RunFaults.NoSuch = ⊥
+IsLate RunFaults.NoMem = ⊤
+IsLate RunFaults.Unfinished = ⊤
+IsLate RunFaults.NoReceipt = ⊤

@@ -11,7 +11,7 @@ use std::sync::{OnceLock, Wait};
 use std::thread;
 use std::thread::Threads;
 use strm_head::Request;
-use strm_history::{Call, Setup};
+use strm_history::{Call, SameKind, Setup};
 use strm_module::{Boxed, Kind, Module, ModuleOf, Plain};
 use strm_msg::{End, Message};
 use strm_run::{
@@ -26,7 +26,6 @@ mod long;
 mod order;
 mod streams;
 mod together;
-mod told;
 mod want;
 
 /// How often a gate or a module looks whether what it waits for has come.
@@ -168,8 +167,8 @@ fn run_of<M: ModuleOf, G: Gate, R: Abort + Threads + Wait + Sync>(
     gate: &G,
 ) -> Result<Transcript<M::Kind>, RunFault>
 where
-    M::Kind: Send,
-    requires { FitsInMemory (called_type.the_row (boxed_type.the_row M.row M.Kind.row M.Kind.Kinds)) }
+    M::Kind: SameKind + Send + Sync,
+    requires { FitsInMemory (called_type.the_row (boxed_type.the_row M.row M.Kind.row M.Kind.Kinds) M.Kind.row) }
 {
     assert!(rt; are_setups(setups.as_slice()) && are_from_line(feeds.as_slice()));
     assert!(rt; setups.len() < 1000 && scripts.len() < 1000);

@@ -16,6 +16,7 @@ mod callers;
 mod ending;
 mod lines;
 mod many;
+mod receipts;
 
 /// A shared stream, its seats, and for a line its feeder.
 type Made<M, N> = (
@@ -64,7 +65,7 @@ fn call<M: ModuleOf, N: Runs<M::Kind>, R: Abort + Wait>(
     seat: &mut Seat,
     end: End,
     request: Request<Boxed<M>>,
-) -> Called<Boxed<M>>
+) -> Called<Boxed<M>, M::Kind>
     requires { (number caller : ℕ) → N.calls number caller ≡ None }
 {
     assert!(rt; seat.number() == shared.number());

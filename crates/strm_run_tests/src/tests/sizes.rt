@@ -1,7 +1,7 @@
 //! What is moved from one function to the next is small: sizes in bytes.
 use std::mem::size_of;
 use strm_head::{Answer, Event, Name, Outcome, Reply, Request};
-use strm_history::{Called, Entry};
+use strm_history::{Called, Entry, Kept, Receipt};
 use strm_module::{Boxed, BoxedShape, Kind, Plain};
 use strm_msg::Message;
 use strm_run::ScriptCall;
@@ -16,11 +16,13 @@ fn what_a_call_moves_is_small(rt: HostRuntime) {
         ("a request", size_of::<Request<Boxed<Plain>>>(), 80),
         ("an event", size_of::<Event<BoxedShape<Kind>>>(), 104),
         ("an entry", size_of::<Entry<Kind>>(), 280),
+        ("an entry in its place", size_of::<Kept<Kind>>(), 24),
+        ("a receipt", size_of::<Receipt<Kind>>(), 32),
         ("an outcome", size_of::<Outcome<Plain>>(), 392),
         (
             "what becomes of a call",
-            size_of::<Called<Boxed<Plain>>>(),
-            256,
+            size_of::<Called<Boxed<Plain>, Kind>>(),
+            296,
         ),
         (
             "a call of a script",

@@ -9,7 +9,7 @@ use std::io::{self, ErrorKind, Write};
 use std::process::Abort;
 use strm_call::{Acknowledged, Answer, Name, Refusal, Reply, Request};
 use strm_head::{Event, MOST_MODULES, Moves};
-use strm_history::{Entry, Serials, Who};
+use strm_history::{Entry, Kept, Serials, Who};
 use strm_module::Kind;
 use strm_msg::End::{A, B};
 use strm_msg::{Bytes, End, Errno, Message};
@@ -178,8 +178,14 @@ fn answer(rt: &impl Abort, alloc: Global, say: Say) -> Answer {
 }
 
 /// A step that somebody made, of which the places that moved are not told.
-fn step(alloc: Global, who: Who, end: End, event: Event<PushDecl>, answer: Answer) -> Entry<Kind> {
-    Entry {
+fn step(
+    rt: &impl Abort,
+    alloc: Global,
+    (who, end): (Who, End),
+    event: Event<PushDecl>,
+    answer: Answer,
+) -> Kept<Kind> {
+    let entry = Entry {
         who,
         end,
         event,
@@ -187,22 +193,23 @@ fn step(alloc: Global, who: Who, end: End, event: Event<PushDecl>, answer: Answe
         moves: Moves::new(alloc),
         looks: 0,
         out: Serials::none(),
-    }
+    };
+    Kept::plain(Box::new(alloc, entry).expect(rt, "no memory"))
 }
 
 /// A message that came in.
-fn came(alloc: Global, m: Message, answer: Answer) -> Entry<Kind> {
-    step(alloc, Who::Line, A, Event::Arrived(m), answer)
+fn came(rt: &impl Abort, alloc: Global, m: Message, answer: Answer) -> Kept<Kind> {
+    step(rt, alloc, (Who::Line, A), Event::Arrived(m), answer)
 }
 
 /// The messages that come in.
-fn arrivals(rt: &impl Abort, alloc: Global) -> [Entry<Kind>; 3] {
+fn arrivals(rt: &impl Abort, alloc: Global) -> [Kept<Kind>; 3] {
     let data = Message::of_data(alloc, 255, b"a b").expect(rt, "no memory");
     let done = || Answer::Done(Reply::Line);
     [
-        came(alloc, Message::of_flush(false, true, Some(7)), done()),
-        came(alloc, Message::of_flush(false, false, Some(0)), done()),
-        came(alloc, data, Answer::Broke),
+        came(rt, alloc, Message::of_flush(false, true, Some(7)), done()),
+        came(rt, alloc, Message::of_flush(false, false, Some(0)), done()),
+        came(rt, alloc, data, Answer::Broke),
     ]
 }
 
@@ -238,12 +245,12 @@ fn printed(rt: &impl Abort, alloc: Global, plan: &Plan, log: StreamLog<Kind>) ->
 }
 
 /// The steps, of which each call is made by the second process.
-fn steps(rt: &impl Abort, alloc: Global) -> Vec<Entry<Kind>> {
+fn steps(rt: &impl Abort, alloc: Global) -> Vec<Kept<Kind>> {
     let mut history = Vec::new(alloc);
     for (end, ask, say, _) in CALLS {
         let event = Event::Asked(request(rt, alloc, ask));
         let said = answer(rt, alloc, say);
-        let entry = step(alloc, Who::Caller(1), end, event, said);
+        let entry = step(rt, alloc, (Who::Caller(1), end), event, said);
         history.push(entry).expect(rt, "no memory");
     }
     for entry in arrivals(rt, alloc) {
@@ -287,12 +294,12 @@ const FED: &str = "stream s\n\
     open a\nfeed accepted 3 arrived 2 overrun 1\n";
 
 /// A step for each message of the plan's feeds.
-fn fed(rt: &impl Abort, alloc: Global, plan: &Plan) -> Vec<Entry<Kind>> {
+fn fed(rt: &impl Abort, alloc: Global, plan: &Plan) -> Vec<Kept<Kind>> {
     let mut history = Vec::new(alloc);
     for feed in &plan.feeds {
         for m in &feed.messages {
             let m = m.copy(alloc).expect(rt, "no memory");
-            let entry = came(alloc, m, Answer::Done(Reply::Line));
+            let entry = came(rt, alloc, m, Answer::Done(Reply::Line));
             history.push(entry).expect(rt, "no memory");
         }
     }
@@ -317,7 +324,7 @@ fn transcript(rt: &impl Abort, alloc: Global) -> Transcript<Kind> {
         names: ArrayVec::new(),
     };
     let event = Event::Asked(Request::Close);
-    let entry = step(alloc, Who::Caller(0), A, event, Answer::Done(reply));
+    let entry = step(rt, alloc, (Who::Caller(0), A), event, Answer::Done(reply));
     let mut second = log(rt, alloc, &[]);
     second.a = None;
     second.history.push(entry).expect(rt, "no memory");

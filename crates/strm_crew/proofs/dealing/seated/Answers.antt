@@ -4,7 +4,7 @@ use Rattle.std.specs.Vec.Iter.{into_iter_items}
 use Rattle.strm_crew.specs.declared.script.Script.{Script}
 use Rattle.strm_crew.proofs.PlayLemmas.{iterated_len}
 use Rattle.strm_crew.proofs.ReachedLemmas.{behind_more, reached_is, reached_there}
-use Rattle.strm_crew.proofs.DealLemmas.{caller_more, player_before, script_reached}
+use Rattle.strm_crew.proofs.DealLemmas.{caller_more, none_called, player_before, script_reached}
 use Rattle.strm_crew.proofs.dealing.seated.Goals as goal
 
 pub new-requires-in-loop-script-after_bounds : goal.new-requires-in-loop-script-after_bounds
@@ -15,12 +15,20 @@ new-requires-in-loop-script-after_bounds g c κs within =
     let there = reached_there g.N.Plays.run.scripts c.loop-script.yielded _ c.in-Some.script c.loop-script.caller is was.place in
     let on_streams : All (λ (script : Script _). All (λ one. one.stream < length g.N.Plays.run.setups) script.calls.items) g.N.Plays.run.scripts =
     rw c.requires.scripts c.requires.there in
-    player_before g.N.Plays.run c.loop-script.caller c.in-Some.script.calls.items c.args.seats.items c.loop-script.seats.items c.replace-mine.result _ c.requires.seats there
+    player_before g.N.Plays.run c.loop-script.caller c.in-Some.script.calls.items c.args.seats.items c.loop-script.seats.items c.replace-mine.result c.in_ok-accounts.accounts.items c.requires.seats there
     (script_reached g.N.Plays.run.scripts c.loop-script.yielded _ c.in-Some.script c.loop-script.caller is was.place)
     (subst (λ (script : Script _). All (λ one. one.stream < length g.N.Plays.run.setups) script.calls.items) (reached_is g.N.Plays.run.scripts c.loop-script.yielded _ c.in-Some.script c.in-Some.script c.loop-script.caller is was.place) (on_streams c.loop-script.caller c.in-Some.script there))
     was.behind
     (rw c.replace-mine.ensures.value c.index_mut.ensures.value)
-    (c.in_ok-answers.ensures.many ∙ sym c.requires.streams)
+    c.in_ok-accounts.ensures
+
+pub accounts_of-requires : goal.accounts_of-requires
+accounts_of-requires g c =
+    let was = c.loop-script.invariant in
+    let is : c.loop-script.yielded ++ c.in-Some.script ∷ into_iter_items c.next.new.self ≡ g.N.Plays.run.scripts =
+    sym (ap (λ l. c.loop-script.yielded ++ l) c.in-Some.ensures.steps.0) ∙ was.rest ∙ sym c.requires.scripts in
+    let there = reached_there g.N.Plays.run.scripts c.loop-script.yielded _ c.in-Some.script c.loop-script.caller is was.place in
+    none_called g.N.Plays.run c.loop-script.caller c.args.seats.items c.loop-script.seats.items c.replace-mine.result c.requires.seats there was.behind (rw c.replace-mine.ensures.value c.index_mut.ensures.value)
 
 pub loop-script-preserved : goal.loop-script-preserved
 loop-script-preserved g c =

@@ -4,9 +4,9 @@ use Rattle.strm_crew.proofs.transcript.log_of.Goals as goal
 
 pub overflow_add-result : goal.overflow_add-result
 overflow_add-result g c =
-    let few = arrivals_few c.args.ended.history.items in
-    let ok = c.args.ended.history.ok in
-    let small = c.args.ended.history.small in
-    let also_ok = c.args.ended.left.ok in
-    let also_small = c.args.ended.left.small in
+    let few = arrivals_few c.into_parts-history.result.0.items in
+    let ok = c.into_parts-history.result.0.ok in
+    let small = c.into_parts-history.result.0.small in
+    let also_ok = c.into_parts-history.result.2.ok in
+    let also_small = c.into_parts-history.result.2.small in
     search rules

@@ -27,7 +27,7 @@ pub index_mut-requires : goal.index_mut-requires
 index_mut-requires g c =
     let was = c.loop-shared.invariant in
     let there = place_there g.N.Plays.run (c.loop-shared.yielded ++ into_iter_items c.loop-shared.shared-iterator) c.loop-shared.yielded (into_iter_items c.next.new.self) c.loop-shared.at c.in-Some.shared was.ending.streams_are (ap (λ l. c.loop-shared.yielded ++ l) c.in-Some.ensures.steps.0) was.place in
-    let ok = c.loop-shared.seats.ok in
+    let ok = c.loop-shared.accounts.ok in
     let many = was.ending.many in
     omega arith
 
@@ -47,7 +47,7 @@ end_one-requires-clause-stream g c κs within =
 pub end_one-requires-clause-seats : goal.end_one-requires-clause-seats
 end_one-requires-clause-seats g c κs within =
     let was = c.loop-shared.invariant in
-    next_played g.N.Plays.run (c.loop-shared.yielded ++ into_iter_items c.loop-shared.shared-iterator) c.loop-shared.yielded (into_iter_items c.next.new.self) c.loop-shared.at c.in-Some.shared was.ending.streams_are (ap (λ l. c.loop-shared.yielded ++ l) c.in-Some.ensures.steps.0) was.place g.M.Kind.Kinds.means c.loop-shared.seats.items c.loop-shared.logs.items was.ending c.replace-mine.result c.index_mut.result.now c.replace-mine.ensures.value c.index_mut.ensures.value
+    next_played g.N.Plays.run (c.loop-shared.yielded ++ into_iter_items c.loop-shared.shared-iterator) c.loop-shared.yielded (into_iter_items c.next.new.self) c.loop-shared.at c.in-Some.shared was.ending.streams_are (ap (λ l. c.loop-shared.yielded ++ l) c.in-Some.ensures.steps.0) was.place g.M.Kind.Kinds.means c.loop-shared.accounts.items c.loop-shared.logs.items was.ending c.replace-mine.result c.index_mut.result.now c.replace-mine.ensures.value c.index_mut.ensures.value
 
 pub end_one-requires-clause-unfed : goal.end_one-requires-clause-unfed
 end_one-requires-clause-unfed g c κs within =
@@ -71,10 +71,10 @@ loop-shared-preserved g c =
       left = iterated_len (into_iter_items c.loop-shared.shared-iterator) (into_iter_items c.next.new.self) c.in-Some.shared _ _ was.left next c.in-Some.ensures.steps.1;
       place = ap (λ n. n + 1) was.place ∙ sym (length_push c.loop-shared.yielded c.in-Some.shared);
       offered = length-set c.loop-shared.offered.items c.loop-shared.at c.take.new.self ∙ was.offered;
-      ending = rw (append_assoc, ← next) (ended_more g.N.Plays.run (c.loop-shared.yielded ++ into_iter_items c.loop-shared.shared-iterator) c.loop-shared.yielded (into_iter_items c.next.new.self) c.loop-shared.at c.in-Some.shared was.ending.streams_are (ap (λ l. c.loop-shared.yielded ++ l) next) was.place g.M.Kind.Kinds.means c.loop-shared.seats.items c.loop-shared.logs.items was.ending c.in_ok-log.log c.replace-mine.new.dest c.push.new.self.items c.in-Ok-push.ensures.items c.in_ok-log.ensures.log);
+      ending = rw (append_assoc, ← next) (ended_more g.N.Plays.run (c.loop-shared.yielded ++ into_iter_items c.loop-shared.shared-iterator) c.loop-shared.yielded (into_iter_items c.next.new.self) c.loop-shared.at c.in-Some.shared was.ending.streams_are (ap (λ l. c.loop-shared.yielded ++ l) next) was.place g.M.Kind.Kinds.means c.loop-shared.accounts.items c.loop-shared.logs.items was.ending c.in_ok-log.log c.replace-mine.new.dest c.push.new.self.items c.in-Ok-push.ensures.items c.in_ok-log.ensures.log);
     }
 
-pub returns-clause-logs : goal.returns-clause-logs
-returns-clause-logs g c =
+pub returns-in-Some-2-clause-logs : goal.returns-in-Some-2-clause-logs
+returns-in-Some-2-clause-logs g c =
     let was = c.loop-shared.invariant in
-    ended_all g.M.Kind.Kinds.means g.N.Plays.run c.loop-shared.yielded (into_iter_items c.loop-shared.shared-iterator) c.loop-shared.at c.loop-shared.seats.items c.loop-shared.logs.items (nil_from_length _ (sym was.left ∙ c.in-None.ensures.steps.0)) was.place was.ending
+    ended_all g.M.Kind.Kinds.means g.N.Plays.run c.loop-shared.yielded (into_iter_items c.loop-shared.shared-iterator) c.loop-shared.at c.loop-shared.accounts.items c.loop-shared.logs.items c.in-Some-2.logs.items (nil_from_length _ (sym was.left ∙ c.in-None.ensures.steps.0)) was.place was.ending (rw c.in-Some-2.is at c.in_ok-logs.ensures)

@@ -9,5 +9,5 @@ invariant-loop-shared g l = record {
   left : into_iter_len l.shared-iterator ≡ length (into_iter_items l.shared-iterator);
   place : l.at ≡ length l.yielded;
   offered : length l.offered.items ≡ length g.N.Plays.run.setups;
-  ending : AreEnding g.M.Kind.Kinds.means g.N.Plays.run (l.yielded ++ into_iter_items l.shared-iterator) l.at l.seats.items l.logs.items;
+  ending : AreEnding g.M.Kind.Kinds.means g.N.Plays.run (l.yielded ++ into_iter_items l.shared-iterator) l.at l.accounts.items l.logs.items;
 }

@@ -1,6 +1,6 @@
 use Rattle.std.proofs.Common.{◌∙◌, refl, sym}
 use Rattle.strm_crew.specs.Play.{Fits}
-use Rattle.strm_run.proofs.RunLemmas.{any_setup, ended_where_unlike, if_ok, none_such}
+use Rattle.strm_run.proofs.RunLemmas.{any_setup, if_ok, none_such}
 use Rattle.strm_run.proofs.running.run.Goals as goal
 
 pub returns-then-not-are_there-clause-no_such : goal.returns-then-not-are_there-clause-no_such
@@ -20,10 +20,7 @@ run_named-requires-clause-there g c κs within =
 pub returns-clause-no_such : goal.returns-clause-no_such
 returns-clause-no_such g c =
     let are = rw (c.as_slice.ensures.value, c.as_slice-2.ensures.value, c.as_slice-3.ensures.value) at c.are_there.ensures in
-    ((λ is. none_such g.M.Kind.Kinds.means _ c.run_named.result c.run_named.ensures.late is), (λ all. absurd (all.1 (are.0 c.if-not-are_there.false))))
-
-pub returns-clause-unlike : goal.returns-clause-unlike
-returns-clause-unlike g c is = ended_where_unlike g.M.Kind.Kinds.means _ c.run_named.result c.run_named.ensures.late is
+    ((λ is. none_such c.run_named.result c.run_named.ensures.late is), (λ all. absurd (all.1 (are.0 c.if-not-are_there.false))))
 
 pub returns-clause-many : goal.returns-clause-many
 returns-clause-many g c = if_ok _ _ c.run_named.result (λ t logs. logs.many) c.run_named.ensures.logs

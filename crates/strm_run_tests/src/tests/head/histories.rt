@@ -144,8 +144,8 @@ fn call_on<M: ModuleOf>(
     caller: u32,
     end: End,
     request: Request<Boxed<M>>,
-) -> Called<Boxed<M>> {
-    log.call(caller, strm_history::Call { end, request })
+) -> Called<Boxed<M>, M::Kind> {
+    log.call(caller, 1, strm_history::Call { end, request })
 }
 
 /// Makes a row happen: whether what comes back is what it says.
@@ -191,7 +191,11 @@ fn play(rt: &impl Abort, alloc: Global, (driver, rows): Table) -> Stream<Plain> 
     let mut entries = history.iter();
     for (at, row) in rows.iter().enumerate() {
         if !matches!(row.1, Happens::Left(_)) {
-            assert!(rt; is_entry(rt, alloc, entries.next(), *row, at), "entry {at}");
+            let entry = match entries.next() {
+                Some(kept) => Some(kept.entry()),
+                None => None,
+            };
+            assert!(rt; is_entry(rt, alloc, entry, *row, at), "entry {at}");
         }
     }
     assert!(rt; entries.next().is_none());

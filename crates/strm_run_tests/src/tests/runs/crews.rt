@@ -5,7 +5,7 @@ use std::alloc::Global;
 use std::process::Abort;
 use std::sync::Wait;
 use std::thread::Threads;
-use strm_history::{Entry, Setup};
+use strm_history::{Kept, Setup};
 use strm_module::Kind;
 use strm_msg::End::A;
 
@@ -28,7 +28,7 @@ const FIRST: [(u8, u64); 2] = [(b'a', 1), (b'd', 2)];
 const SECOND: [(u8, u64); 3] = [(b'b', 2), (b'c', 1), (b'e', 1)];
 
 /// Whether a history is of writes, and has of this caller these, in order, and no others.
-fn has_calls(history: &[Entry<Kind>], caller: u32, wanted: &[(u8, u64)]) -> bool {
+fn has_calls(history: &[Kept<Kind>], caller: u32, wanted: &[(u8, u64)]) -> bool {
     let mut at: usize = 0;
     for entry in history {
         let Some((who, first, len)) = wrote(entry) else {

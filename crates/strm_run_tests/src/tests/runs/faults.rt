@@ -57,8 +57,8 @@ fn faults_have_numbers_and_words(rt: HostRuntime) {
         (RunFault::Workers, 1, "workers"),
         (RunFault::NoSuch, 2, "no such stream or end"),
         (RunFault::NoMem, 3, "no memory"),
-        (RunFault::Unlike, 4, "unlike"),
         (RunFault::Unfinished, 5, "unfinished"),
+        (RunFault::NoReceipt, 6, "no receipt"),
     ] {
         assert!(rt; fault.number() == number && fault.text() == text);
     }

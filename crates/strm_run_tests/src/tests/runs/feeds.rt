@@ -2,21 +2,21 @@
 use super::{Ask, Fed, Open, Row, log, played};
 use crate::tests::{came, line};
 use strm_head::{Answer, Reply};
-use strm_history::Entry;
+use strm_history::Kept;
 use strm_module::Kind;
 use strm_msg::End::A;
 
 /// The first byte of data that came in with an entry.
-fn first_of(entry: &Entry<Kind>) -> Option<u8> {
-    match came(entry) {
+fn first_of(kept: &Kept<Kind>) -> Option<u8> {
+    match came(kept) {
         Some(dat) => dat.first().copied(),
         None => None,
     }
 }
 
 /// How many bytes a read took, where an entry is one.
-fn read(entry: &Entry<Kind>) -> Option<usize> {
-    match &entry.answer {
+fn read(kept: &Kept<Kind>) -> Option<usize> {
+    match &kept.entry().answer {
         Answer::Done(Reply::Read { dat }) => Some(dat.len()),
         _ => None,
     }
@@ -50,13 +50,13 @@ fn a_line_is_fed_while_a_caller_reads(rt: HostRuntime) {
     let mut next = b'a';
     let mut arrived: u64 = 0;
     let mut taken: usize = 0;
-    for entry in log.history.iter() {
-        if let Some(first) = first_of(entry) {
+    for kept in log.history.iter() {
+        if let Some(first) = first_of(kept) {
             assert_eq!(rt; first, next);
             next = next.saturating_add(1);
             arrived = arrived.saturating_add(1);
         }
-        taken = taken.saturating_add(read(entry).unwrap_or(0));
+        taken = taken.saturating_add(read(kept).unwrap_or(0));
     }
     assert_eq!(rt; arrived, log.arrived);
     assert!(rt; taken as u64 <= arrived);

@@ -27,8 +27,8 @@ fn a_script_of_65536_calls_ends_well(rt: HostRuntime) {
     let transcript = played(&rt, alloc, &[ECHO], (&[rows.as_slice()], &[]), 1, &Open);
     let history = log(&rt, &transcript, 0).history.as_slice();
     assert_eq!(rt; history.len(), CALLS);
-    for (at, entry) in history.iter().enumerate() {
-        match &entry.answer {
+    for (at, kept) in history.iter().enumerate() {
+        match &kept.entry().answer {
             Answer::Done(Reply::Write { len }) => assert!(rt; at % 2 == 0 && *len == 3),
             Answer::Done(Reply::Read { dat }) => assert!(rt;
                 at % 2 == 1 && dat.as_slice() == b"abc".as_slice()

@@ -5,7 +5,7 @@ use std::alloc::Global;
 use std::process::Abort;
 use std::sync::Wait;
 use strm_head::{Answer, Refusal, Reply, Request};
-use strm_history::Entry;
+use strm_history::Kept;
 use strm_module::{Kind, Plain};
 use strm_msg::End;
 use strm_shared::{Seat, Shared};
@@ -38,7 +38,7 @@ fn calls_of(seats: &Vec<Seat>, caller: usize) -> u64 {
 }
 
 /// Whether a history is of the writes.
-fn is_history(history: &[Entry<Kind>]) -> bool {
+fn is_history(history: &[Kept<Kind>]) -> bool {
     for (at, entry) in history.iter().enumerate() {
         let Some((caller, _, first, len)) = WRITES.get(at) else {
             return false;
@@ -58,7 +58,7 @@ fn the_history_has_each_call_in_order_with_its_caller(rt: HostRuntime) {
     assert!(rt; calls_of(&seats, 0) == 1 && calls_of(&seats, 1) == 2);
     seats.as_mut_slice().reverse();
     let end = ended(shared, seats, None).ok().expect(&rt, "an end");
-    assert!(rt; is_history(end.history.as_slice()));
+    assert!(rt; is_history(end.history()));
 }
 
 /// A module that passes everything on, of this serial.
@@ -87,7 +87,7 @@ fn modules_come_back_to_their_caller(rt: HostRuntime) {
     assert!(rt; closed.1 == padded(&[6, 5]));
     assert!(rt; seats.push(seat).is_ok());
     let end = ended(shared, seats, None).ok().expect(&rt, "an end");
-    let entry = end.history.last().expect(&rt, "an entry");
+    let entry = end.history().last().expect(&rt, "an entry").entry();
     assert_eq!(rt; entry.out.as_slice(), [6, 5].as_slice());
-    assert!(rt; !end.stream.is_open(End::A));
+    assert!(rt; !end.stream().is_open(End::A));
 }

@@ -56,7 +56,7 @@ fn seats_come_back_in_any_order(rt: HostRuntime) {
     assert_eq!(rt; seats.len(), 3);
     seats.as_mut_slice().reverse();
     let end = ended(shared, seats, None).ok().expect(&rt, "an end");
-    assert!(rt; end.history.is_empty() && end.left.is_empty());
+    assert!(rt; end.history().is_empty() && end.left().is_empty());
 }
 
 #[test]

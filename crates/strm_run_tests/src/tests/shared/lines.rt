@@ -9,7 +9,7 @@ use std::marker::Brand;
 use std::process::Abort;
 use std::sync::Wait;
 use strm_head::{Answer, Priority, Refusal, Reply, Request, Wanted};
-use strm_history::Entry;
+use strm_history::Kept;
 use strm_module::{Boxed, Kind, Plain};
 use strm_msg::{Errno, Message, Prot, ReadMode};
 use strm_shared::{EndFault, Feeder, Ring, Runs, Seat, Shared};
@@ -297,7 +297,7 @@ fn goes<N: Runs<Kind>, R: Abort + Wait>(
 }
 
 /// Whether this is the history that is wanted.
-fn is_history(history: &[Entry<Kind>], wanted: &[Option<&'static [u8]>]) -> bool {
+fn is_history(history: &[Kept<Kind>], wanted: &[Option<&'static [u8]>]) -> bool {
     if history.len() != wanted.len() {
         return false;
     }
@@ -337,10 +337,7 @@ fn plays<N: Runs<Kind>, R: Abort + Wait>(rt: &R, alloc: Global, ring: Ring, row:
     }
     seats.push(seat).expect(rt, "no memory");
     match ended(shared, seats, feeder.finish()) {
-        Ok(ended) => {
-            is_history(ended.history.as_slice(), row.history)
-                && is_left(ended.left.as_slice(), row.left)
-        }
+        Ok(ended) => { is_history(ended.history(), row.history) && is_left(ended.left(), row.left) }
         Err(_) => false,
     }
 }

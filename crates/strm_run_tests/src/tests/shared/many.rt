@@ -95,15 +95,15 @@ fn is_number(m: &Message, next: u32) -> bool {
 /// The numbers in order, once each, as they came in and as they are left; how many.
 fn count_in_order(ended: &Ended<Plain>) -> Option<u32> {
     let mut next: u32 = 0;
-    for entry in &ended.history {
-        if let Event::Arrived(m) = &entry.event {
+    for kept in ended.history() {
+        if let Event::Arrived(m) = &kept.entry().event {
             if !is_number(m, next) {
                 return None;
             }
             next = next.saturating_add(1);
         }
     }
-    for m in &ended.left {
+    for m in ended.left() {
         if !is_number(m, next) {
             return None;
         }

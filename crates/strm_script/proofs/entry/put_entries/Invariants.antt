@@ -5,5 +5,5 @@ use Rattle.strm_script.specs.Lines.{entries_text}
 use Rattle.strm_script.proofs.entry.put_entries.Given as goal
 
 -- the steps so far are written
-abbrev pub invariant-loop-entry : goal.invariant-loop-entry
-invariant-loop-entry g l = Appends (g.W.Write.contents l.fn.w) (g.W.Write.contents l.w) (entries_text (map process_view l.processes) l.stream (take l.entry-index l.entries))
+abbrev pub invariant-loop-kept : goal.invariant-loop-kept
+invariant-loop-kept g l = Appends (g.W.Write.contents l.fn.w) (g.W.Write.contents l.w) (entries_text (map process_view l.processes) l.stream (take l.kept-index l.entries))

@@ -1,23 +1,17 @@
 use Rattle.std.proofs.Common.{rules, sym, ◌∙◌}
-use Rattle.std.proofs.lemmas.List.{length-set, nil_from_length}
-use Rattle.strm_crew.proofs.PlayLemmas.{iterated_len, answer_there, stream_there, seat_there, seat_number, seat_next, player_after, all_played}
+use Rattle.std.proofs.lemmas.List.{nil_from_length}
+use Rattle.strm_crew.proofs.PlayLemmas.{iterated_len, stream_there, seat_there, seat_number, seat_next, player_after, all_played}
 use Rattle.strm_crew.proofs.player.Player.play.Goals as goal
 
 pub index_mut-requires : goal.index_mut-requires
 index_mut-requires g c =
-    let there = seat_there g.N.Plays.run _ _ c.in-Some.one _ _ _ c.in-Some.ensures.steps.0 c.loop-one.invariant.player in
-    let ok = c.loop-one.seats.ok in
-    search rules
-
-pub index_mut-requires-in-loop-one : goal.index_mut-requires-in-loop-one
-index_mut-requires-in-loop-one g c =
-    let there = answer_there g.N.Plays.run _ _ c.in-Some.one _ _ _ c.in-Some.ensures.steps.0 c.loop-one.invariant.player in
-    let ok = c.loop-one.answers.ok in
+    let there = seat_there g.N.Plays.run _ _ c.in-Some.one _ _ c.in-Some.ensures.steps.0 c.loop-one.invariant.player in
+    let ok = c.loop-one.accounts.ok in
     search rules
 
 pub at-requires-after_bounds : goal.at-requires-after_bounds
 at-requires-after_bounds g c κs within =
-    stream_there g.N.Plays.run _ _ c.in-Some.one _ _ _ c.in-Some.ensures.steps.0 c.loop-one.invariant.player
+    stream_there g.N.Plays.run _ _ c.in-Some.one _ _ c.in-Some.ensures.steps.0 c.loop-one.invariant.player
 
 pub call_on-kept-requires : goal.call_on-kept-requires
 call_on-kept-requires g c =
@@ -27,8 +21,8 @@ call_on-kept-requires g c =
       (
         c.requires,
         (
-          seat_number g.N.Plays.run _ _ c.in-Some.one _ _ _ c.in-Some.ensures.steps.0 c.loop-one.invariant.player seat at ∙ sym c.at.ensures,
-          seat_next g.N.Plays.run _ _ c.in-Some.one _ _ _ c.in-Some.ensures.steps.0 c.loop-one.invariant.player seat at,
+          seat_number g.N.Plays.run _ _ c.in-Some.one _ _ c.in-Some.ensures.steps.0 c.loop-one.invariant.player seat at ∙ sym c.at.ensures,
+          seat_next g.N.Plays.run _ _ c.in-Some.one _ _ c.in-Some.ensures.steps.0 c.loop-one.invariant.player seat at,
         ),
       ),
     )
@@ -39,9 +33,8 @@ loop-one-preserved g c =
     let at = c.index_mut.ensures.value in
     record {
       left = iterated_len _ _ _ _ _ c.loop-one.invariant.left c.in-Some.ensures.steps.0 c.in-Some.ensures.steps.1;
-      player = rw (length-set c.loop-one.answers.items c.in-Some.one.stream c.call_on-kept.new.answers)
-          (player_after g.N.Plays.run _ _ c.in-Some.one _ _ _ c.in-Some.ensures.steps.0 c.loop-one.invariant.player seat at c.call_on-kept.new.seat c.in_ok-kept.ensures);
+      player = player_after g.N.Plays.run _ _ c.in-Some.one _ _ c.in-Some.ensures.steps.0 c.loop-one.invariant.player seat c.call_on-kept.new.account.shown at c.call_on-kept.new.account c.in_ok-kept.ensures;
     }
 
 pub invariant_of-result : goal.invariant_of-result
-invariant_of-result g c = all_played g.N.Plays.run _ _ _ _ (nil_from_length _ (sym c.loop-one.invariant.left ∙ c.in-None.ensures.steps.0)) c.loop-one.invariant.player
+invariant_of-result g c = all_played g.N.Plays.run _ _ _ (nil_from_length _ (sym c.loop-one.invariant.left ∙ c.in-None.ensures.steps.0)) c.loop-one.invariant.player

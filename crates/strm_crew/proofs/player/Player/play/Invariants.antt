@@ -7,5 +7,5 @@ use Rattle.strm_crew.proofs.player.Player.play.Given as goal
 abbrev pub invariant-loop-one : goal.invariant-loop-one
 invariant-loop-one g l = record {
   left : into_iter_len l.one-iterator ≡ length (into_iter_items l.one-iterator);
-  player : IsPlayer g.N.Plays.run l.caller (into_iter_items l.one-iterator) l.seats.items (length l.answers.items);
+  player : IsPlayer g.N.Plays.run l.caller (into_iter_items l.one-iterator) l.accounts.items;
 }

@@ -1,0 +1,138 @@
+//! A seat of a caller, with the receipts of what was done from it.
+ghost use Rattle.std.specs.Prelude.{◌≡◌, ◌↔◌, ◌+◌, true, All, slice_get, IfOk, OnOk, Some};
+ghost use Rattle.strm_head.specs.declared.event.Event.TheVariants.{Asked};
+ghost use Rattle.strm_crew.specs.Account.{HasReceipts, IsHeld};
+ghost use Rattle.strm_crew.specs.Scripts.{calls_on, script_of};
+ghost use Rattle.strm_crew.specs.Play.{CallsDoFit};
+
+use crate::about::{Of, Plays};
+use std::alloc::Global;
+use std::marker::{Model, PhantomData};
+use std::sync::Wait;
+use strm_history::{Call, Called, Receipt, SameKind};
+use strm_module::{Boxed, ModuleOf};
+use strm_msg::NoMem;
+use strm_shared::{Ended, Seat, Shared};
+
+/// A seat of a caller on a stream, with the receipts of the calls that were made from it, in order. A contract sees the seat.
+///
+/// As long as each call has a receipt they are those of the first calls that the caller's script has for the stream.
+#[derive(Drop)]
+pub struct Account<K, N: Plays<K>> {
+    seat: Seat,
+    receipts: Vec<Receipt<K>>,
+    of: PhantomData<N>,
+}
+
+impl<K, N: Plays<K>> Model for Account<K, N> {
+    ghost use Rattle.strm_shared.specs.Seat.{SeatValue};
+    ghost use Rattle.strm_crew.specs.Account.{HasReceipts};
+
+    ghost Value = { SeatValue };
+
+    ghost view = { λ a. a.seat };
+
+    ghost invariant = { λ a. HasReceipts N.run a.seat a.receipts.items };
+}
+
+impl<K: Drop, N: Plays<K>> Account<K, N> {
+    /// A seat from which no call was made.
+    pub(crate) fn new(alloc: Global, seat: Seat) -> Account<K, N>
+        requires { seat.calls ≡ 0 }
+        ensures { result ≡ seat }
+    {
+        Account {
+            seat,
+            receipts: Vec::new(alloc),
+            of: PhantomData,
+        }
+    }
+
+    /// The seat, and the receipts.
+    pub fn into_parts(self) -> (Seat, Vec<Receipt<K>>)
+        ensures seat { result.0 ≡ self }
+        ensures receipts { HasReceipts N.run self result.1.items }
+    {
+        let Account {
+            seat,
+            receipts,
+            of: _,
+        } = self;
+        (seat, receipts)
+    }
+}
+
+/// One call from a seat, whose receipt is kept. The modules that came back are dropped, and so is a call that was not made.
+/// Refused for want of memory alone.
+pub(crate) fn call_on<M: ModuleOf, N: Plays<M::Kind>, R: Wait>(
+    rt: &R,
+    shared: &Shared<M, Of<N>>,
+    account: &mut Account<M::Kind, N>,
+    call: Call<Boxed<M>>,
+) -> Result<(), NoMem>
+    requires fits { CallsDoFit M.row M.Kind.row M.Kind.Kinds }
+    requires number { account.old.number ≡ shared.now.number }
+    requires next { slice_get (calls_on account.old.number (script_of N.run.scripts account.old.caller)) account.old.calls ≡ Some (call.end, Asked call.request) }
+    ensures { OnOk result (account.new ≡ record account.old { calls = account.old.calls + 1; shown = account.new.shown }) }
+{
+    account.receipts.reserve(1)?;
+    match shared.call(rt, &mut account.seat, call) {
+        Called::Done {
+            answer: _,
+            back: _,
+            receipt,
+        } => {
+            if let Some(receipt) = receipt {
+                account.receipts.push_reserved(receipt);
+            }
+            Ok(())
+        }
+        Called::NoRoom(call) => {
+            drop(call);
+            Err(NoMem)
+        }
+    }
+}
+
+/// Seats from which no call was made. Refused for want of memory alone.
+pub(crate) fn accounts_of<K: Drop, N: Plays<K>>(
+    alloc: Global,
+    seats: Vec<Seat>,
+) -> Result<Vec<Account<K, N>>, NoMem>
+    requires { All (λ seat. seat.calls ≡ 0) seats.items }
+    ensures { IfOk result (λ accounts. accounts.items ≡ seats.items) }
+{
+    let mut all = Vec::new(alloc);
+    for seat in seats {
+        all.push(Account::new(alloc, seat))?;
+    }
+    Ok(all)
+}
+
+/// Whether the history has each of these receipts.
+fn holds_each<M: ModuleOf>(ended: &Ended<M>, receipts: &[Receipt<M::Kind>]) -> bool
+where
+    M::Kind: SameKind,
+    ensures { result ≡ true ↔ All (λ r. IsHeld ended.now.history r) receipts.now }
+{
+    for receipt in receipts {
+        if !ended.holds(receipt) {
+            return false;
+        }
+    }
+    true
+}
+
+/// Whether the history of a stream has each receipt of each of its callers.
+pub fn holds_all<M: ModuleOf>(ended: &Ended<M>, receipts: &[Vec<Receipt<M::Kind>>]) -> bool
+where
+    M::Kind: SameKind,
+    ensures { result ≡ true ↔ All (λ mine. All (λ r. IsHeld ended.now.history r) mine.items) receipts.now }
+{
+    for mine in receipts {
+        if !holds_each(ended, mine.as_slice()) {
+            return false;
+        }
+    }
+    true
+}

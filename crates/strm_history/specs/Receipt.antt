@@ -1,0 +1,35 @@
+-- Room for an entry, and what a receipt shows.
+use Rattle.std.specs.Prelude.{ℕ, Bool, false, List}
+use Rattle.arrayvec.specs.ArrayVec.{ArrayVec}
+use Rattle.strm_msg.specs.declared.words.End.{End}
+use Rattle.strm_module.specs.declared.shape.Shape.{Shape}
+use Rattle.strm_ends.specs.declared.place.Place.{Place}
+use Rattle.strm_call.specs.declared.answer.Answer.{Answer}
+use Rattle.strm_head.specs.Begin.{changes_modules}
+use Rattle.strm_head.specs.declared.event.Event.{Event}
+use Rattle.strm_head.specs.declared.event.Event.TheVariants.{Asked, Arrived}
+use Rattle.strm_history.specs.declared.entry.Who.TheVariants.{Caller}
+use Rattle.strm_history.specs.declared.entry.Entry.{Entry}
+
+-- a call that is to be made: the caller, which of its calls it is, counted from 1, the end, and what is asked
+pub record RoomValue (K : Type 0) : Type 0 where
+  pub caller : ℕ
+  pub number : ℕ
+  pub end : End
+  pub event : Event (Shape K)
+
+-- what a caller has of a call that was made: the caller, which of its calls it is, counted from 1, and its entry
+pub record ReceiptValue (K : Type 0) : Type 0 where
+  pub caller : ℕ
+  pub number : ℕ
+  pub entry : Entry K
+
+-- the call may take a module out
+abbrev pub may_take_out : {K : Type 0} → Event (Shape K) → Bool
+may_take_out (Asked request) = changes_modules request
+may_take_out (Arrived m) = false
+
+-- the entry of a call, with what became of it
+abbrev pub filled : {K : Type 0} → RoomValue K → Answer → List Place → ℕ → ArrayVec ℕ → Entry K
+filled room answer moves looks out =
+    record { who = Caller room.caller; end = room.end; event = room.event; answer = answer; moves = moves; looks = looks; out = out }

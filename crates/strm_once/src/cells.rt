@@ -1,0 +1,79 @@
+//! Cells that are to be set.
+ghost use Rattle.std.specs.Prelude.{◌≡◌, ◌<◌, length, IfOk, MatchResult};
+ghost use Rattle.std.specs.Arc.{arc_value};
+ghost use Rattle.strm_once.specs.declared.cells.TheConstants.{AT_ONCE};
+
+use crate::held::Held;
+use once_cell::race::OnceBox;
+use std::alloc::{AllocError, Global};
+use std::sync::Arc;
+
+/// How many cells are made at once.
+const AT_ONCE: u32 = 64;
+
+/// Cells that stand together, so that making one costs little.
+pub(crate) type Block<T> = Arc<Vec<OnceBox<T>>>;
+
+/// Where cells come from. Many are made at once.
+#[derive(Drop)]
+pub struct Cells<T> {
+    block: Block<T>,
+    next: u32,
+    ghost many: { length (arc_value block).items ≡ AT_ONCE },
+}
+
+/// A cell that is to be set, and room for its two holders.
+#[derive(Drop)]
+pub struct Cell<T> {
+    one: Block<T>,
+    other: Block<T>,
+    at: u32,
+    ghost same: { arc_value one ≡ arc_value other },
+    ghost there: { at < length (arc_value one).items },
+}
+
+/// So many cells as are made at once. Refused for want of memory alone.
+fn block<T: Drop>(alloc: Global) -> Result<Block<T>, AllocError>
+    ensures { IfOk result (λ block. length (arc_value block).items ≡ AT_ONCE) }
+{
+    let mut cells = Vec::with_capacity(alloc, AT_ONCE as usize)?;
+    for _ in 0..AT_ONCE {
+        cells.push(OnceBox::new(alloc))?;
+    }
+    Ok(Arc::new(alloc, cells)?)
+}
+
+impl<T: Drop> Cells<T> {
+    /// Where cells come from. Refused for want of memory alone.
+    pub fn new(alloc: Global) -> Result<Cells<T>, AllocError> {
+        Ok(Cells {
+            block: block(alloc)?,
+            next: 0,
+        })
+    }
+
+    /// A cell that was given to nobody before. Refused for want of memory alone.
+    pub fn next(&mut self, alloc: Global) -> Result<Cell<T>, AllocError> {
+        if self.next >= AT_ONCE {
+            *self = Cells {
+                block: block(alloc)?,
+                next: 0,
+            };
+        }
+        let at = self.next;
+        let one = Arc::try_clone(&self.block)?;
+        let other = Arc::try_clone(&self.block)?;
+        self.next += 1;
+        Ok(Cell { one, other, at })
+    }
+}
+
+impl<T: Drop> Cell<T> {
+    /// Sets the cell, and gives its two holders. Takes no memory. The box comes back where the cell did not take it.
+    pub fn set(self, value: Box<T>) -> Result<(Held<T>, Held<T>), Box<T>>
+        ensures { MatchResult result (λ both. (both.0 ≡ value.value) × (both.1 ≡ value.value)) (λ same. same.value ≡ value.value) }
+    {
+        let Cell { one, other, at } = self;
+        Held::set(one, other, at, value)
+    }
+}

@@ -1,4 +1,5 @@
-//! The calls of a script, made one after another by library calls alone. One for which memory is wanting is made again.
+//! The calls of a script, made one after another by library calls alone. One for which memory is wanting is made again. When the stream has ended
+//! its history must have their receipts.
 ghost use Rattle.std.specs.Prelude.{◌≡◌, ℕ, true, None};
 ghost use Rattle.strm_history.specs.Setup.{is_fit};
 
@@ -10,7 +11,7 @@ use std::sync::Wait;
 use std::{io, vec};
 use strm_crew::{Feed, Script, ScriptCall, StreamLog, Transcript, log_of};
 use strm_head::{Answer, Refusal};
-use strm_history::{Call, Called, Setup};
+use strm_history::{Call, Called, Receipt, Setup};
 use strm_module::{Boxed, Kind, ModuleOf, Plain};
 use strm_msg::Message;
 use strm_plan::{Plan, parse};
@@ -44,8 +45,20 @@ fn called<M: ModuleOf, N: Runs<M::Kind>, R: Wait>(
     shared.call(rt, seat, call)
 }
 
-/// Whether a call was refused for want of memory; or the call, where it came back.
-fn told(called: Called<Boxed<Plain>, Kind>) -> Result<bool, Call<Boxed<Plain>>> {
+/// Keeps a receipt, where there is memory for that.
+fn keep(receipts: &mut Vec<Receipt<Kind>>, receipt: Option<Receipt<Kind>>) {
+    if let Some(receipt) = receipt {
+        if let Err(failed) = receipts.push(receipt) {
+            drop(failed);
+        }
+    }
+}
+
+/// Whether a call was refused for want of memory; or the call, where it came back. Its receipt is kept.
+fn told(
+    called: Called<Boxed<Plain>, Kind>,
+    receipts: &mut Vec<Receipt<Kind>>,
+) -> Result<bool, Call<Boxed<Plain>>> {
     match called {
         Called::Done {
             answer,
@@ -53,7 +66,7 @@ fn told(called: Called<Boxed<Plain>, Kind>) -> Result<bool, Call<Boxed<Plain>>> 
             receipt,
         } => {
             drop(back);
-            drop(receipt);
+            keep(receipts, receipt);
             let is_wanting = is_wanting(&answer);
             drop(answer);
             Ok(is_wanting)
@@ -76,13 +89,14 @@ fn ask<N: Runs<Kind>, R: Wait>(
     shared: &Shared<Plain, N>,
     seat: &mut Seat,
     call: Call<Boxed<Plain>>,
+    receipts: &mut Vec<Receipt<Kind>>,
 ) -> Result<bool, Call<Boxed<Plain>>>
     requires { (number caller : ℕ) → N.calls number caller ≡ None }
 {
     if seat.number() != shared.number() {
         return Err(call);
     }
-    told(called(rt, shared, seat, call))
+    told(called(rt, shared, seat, call), receipts)
 }
 
 /// Makes a call, and again where it comes back, which is told. Says whether it was refused for want of memory.
@@ -91,14 +105,15 @@ fn ask_twice<N: Runs<Kind>, R: Print + Wait>(
     shared: &Shared<Plain, N>,
     seat: &mut Seat,
     call: Call<Boxed<Plain>>,
+    receipts: &mut Vec<Receipt<Kind>>,
 ) -> anyhow::Result<bool>
     requires { (number caller : ℕ) → N.calls number caller ≡ None }
 {
-    let call = match ask(rt, shared, seat, call) {
+    let call = match ask(rt, shared, seat, call, receipts) {
         Ok(is_wanting) => return Ok(is_wanting),
         Err(call) => call,
     };
-    let second = ask(rt, shared, seat, call).ok();
+    let second = ask(rt, shared, seat, call, receipts).ok();
     println!(rt; "no room")?;
     let Some(is_wanting) = second else {
         println!(rt; "no room")?;
@@ -114,12 +129,13 @@ fn ask_again<N: Runs<Kind>, R: Print + Wait>(
     seat: &mut Seat,
     call: ScriptCall<Boxed<Plain>>,
     same: Option<ScriptCall<Boxed<Plain>>>,
+    receipts: &mut Vec<Receipt<Kind>>,
 ) -> anyhow::Result<bool>
     requires { (number caller : ℕ) → N.calls number caller ≡ None }
 {
-    match ask_twice(rt, shared, seat, call.call) {
+    match ask_twice(rt, shared, seat, call.call, receipts) {
         Ok(true) => match same {
-            Some(same) => ask_twice(rt, shared, seat, same.call),
+            Some(same) => ask_twice(rt, shared, seat, same.call, receipts),
             None => Ok(true),
         },
         asked => {
@@ -174,13 +190,14 @@ fn offers_before(offers: &str, at: usize) -> usize {
     }
 }
 
-/// Makes the calls on a stream, and says how many messages of its line came back.
+/// Makes the calls on a stream, keeps their receipts, and says how many messages of its line came back.
 fn make_calls<N: Runs<Kind>, R: Print + Wait>(
     rt: &R,
     shared: &Shared<Plain, N>,
     seats: &mut [Seat],
     feeder: &mut Option<Feeder<Kind, N>>,
     work: Work<'_>,
+    receipts: &mut Vec<Receipt<Kind>>,
 ) -> anyhow::Result<u64>
     requires calls { (number caller : ℕ) → N.calls number caller ≡ None }
     requires feed { (number : ℕ) → N.feed number ≡ None }
@@ -202,7 +219,7 @@ fn make_calls<N: Runs<Kind>, R: Print + Wait>(
         let back = offer(feeder, &mut messages, offers_before(offers, at));
         overrun = overrun.saturating_add(back);
         at = at.saturating_add(1);
-        ask_again(rt, shared, seat, call, same.next())?;
+        ask_again(rt, shared, seat, call, same.next(), receipts)?;
     }
     Ok(overrun)
 }
@@ -231,15 +248,23 @@ fn ended<M: ModuleOf, N: Runs<M::Kind>>(
     shared.end(seats, feed)
 }
 
-/// What is left of a stream that has ended.
-fn log_of_end<M: ModuleOf>(
-    ended: Result<Ended<M>, EndFault>,
+/// Whether the history of a stream has each receipt.
+fn holds_each(ended: &Ended<Plain>, receipts: &[Receipt<Kind>]) -> bool {
+    receipts.iter().all(|receipt| ended.holds(receipt))
+}
+
+/// What is left of a stream that has ended, and whose history has each receipt.
+fn log_of_end(
+    ended: Result<Ended<Plain>, EndFault>,
     overrun: u64,
-) -> Result<StreamLog<M::Kind>, EndFault> {
-    match ended {
-        Ok(ended) => Ok(log_of(ended, overrun)),
-        Err(fault) => Err(fault),
+    receipts: &[Receipt<Kind>],
+) -> anyhow::Result<StreamLog<Kind>> {
+    let ended = ended?;
+    if !holds_each(&ended, receipts) {
+        drop(ended);
+        anyhow::bail!("a receipt that the history does not hold")
     }
+    Ok(log_of(ended, overrun))
 }
 
 /// What is left of a stream on which that is done.
@@ -255,8 +280,16 @@ fn done<N: Runs<Kind>, R: Print + Wait>(
     requires feed { (number : ℕ) → N.feed number ≡ None }
 {
     let (shared, mut seats, mut feeder) = opened::<Plain, N>(alloc, ring)?;
-    match make_calls(rt, &shared, seats.as_mut_slice(), &mut feeder, work) {
-        Ok(overrun) => Ok(log_of_end(ended(shared, seats, feeder), overrun)?),
+    let mut receipts = Vec::new(alloc);
+    match make_calls(
+        rt,
+        &shared,
+        seats.as_mut_slice(),
+        &mut feeder,
+        work,
+        &mut receipts,
+    ) {
+        Ok(overrun) => log_of_end(ended(shared, seats, feeder), overrun, receipts.as_slice()),
         Err(fault) => {
             drop(shared);
             drop(seats);

@@ -1,9 +1,10 @@
 //! Which places are enabled, and how many service looks at. A place that may move is looked at before
 //! its move, is enabled again behind the others, and is looked at once more.
-use super::Call::{
-    Count, Deliver, Enabled, HeadHeld, HeadLen, May, NoneEnabled, Read, Settle, Take, Write,
+use super::Call::{Count, Enabled, HeadHeld, HeadLen, May, NoneEnabled, Read, Settle, With, Write};
+use super::Way::{Deliver, Take};
+use super::{
+    Call, DRV_A, DRV_B, FIVE, Pushed, Pushes, RD_1, RD_2, Row, Sample, TOP_A, WR_1, WR_2, play_rows,
 };
-use super::{Call, DRV_A, DRV_B, FIVE, Pushes, RD_1, RD_2, Row, Sample, TOP_A, WR_1, WR_2};
 use strm_chain::{Driver, Spot};
 use strm_msg::End;
 
@@ -49,10 +50,10 @@ const BLOCKED: &[Call] = &[
 ];
 
 /// A module without queues.
-const NO_QUEUE: (End, Pushes, bool, bool) = (End::A, Pushes::Pass, false, false);
+const NO_QUEUE: Pushed = (End::A, Pushes::Pass, false, false);
 
 /// A module with a queue on both sides.
-const TWO_QUEUES: (End, Pushes, bool, bool) = (End::A, Pushes::Pass, true, true);
+const TWO_QUEUES: Pushed = (End::A, Pushes::Pass, true, true);
 
 // Every queue is full at 6 bytes and slack at 2. Three messages of 2 bytes move, and fill the head; the
 // fourth waits. When one is taken the head holds 4 bytes: it is not full, so the place may move, but it is
@@ -103,14 +104,14 @@ const PUT_BETWEEN_THE_MARKS: &[Call] = &[
 // each is found empty. Then both heads are full, and each place is looked at once, in vain.
 const BOTH_ENDS: &[Call] = &[
     Write(b"aaaaa"),
-    Deliver(TOP_B, Sample::Data(0, b"bbbbb")),
+    With(Deliver(TOP_B), Sample::Data(0, b"bbbbb")),
     Enabled(DRV_A, true),
     Enabled(DRV_B, true),
     Settle(&[DRV_A, DRV_B], 4),
     HeadHeld(End::A, 5),
     HeadHeld(End::B, 5),
     Write(b"c"),
-    Deliver(TOP_B, Sample::Data(0, b"d")),
+    With(Deliver(TOP_B), Sample::Data(0, b"d")),
     Settle(&[], 2),
     NoneEnabled,
     Settle(&[], 0),
@@ -127,7 +128,7 @@ const TAKEN_AT_A: &[Call] = &[
 ];
 
 const TAKEN_AT_B: &[Call] = &[
-    Take(End::B, Sample::Data(0, b"aaaaa")),
+    With(Take(End::B), Sample::Data(0, b"aaaaa")),
     Enabled(DRV_A, true),
     Enabled(DRV_B, false),
     Settle(&[DRV_A], 2),
@@ -170,19 +171,19 @@ const HIGH_ENABLES_NOTHING: &[Call] = &[
     Settle(&[DRV_A], 2),
     Write(b"b"),
     Settle(&[], 1),
-    Deliver(TOP_A, Sample::Pcproto(b"h", None)),
+    With(Deliver(TOP_A), Sample::Pcproto(b"h", None)),
     NoneEnabled,
 ];
 
 // The head holds 6 bytes. Taking h leaves 5, which is full, and enables nothing.
 const HIGH_IS_TAKEN: &[Call] = &[
-    Take(End::A, Sample::Pcproto(b"h", None)),
+    With(Take(End::A), Sample::Pcproto(b"h", None)),
     NoneEnabled,
     Read(b"aaaaa"),
     Settle(&[DRV_A], 2),
 ];
 
-pub(super) const ROWS: &[Row] = &[
+const LOOKS: &[Row] = &[
     Row {
         name: "a message is looked at twice",
         driver: Driver::Echo,
@@ -208,6 +209,14 @@ pub(super) const ROWS: &[Row] = &[
         modules: &[],
         calls: &[BLOCKED],
     },
+];
+
+#[test]
+fn a_place_is_looked_at_twice_or_once_in_vain(rt: HostRuntime) {
+    play_rows(&rt, rt.alloc(), LOOKS);
+}
+
+const MARKS: &[Row] = &[
     Row {
         name: "a place is enabled at the low mark",
         driver: Driver::Echo,
@@ -223,6 +232,21 @@ pub(super) const ROWS: &[Row] = &[
         calls: &[PUT_BETWEEN_THE_MARKS],
     },
     Row {
+        name: "a high message enables no place",
+        driver: Driver::Echo,
+        marks: FIVE,
+        modules: &[],
+        calls: &[HIGH_ENABLES_NOTHING, HIGH_IS_TAKEN],
+    },
+];
+
+#[test]
+fn a_place_is_enabled_at_the_low_mark(rt: HostRuntime) {
+    play_rows(&rt, rt.alloc(), MARKS);
+}
+
+const PLACES: &[Row] = &[
+    Row {
         name: "each end of a loop waits for the other",
         driver: Driver::Loop,
         marks: FIVE,
@@ -236,11 +260,9 @@ pub(super) const ROWS: &[Row] = &[
         modules: &[TWO_QUEUES, TWO_QUEUES],
         calls: &[FULL_TO_THE_TOP],
     },
-    Row {
-        name: "a high message enables no place",
-        driver: Driver::Echo,
-        marks: FIVE,
-        modules: &[],
-        calls: &[HIGH_ENABLES_NOTHING, HIGH_IS_TAKEN],
-    },
 ];
+
+#[test]
+fn a_take_enables_what_waits_for_it(rt: HostRuntime) {
+    play_rows(&rt, rt.alloc(), PLACES);
+}

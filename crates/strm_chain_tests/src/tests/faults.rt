@@ -1,11 +1,12 @@
 //! Want of memory, as modules answer it, and chains that are broken.
 use super::Call::{
-    BreakOff, Count, DeliverFails, HeadLen, Ids, IsBroken, IsDriver, IsOpen, May, Serial,
-    ServeFails, Settle, SettleFails, Write,
+    BreakOff, Count, HeadLen, Ids, IsBroken, IsDriver, IsOpen, May, Serial, ServeFails, Settle,
+    SettleFails, With, Write,
 };
-use super::objects::Ask::{Clear, Counted, Do, Push};
-use super::objects::{Ask, NO_QUEUE, Object, Story};
-use super::{Call, DRV_A, FIVE, Pushes, Row, Sample, TOP_A, WR_1};
+use super::Way::Fails;
+use super::objects::Ask::{Counted, Dismantle, Do, Push};
+use super::objects::{Ask, NO_QUEUE, Object, Story, tell_stories};
+use super::{Call, DRV_A, FIVE, Pushes, Row, Sample, TOP_A, WR_1, play_rows};
 use strm_chain::ChainFault::{Broken, NoMem};
 use strm_chain::Driver;
 use strm_msg::End;
@@ -34,17 +35,17 @@ const REFUSES_SERVICE: Object = Object {
 };
 
 // What a broken chain refuses, each without asking an object.
-const PUT: Ask = Do(DeliverFails(TOP_A, X, Broken));
+const PUT: Ask = Do(With(Fails(TOP_A, Broken), X));
 
 const SETTLE: Ask = Do(SettleFails(Broken));
 
-const PUT_HIGH: Ask = Do(DeliverFails(TOP_A, Sample::Pcproto(b"h", None), Broken));
+const PUT_HIGH: Ask = Do(With(Fails(TOP_A, Broken), Sample::Pcproto(b"h", None)));
 
 // The first put is refused before anything is changed, and the object is asked again. The driver's place
 // is looked at twice, before its move and when it is empty.
 const NOTHING_IS_CHANGED: &[(Ask, u64)] = &[
     (Push(End::A, 1, 1, REFUSES_1), 0),
-    (Do(DeliverFails(TOP_A, X, NoMem)), 1),
+    (Do(With(Fails(TOP_A, NoMem), X)), 1),
     (Do(May(DRV_A, false)), 1),
     (Do(HeadLen(End::A, 0)), 1),
     (Do(IsBroken(false)), 1),
@@ -66,7 +67,7 @@ const PUT_AFTER_A_CHANGE: &[(Ask, u64)] = &[
     (SETTLE, 11),
     (PUT_HIGH, 11),
     (Do(Count(End::A, 1)), 11),
-    (Clear(End::A, 1), 117),
+    (Dismantle(End::A, &[(1, 117)]), 117),
     (Do(IsBroken(true)), 117),
 ];
 
@@ -104,7 +105,7 @@ const SERVICE_BY_SETTLING: &[(Ask, u64)] = &[
     (PUT_HIGH, 14),
 ];
 
-pub(super) const STORIES: &[Story<'static>] = &[
+const STORIES: &[Story<'static>] = &[
     Story {
         name: "nothing is changed",
         driver: Driver::Echo,
@@ -143,9 +144,9 @@ const BROKEN_OFF: &[Call] = &[
     IsBroken(false),
     BreakOff,
     IsBroken(true),
-    DeliverFails(TOP_A, X, Broken),
+    With(Fails(TOP_A, Broken), X),
     SettleFails(Broken),
-    DeliverFails(TOP_A, Sample::Pcproto(b"h", None), Broken),
+    With(Fails(TOP_A, Broken), Sample::Pcproto(b"h", None)),
     ServeFails(WR_1, Broken),
     May(WR_1, true),
     IsDriver(Driver::Loop),
@@ -160,7 +161,7 @@ const BROKEN_OFF: &[Call] = &[
     Serial(1, Some(1)),
 ];
 
-pub(super) const ROWS: &[Row] = &[
+const ROWS: &[Row] = &[
     // A chain that its owner breaks neither delivers nor serves, and shows what it has.
     Row {
         name: "a chain that is broken off shows what it has",
@@ -170,3 +171,13 @@ pub(super) const ROWS: &[Row] = &[
         calls: &[BROKEN_OFF],
     },
 ];
+
+#[test]
+fn each_row_is_answered(rt: HostRuntime) {
+    play_rows(&rt, rt.alloc(), ROWS);
+}
+
+#[test]
+fn each_story_goes_as_told(rt: HostRuntime) {
+    tell_stories(&rt, rt.alloc(), STORIES);
+}

@@ -1,7 +1,9 @@
 //! Flushes, as they pass modules, drivers and heads.
-use super::Call::{Comes, Deliver, Errs, HeadLen, Holds, May, Send};
+use super::Call::{Errs, HeadLen, Holds, May, With};
+use super::Way::{Comes, Deliver, Send};
 use super::{
-    Call, DRV_A, FIVE, HEAD_A, Pushes, RD_1, RD_2, Row, Sample, TOP_A, WR_1, WR_2, play_row,
+    Call, DRV_A, FIVE, HEAD_A, Pushed, Pushes, RD_1, RD_2, Row, Sample, TOP_A, WR_1, WR_2,
+    chain_of, check, play_rows, play_tables, steps,
 };
 use std::alloc::Global;
 use std::process::Abort;
@@ -19,9 +21,9 @@ const UP_2: Spot = Spot::Up { end: End::A, i: 2 };
 const UP_3: Spot = Spot::Up { end: End::A, i: 3 };
 
 /// A module of end A with a queue on both sides.
-const AT_A: (End, Pushes, bool, bool) = (End::A, Pushes::Pass, true, true);
+const AT_A: Pushed = (End::A, Pushes::Pass, true, true);
 
-const AT_B: (End, Pushes, bool, bool) = (End::B, Pushes::Pass, true, true);
+const AT_B: Pushed = (End::B, Pushes::Pass, true, true);
 
 /// Data of band 1.
 const X: Sample = Sample::Data(1, b"x");
@@ -42,20 +44,20 @@ const DOWN_BUT_LINE: [bool; 6] = [true, true, false, false, false, false];
 
 // A message in each list of an end with two modules, but for that of the driver.
 const MODULES_ARE_FILLED: &[Call] = &[
-    Deliver(TOP_A, X),
-    Deliver(DOWN_2, X),
-    Deliver(UP_1, X),
-    Deliver(UP_2, X),
-    Deliver(HEAD_A, X),
+    With(Deliver(TOP_A), X),
+    With(Deliver(DOWN_2), X),
+    With(Deliver(UP_1), X),
+    With(Deliver(UP_2), X),
+    With(Deliver(HEAD_A), X),
 ];
 
 // And in that of the driver.
 const FILLED: &[&[Call]] = &[
     MODULES_ARE_FILLED,
-    &[Deliver(DOWN_3, X), Holds(End::A, 1, ALL)],
+    &[With(Deliver(DOWN_3), X), Holds(End::A, 1, ALL)],
 ];
 
-const LINE_IS_FILLED: &[&[Call]] = &[MODULES_ARE_FILLED, &[Comes(X), Holds(End::A, 1, ALL)]];
+const LINE_IS_FILLED: &[&[Call]] = &[MODULES_ARE_FILLED, &[With(Comes, X), Holds(End::A, 1, ALL)]];
 
 const RW: Sample = Sample::Flush(true, true, None);
 
@@ -69,13 +71,13 @@ const R: Sample = Sample::Flush(true, false, None);
 
 const NEITHER: Sample = Sample::Flush(false, false, None);
 
-/// Each driver, a flush that is written at end A, and which lists hold their message then, which is of
-/// band 1.
-///
-/// With FLUSHW it empties the write queues, and the list of an echo or a loop. With FLUSHR it empties the
-/// read queues on its way down, and the list of a line, and is sent up, where it empties the head's
-/// list. One of another band leaves all.
-const WRITTEN: &[(&str, Driver, Sample, [bool; 6])] = &[
+/// A name, a driver, a flush that is written at end A, and which lists hold their message then, which is of band 1.
+type Written = (&'static str, Driver, Sample, [bool; 6]);
+
+// With FLUSHW it empties the write queues, and the list of an echo or a loop. With FLUSHR it empties the
+// read queues on its way down, and the list of a line, and is sent up, where it empties the head's
+// list. One of another band leaves all.
+const WRITTEN: &[Written] = &[
     ("an echo is flushed", Driver::Echo, RW, NONE),
     ("band 1 of an echo", Driver::Echo, RW_OF_1, NONE),
     ("band 0 of an echo", Driver::Echo, RW_OF_0, ALL),
@@ -96,22 +98,25 @@ const WRITTEN: &[(&str, Driver, Sample, [bool; 6])] = &[
     ("neither side of a line", Driver::Line, NEITHER, ALL),
 ];
 
-/// Writes each flush at an end whose lists all hold a message.
-pub(super) fn play_written(rt: &impl Abort, alloc: Global) {
-    for (name, driver, flush, left) in WRITTEN {
-        let calls = match driver {
-            Driver::Line => LINE_IS_FILLED,
-            _ => FILLED,
-        };
-        let row = Row {
-            name: *name,
-            driver: *driver,
-            marks: FIVE,
-            modules: &[AT_A, AT_A],
-            calls,
-        };
-        let flushed = [Send(End::A, *flush), Holds(End::A, 1, *left)];
-        play_row(rt, alloc, row, &flushed);
+/// A flush is written at an end whose lists all hold a message.
+fn is_left(rt: &impl Abort, alloc: Global, (name, driver, flush, left): Written) {
+    let filled = if driver == Driver::Line {
+        LINE_IS_FILLED
+    } else {
+        FILLED
+    };
+    let mut chain = chain_of(rt, alloc, (driver, FIVE), &[AT_A, AT_A]);
+    play_tables(rt, &mut chain, filled, name);
+    let is_written = steps::acts(rt, &mut chain, With(Send(End::A), flush));
+    let is_so = is_written && steps::acts(rt, &mut chain, Holds(End::A, 1, left));
+    drop(chain);
+    check(rt, (name, 0), is_so);
+}
+
+#[test]
+fn what_a_flush_leaves_is_by_its_driver(rt: HostRuntime) {
+    for row in WRITTEN {
+        is_left(&rt, rt.alloc(), *row);
     }
 }
 
@@ -119,22 +124,22 @@ pub(super) fn play_written(rt: &impl Abort, alloc: Global) {
 const Y: Sample = Sample::Data(0, b"x");
 
 const BOTH_ENDS_ARE_FILLED: &[Call] = &[
-    Deliver(TOP_A, Y),
-    Deliver(DOWN_2, Y),
-    Deliver(UP_1, Y),
-    Deliver(UP_2, Y),
-    Deliver(HEAD_A, Y),
-    Deliver(DOWN_3, Y),
-    Deliver(Spot::Down { end: End::B, i: 1 }, Y),
-    Deliver(Spot::Down { end: End::B, i: 2 }, Y),
-    Deliver(Spot::Up { end: End::B, i: 1 }, Y),
-    Deliver(Spot::Up { end: End::B, i: 2 }, Y),
-    Deliver(Spot::Up { end: End::B, i: 0 }, Y),
-    Deliver(Spot::Down { end: End::B, i: 3 }, Y),
+    With(Deliver(TOP_A), Y),
+    With(Deliver(DOWN_2), Y),
+    With(Deliver(UP_1), Y),
+    With(Deliver(UP_2), Y),
+    With(Deliver(HEAD_A), Y),
+    With(Deliver(DOWN_3), Y),
+    With(Deliver(Spot::Down { end: End::B, i: 1 }), Y),
+    With(Deliver(Spot::Down { end: End::B, i: 2 }), Y),
+    With(Deliver(Spot::Up { end: End::B, i: 1 }), Y),
+    With(Deliver(Spot::Up { end: End::B, i: 2 }), Y),
+    With(Deliver(Spot::Up { end: End::B, i: 0 }), Y),
+    With(Deliver(Spot::Down { end: End::B, i: 3 }), Y),
 ];
 
 const END_B_IS_FLUSHED: &[Call] = &[
-    Send(End::B, RW),
+    With(Send(End::B), RW),
     Holds(End::A, 1, ALL),
     Holds(End::B, 1, NONE),
 ];
@@ -144,17 +149,17 @@ const Z: Sample = Sample::Data(3, b"x");
 
 // Below a module without queues, which is the first.
 const LINE_IS_FILLED_BELOW: &[Call] = &[
-    Deliver(DOWN_2, Z),
-    Deliver(DOWN_3, Z),
-    Deliver(UP_2, Z),
-    Deliver(UP_3, Z),
-    Deliver(HEAD_A, Z),
-    Comes(Z),
+    With(Deliver(DOWN_2), Z),
+    With(Deliver(DOWN_3), Z),
+    With(Deliver(UP_2), Z),
+    With(Deliver(UP_3), Z),
+    With(Deliver(HEAD_A), Z),
+    With(Comes, Z),
     Holds(End::A, 2, ALL),
 ];
 
 const ERRORS_COME: &[Call] = &[
-    Deliver(UP_3, Sample::Error(Errno::EPROTO)),
+    With(Deliver(UP_3), Sample::Error(Errno::EPROTO)),
     Errs(End::A, Some(Errno::EPROTO), Some(Errno::EPROTO)),
     May(WR_1, false),
     May(RD_1, false),
@@ -164,11 +169,11 @@ const ERRORS_COME: &[Call] = &[
     May(Place::Rd { end: End::A, i: 3 }, false),
     May(DRV_A, false),
     HeadLen(End::A, 0),
-    Deliver(UP_3, Sample::Error(Errno::EIO)),
+    With(Deliver(UP_3), Sample::Error(Errno::EIO)),
     Errs(End::A, Some(Errno::EIO), Some(Errno::EIO)),
 ];
 
-pub(super) const ROWS: &[Row] = &[
+const ROWS: &[Row] = &[
     // The far end of a loop keeps what it has: the driver's answer goes up the end that it came down.
     Row {
         name: "a flush stays on its end",
@@ -187,3 +192,8 @@ pub(super) const ROWS: &[Row] = &[
         calls: &[LINE_IS_FILLED_BELOW, ERRORS_COME],
     },
 ];
+
+#[test]
+fn each_row_is_answered(rt: HostRuntime) {
+    play_rows(&rt, rt.alloc(), ROWS);
+}

@@ -1,22 +1,23 @@
 //! Ioctls and their answers.
-use super::Call::{Begins, Ends, Ids, Read, Send, Settle, Undoes, Write};
-use super::{Call, DRV_A, FIVE, Pushes, Row, Sample, WR_1};
+use super::Call::{Begins, Ids, NoAnswer, Read, Settle, Undoes, With, Write};
+use super::Way::{Answer, Send};
+use super::{Call, DRV_A, FIVE, Pushed, Pushes, Row, Sample, WR_1, play_rows};
 use strm_chain::Driver;
 use strm_msg::{End, Errno};
 
 // The ids go up from 1, but for one that is given back.
-const IDS_GO_UP: &[Call] = &[Begins(1), Undoes, Begins(1), Ends(None), Begins(2)];
+const IDS_GO_UP: &[Call] = &[Begins(1), Undoes, Begins(1), NoAnswer, Begins(2)];
 
 // The module answers the first with its count, which is 1 after one message of data. No module knows the
 // second, so the driver refuses it.
 const MODULE_OR_DRIVER_ANSWERS: &[Call] = &[
     Write(b"x"),
     Begins(1),
-    Send(End::A, Sample::Ioctl(1, 1, None)),
-    Ends(Some(Sample::Ack(1, 1, None))),
+    With(Send(End::A), Sample::Ioctl(1, 1, None)),
+    With(Answer, Sample::Ack(1, 1, None)),
     Begins(2),
-    Send(End::A, Sample::Ioctl(2, 9, None)),
-    Ends(Some(Sample::Nak(2, Errno::EINVAL))),
+    With(Send(End::A), Sample::Ioctl(2, 9, None)),
+    With(Answer, Sample::Nak(2, Errno::EINVAL)),
 ];
 
 // Both places are looked at to move and when they are empty. The second time the module's place is, and
@@ -28,9 +29,9 @@ const ANSWER_IS_LATE: &[Call] = &[
     Write(b"bbbbb"),
     Settle(&[WR_1], 3),
     Begins(1),
-    Send(End::A, Sample::Ioctl(1, 1, None)),
+    With(Send(End::A), Sample::Ioctl(1, 1, None)),
     Settle(&[], 1),
-    Ends(None),
+    NoAnswer,
 ];
 
 // Once the head is empty the driver's place is enabled, and by its move the module's: each is looked
@@ -40,12 +41,12 @@ const LATE_ANSWER_IS_DROPPED: &[Call] = &[
     Read(b"aaaaa"),
     Settle(&[DRV_A, WR_1], 4),
     Ids(End::A, Some(3), Some(2)),
-    Ends(None),
+    NoAnswer,
 ];
 
-const COUNT: (End, Pushes, bool, bool) = (End::A, Pushes::Count, false, false);
+const COUNT: Pushed = (End::A, Pushes::Count, false, false);
 
-pub(super) const ROWS: &[Row] = &[
+const ROWS: &[Row] = &[
     Row {
         name: "ids go up",
         driver: Driver::Line,
@@ -70,3 +71,8 @@ pub(super) const ROWS: &[Row] = &[
         calls: &[ANSWER_IS_LATE, LATE_ANSWER_IS_DROPPED],
     },
 ];
+
+#[test]
+fn each_row_is_answered(rt: HostRuntime) {
+    play_rows(&rt, rt.alloc(), ROWS);
+}

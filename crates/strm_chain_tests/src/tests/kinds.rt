@@ -1,9 +1,10 @@
 //! The kinds of modules: tables of messages with what is answered to each. Each ioctl and each answer to
 //! one has number 7.
 use super::Sample::{Ack, Data, Flush, Hangup, Ioctl, Proto};
-use super::{Sample, bytes, message, shaped};
+use super::texts::is_displayed;
+use super::{Sample, bytes, check, message, shaped};
 use Keeps::{Counted, Partial, Same};
-use Want::{GoesOn, InTwo, Nothing, Sends, Twice, Waits};
+use Want::{GoesOn, InTwo, Nothing, Refused, Sends, Twice, Waits};
 use std::alloc::Global;
 use std::process::Abort;
 use strm_module::{
@@ -23,6 +24,8 @@ pub(super) enum Call {
 /// What is answered.
 #[derive(Clone, Copy, Drop)]
 pub(super) enum Want {
+    /// Memory is wanting.
+    Refused,
     /// The message waits, as it came.
     Waits,
     /// Nothing leaves.
@@ -57,21 +60,14 @@ fn line(rt: &impl Abort, alloc: Global, partial: &[u8]) -> Kind {
     }
 }
 
-/// A table that makes capitals of a, b and c.
+/// A table that makes capitals of a, b and c, leaves d, and makes 0 of all else.
 fn capitals() -> [u8; 256] {
     let mut map = [0; 256];
-    for (b, to) in (0..=255u8).zip(map.iter_mut()) {
-        *to = match b {
-            b'a'..=b'c' => b - 32,
-            _ => b,
-        };
-    }
+    map[97] = b'A';
+    map[98] = b'B';
+    map[99] = b'C';
+    map[100] = b'd';
     map
-}
-
-/// The module, which was made.
-fn made<M: Module>(rt: &impl Abort, made: Result<Instance<M>, MakeFault>) -> Instance<M> {
-    made.expect(rt, "a good name and good marks")
 }
 
 fn sent(side: Side, m: Message) -> Put {
@@ -87,21 +83,36 @@ fn sent_twice(first: (Side, Message), second: (Side, Message)) -> Put {
     Put::Sent(outs)
 }
 
-fn wanted(rt: &impl Abort, alloc: Global, side: Side, came: Sample, want: Want) -> Put {
+fn wanted(
+    rt: &impl Abort,
+    alloc: Global,
+    side: Side,
+    came: Sample,
+    want: Want,
+) -> Result<Put, NoMem> {
     match want {
-        Waits => Put::Queue(message(rt, alloc, came)),
-        Nothing => Put::Sent(Outs::new()),
-        GoesOn => sent(side, message(rt, alloc, came)),
-        Sends(side, sample) => sent(side, message(rt, alloc, sample)),
-        Twice => sent_twice(
+        Refused => Err(NoMem),
+        Waits => Ok(Put::Queue(message(rt, alloc, came))),
+        Nothing => Ok(Put::Sent(Outs::new())),
+        GoesOn => Ok(sent(side, message(rt, alloc, came))),
+        Sends(side, sample) => Ok(sent(side, message(rt, alloc, sample))),
+        Twice => Ok(sent_twice(
             (Rd, message(rt, alloc, came)),
             (Wr, message(rt, alloc, came)),
-        ),
-        InTwo(first, rest) => sent_twice(
+        )),
+        InTwo(first, rest) => Ok(sent_twice(
             (Wr, message(rt, alloc, first)),
             (Wr, message(rt, alloc, rest)),
-        ),
+        )),
     }
+}
+
+/// Whether that is the answer.
+pub(super) fn is_answer(answer: Result<Put, NoMem>, want: Result<Put, NoMem>) -> bool {
+    let is_so = answer == want;
+    drop(answer);
+    drop(want);
+    is_so
 }
 
 /// The kind that is to be there, where this one was before.
@@ -127,50 +138,45 @@ pub(super) fn called<M: Module>(
     }
 }
 
+/// Whether a module answers so, and keeps this.
+fn answers<M: Module>(
+    rt: &impl Abort,
+    alloc: Global,
+    it: &mut Instance<M>,
+    call: Call,
+    (side, came, want, keeps): Row,
+) -> bool {
+    let kind = kept(rt, alloc, &it.shape().kind, keeps);
+    let answer = called(alloc, it, call, side, message(rt, alloc, came));
+    let is_kept = it.shape().kind == kind;
+    drop(kind);
+    is_answer(answer, wanted(rt, alloc, side, came, want)) && is_kept
+}
+
 /// Hands a module each message of a table in its turn.
 pub(super) fn play<M: Module>(
     rt: &impl Abort,
     alloc: Global,
     it: &mut Instance<M>,
     call: Call,
-    rows: &[Row],
+    (name, rows): (&str, &[Row]),
 ) {
-    for (i, (side, came, want, keeps)) in rows.iter().enumerate() {
-        let kind = kept(rt, alloc, &it.shape().kind, *keeps);
-        let want = wanted(rt, alloc, *side, *came, *want);
-        let m = message(rt, alloc, *came);
-        let answer = called(alloc, it, call, *side, m);
-        assert!(rt; answer == Ok(want), "the answer to message {i}");
-        assert!(rt; it.shape().kind == kind, "what is kept after message {i}");
+    for (i, row) in rows.iter().enumerate() {
+        check(rt, (name, i), answers(rt, alloc, it, call, *row));
     }
 }
 
-/// A module is put each message of a table, and serves each of another.
-fn play_both<M: Module>(
+/// A new module is put each message of a table, and serves each of another.
+fn plays<M: Module>(
     rt: &impl Abort,
     alloc: Global,
-    mut it: Instance<M>,
-    put: &[Row],
-    served: &[Row],
-) {
-    play(rt, alloc, &mut it, Call::Put, put);
-    play(rt, alloc, &mut it, Call::Serve, served);
-}
-
-/// A new module is put each message of a table.
-fn puts<M: Module>(
-    rt: &impl Abort,
-    alloc: Global,
+    name: &str,
     new: Result<Instance<M>, MakeFault>,
-    rows: &[Row],
+    (put, served): (&[Row], &[Row]),
 ) {
-    let mut it = made(rt, new);
-    play(rt, alloc, &mut it, Call::Put, rows);
-}
-
-/// A module of a kind, with these marks on both sides.
-fn plain(rt: &impl Abort, kind: Kind, marks: Option<(u32, u32)>) -> Instance<Plain> {
-    Instance::new(shaped(rt, 1, b"plain", (marks, marks), kind), Plain)
+    let mut it = new.expect(rt, "a good name and good marks");
+    play(rt, alloc, &mut it, Call::Put, (name, put));
+    play(rt, alloc, &mut it, Call::Serve, (name, served));
 }
 
 const MARKS: Option<(u32, u32)> = Some((5, 4));
@@ -185,26 +191,9 @@ const COUNTED: &[Row] = &[
     (Wr, Ioctl(7, 2, None), TOLD, Counted(0)),
 ];
 
-#[test]
-fn count_counts_what_is_put(rt: HostRuntime) {
-    puts(&rt, rt.alloc(), Count::new(1, b"cnt", None, None), COUNTED);
-}
-
 const NOT_COUNTED_YET: &[Row] = &[(Wr, X, Waits, Counted(0))];
 
 const COUNTED_WHERE_SERVED: &[Row] = &[(Wr, X, GoesOn, Counted(1))];
-
-#[test]
-fn count_with_a_queue_counts_what_is_served(rt: HostRuntime) {
-    let count = made(&rt, Count::new(1, b"cnt", None, MARKS));
-    play_both(
-        &rt,
-        rt.alloc(),
-        count,
-        NOT_COUNTED_YET,
-        COUNTED_WHERE_SERVED,
-    );
-}
 
 const FIRST: Want = Sends(Rd, Data(0, b"abc\n"));
 
@@ -217,12 +206,6 @@ const GATHERED: &[Row] = &[
     (Wr, Data(0, b"e\nf"), GoesOn, Same),
     (Rd, Data(0, b"\n\ne\n"), THREE, Partial(b"")),
 ];
-
-#[test]
-fn line_gathers_lines_of_band_0(rt: HostRuntime) {
-    let alloc = rt.alloc();
-    puts(&rt, alloc, Line::new(alloc, 1, b"ln", None, None), GATHERED);
-}
 
 const A_96: &[u8] = &[b'a'; 96];
 
@@ -238,38 +221,6 @@ const MOST: &[Row] = &[
     (Rd, Data(0, b"a"), Sends(Rd, Data(0, A_4097)), Partial(b"")),
 ];
 
-/// A gathering module that keeps a partial line is put each message of a table.
-fn gathers(
-    rt: &impl Abort,
-    alloc: Global,
-    partial: &[u8],
-    marks: Option<(u32, u32)>,
-    rows: &[Row],
-) {
-    let mut it = plain(rt, line(rt, alloc, partial), marks);
-    play(rt, alloc, &mut it, Call::Put, rows);
-}
-
-#[test]
-fn line_keeps_at_most_4096_bytes(rt: HostRuntime) {
-    gathers(&rt, rt.alloc(), A_4000, None, MOST);
-}
-
-const FLUSHED: &[&[Row]] = &[
-    &[(Wr, Flush(true, false, None), GoesOn, Partial(b""))],
-    &[(Wr, Flush(true, true, Some(0)), GoesOn, Partial(b""))],
-    &[(Wr, Flush(true, true, Some(1)), GoesOn, Same)],
-    &[(Wr, Flush(false, true, None), GoesOn, Same)],
-    &[(Wr, Flush(false, true, Some(0)), GoesOn, Same)],
-];
-
-#[test]
-fn flush_empties_a_partial_line(rt: HostRuntime) {
-    for rows in FLUSHED {
-        gathers(&rt, rt.alloc(), b"ab", MARKS, rows);
-    }
-}
-
 const TO_LF: Want = Sends(Rd, Data(0, b"a\nb\r"));
 
 const LAST_CR: Want = Sends(Rd, Data(2, b"\r\n\n\ra"));
@@ -280,16 +231,6 @@ const ENDS_OF_LINES: &[Row] = &[
     (Rd, Data(0, b"a\r\nb\r"), TO_LF, Same),
     (Rd, Data(2, b"\r\r\n\n\ra"), LAST_CR, Same),
 ];
-
-#[test]
-fn crnl_changes_ends_of_lines(rt: HostRuntime) {
-    puts(
-        &rt,
-        rt.alloc(),
-        CrNl::new(1, b"c", None, None),
-        ENDS_OF_LINES,
-    );
-}
 
 const MAPPED: Want = Sends(Wr, Data(2, b"CAd"));
 
@@ -305,18 +246,7 @@ const CAPITALS: &[Row] = &[
     (Wr, Proto(1, b"cab", None), GoesOn, Same),
 ];
 
-#[test]
-fn table_maps_data_and_answers(rt: HostRuntime) {
-    let table = Table::new(1, b"up", None, None, capitals());
-    puts(&rt, rt.alloc(), table, CAPITALS);
-}
-
 const COPIED_UP: &[Row] = &[(Wr, X, Twice, Same), (Rd, X, GoesOn, Same)];
-
-#[test]
-fn tee_sends_its_copy_first(rt: HostRuntime) {
-    puts(&rt, rt.alloc(), Tee::new(1, b"t", None, None), COPIED_UP);
-}
 
 const P_OF_7: Want = Sends(Wr, Proto(7, b"p", None));
 
@@ -327,25 +257,9 @@ const OF_BAND_7: &[Row] = &[
     (Rd, Proto(2, b"p", None), GoesOn, Same),
 ];
 
-#[test]
-fn band_gives_its_band(rt: HostRuntime) {
-    puts(
-        &rt,
-        rt.alloc(),
-        Band::new(1, b"v", None, None, 7),
-        OF_BAND_7,
-    );
-}
-
 const DROPPED: &[Row] = &[(Wr, X, Nothing, Same), (Rd, X, GoesOn, Same)];
 
 const SENT: &[Row] = &[(Wr, X, GoesOn, Same), (Rd, X, GoesOn, Same)];
-
-#[test]
-fn mute_drops_data_and_pass_sends_it(rt: HostRuntime) {
-    puts(&rt, rt.alloc(), Mute::new(1, b"u", None, None), DROPPED);
-    puts(&rt, rt.alloc(), Pass::new(2, b"p", None, None), SENT);
-}
 
 // A message of as many bytes as go at once stays one; a rest is not split again.
 const IN_TWO: &[Row] = &[
@@ -367,26 +281,6 @@ const IN_TWO: &[Row] = &[
     (Rd, Data(3, b"abcde"), GoesOn, Same),
 ];
 
-#[test]
-fn split_sends_the_rest_behind(rt: HostRuntime) {
-    puts(&rt, rt.alloc(), Split::new(1, b"s", None, None, 2), IN_TWO);
-}
-
-/// One kind of each, with something kept where there is something to keep.
-fn one_of_each(rt: &impl Abort, alloc: Global) -> [Kind; 9] {
-    [
-        Kind::Pass,
-        Kind::Table { map: capitals() },
-        Kind::CrNl,
-        line(rt, alloc, b"ab"),
-        Kind::Count { n: 5 },
-        Kind::Band { b: 3 },
-        Kind::Tee,
-        Kind::Mute,
-        Kind::Split { n: 2 },
-    ]
-}
-
 const ORDINARY_WAIT: &[Row] = &[
     (Rd, Data(0, b"x\n"), Waits, Same),
     (Wr, Ioctl(7, 3, None), Waits, Same),
@@ -395,19 +289,192 @@ const ORDINARY_WAIT: &[Row] = &[
 
 const SERVED: &[Row] = &[(Wr, Ioctl(7, 99, None), GoesOn, Same)];
 
+/// A kind, with what it keeps or is made with.
+#[derive(Clone, Copy, Drop)]
+enum State {
+    Pass,
+    Capitals,
+    CrNl,
+    Partial(&'static [u8]),
+    Counted(u64),
+    Band(u8),
+    Tee,
+    Mute,
+    Split(u16),
+}
+
+fn kind_of(rt: &impl Abort, alloc: Global, state: State) -> Kind {
+    match state {
+        State::Pass => Kind::Pass,
+        State::Capitals => Kind::Table { map: capitals() },
+        State::CrNl => Kind::CrNl,
+        State::Partial(partial) => line(rt, alloc, partial),
+        State::Counted(n) => Kind::Count { n },
+        State::Band(b) => Kind::Band { b },
+        State::Tee => Kind::Tee,
+        State::Mute => Kind::Mute,
+        State::Split(n) => Kind::Split { n },
+    }
+}
+
+/// A name, a kind, the marks of both its sides, what it is put, and what it serves.
+type Example = (
+    &'static str,
+    State,
+    Option<(u32, u32)>,
+    &'static [Row],
+    &'static [Row],
+);
+
+// Each kind queues ordinary messages alone.
+const QUEUED: &[Example] = &[
+    ("pass", State::Pass, MARKS, ORDINARY_WAIT, SERVED),
+    ("table", State::Capitals, MARKS, ORDINARY_WAIT, SERVED),
+    ("crnl", State::CrNl, MARKS, ORDINARY_WAIT, SERVED),
+    ("line", State::Partial(b"ab"), MARKS, ORDINARY_WAIT, SERVED),
+    ("count", State::Counted(5), MARKS, ORDINARY_WAIT, SERVED),
+    ("band", State::Band(3), MARKS, ORDINARY_WAIT, SERVED),
+    ("tee", State::Tee, MARKS, ORDINARY_WAIT, SERVED),
+    ("mute", State::Mute, MARKS, ORDINARY_WAIT, SERVED),
+    ("split", State::Split(2), MARKS, ORDINARY_WAIT, SERVED),
+];
+
+const FLUSHED: &[Row] = &[(Wr, Flush(true, false, None), GoesOn, Partial(b""))];
+
+const FLUSHED_OF_0: &[Row] = &[(Wr, Flush(true, true, Some(0)), GoesOn, Partial(b""))];
+
+const LEFT: &[Row] = &[
+    (Wr, Flush(true, true, Some(1)), GoesOn, Same),
+    (Wr, Flush(false, true, None), GoesOn, Same),
+    (Wr, Flush(false, true, Some(0)), GoesOn, Same),
+];
+
+// A module that gathers keeps at most 4096 bytes of a line, and a flush of its read side and band empties it.
+const PARTIAL: &[Example] = &[
+    ("the longest", State::Partial(A_4000), None, MOST, &[]),
+    ("a flush of all", State::Partial(b"ab"), MARKS, FLUSHED, &[]),
+    (
+        "a flush of band 0",
+        State::Partial(b"ab"),
+        MARKS,
+        FLUSHED_OF_0,
+        &[],
+    ),
+    ("other flushes", State::Partial(b"ab"), MARKS, LEFT, &[]),
+];
+
+fn play_examples(rt: &impl Abort, alloc: Global, examples: &[Example]) {
+    for (name, state, marks, put, served) in examples {
+        let kind = kind_of(rt, alloc, *state);
+        let shape = shaped(rt, 1, b"plain", (*marks, *marks), kind);
+        plays(
+            rt,
+            alloc,
+            name,
+            Ok(Instance::new(shape, Plain)),
+            (*put, *served),
+        );
+    }
+}
+
 #[test]
 fn each_kind_queues_ordinary_messages_alone(rt: HostRuntime) {
-    let alloc = rt.alloc();
-    for kind in one_of_each(&rt, alloc) {
-        play_both(&rt, alloc, plain(&rt, kind, MARKS), ORDINARY_WAIT, SERVED);
-    }
+    play_examples(&rt, rt.alloc(), QUEUED);
+}
+
+#[test]
+fn a_partial_line_is_bounded_and_flushed(rt: HostRuntime) {
+    play_examples(&rt, rt.alloc(), PARTIAL);
 }
 
 const READ_WAITS: &[Row] = &[(Rd, X, Waits, Same), (Wr, X, GoesOn, Same)];
 
 #[test]
-fn side_without_marks_has_no_queue(rt: HostRuntime) {
-    puts(&rt, rt.alloc(), Pass::new(1, b"p", MARKS, None), READ_WAITS);
+fn kinds_without_memory_act_on_what_is_put(rt: HostRuntime) {
+    let alloc = rt.alloc();
+    plays(
+        &rt,
+        alloc,
+        "crnl",
+        CrNl::new(1, b"c", None, None),
+        (ENDS_OF_LINES, &[]),
+    );
+    plays(
+        &rt,
+        alloc,
+        "tee",
+        Tee::new(1, b"t", None, None),
+        (COPIED_UP, &[]),
+    );
+    plays(
+        &rt,
+        alloc,
+        "band",
+        Band::new(1, b"v", None, None, 7),
+        (OF_BAND_7, &[]),
+    );
+    plays(
+        &rt,
+        alloc,
+        "mute",
+        Mute::new(1, b"u", None, None),
+        (DROPPED, &[]),
+    );
+    plays(
+        &rt,
+        alloc,
+        "pass",
+        Pass::new(2, b"p", None, None),
+        (SENT, &[]),
+    );
+    plays(
+        &rt,
+        alloc,
+        "pass with a queue",
+        Pass::new(1, b"p", MARKS, None),
+        (READ_WAITS, &[]),
+    );
+    plays(
+        &rt,
+        alloc,
+        "split",
+        Split::new(1, b"s", None, None, 2),
+        (IN_TWO, &[]),
+    );
+}
+
+#[test]
+fn kinds_that_keep_something_act_on_what_is_put(rt: HostRuntime) {
+    let alloc = rt.alloc();
+    plays(
+        &rt,
+        alloc,
+        "count",
+        Count::new(1, b"cnt", None, None),
+        (COUNTED, &[]),
+    );
+    let queued = Count::new(1, b"cnt", None, MARKS);
+    plays(
+        &rt,
+        alloc,
+        "count with a queue",
+        queued,
+        (NOT_COUNTED_YET, COUNTED_WHERE_SERVED),
+    );
+    plays(
+        &rt,
+        alloc,
+        "line",
+        Line::new(alloc, 1, b"ln", None, None),
+        (GATHERED, &[]),
+    );
+    plays(
+        &rt,
+        alloc,
+        "table",
+        Table::new(1, b"up", None, None, capitals()),
+        (CAPITALS, &[]),
+    );
 }
 
 const EQUAL: Option<(u32, u32)> = Some((4, 4));
@@ -436,7 +503,7 @@ const FAULTS: &[(
 fn faults_are_for_the_name_first(rt: HostRuntime) {
     for (at, (name, rd, wr, fault)) in FAULTS.iter().enumerate() {
         let found = Pass::new(1, name, *rd, *wr).err();
-        assert!(rt; found == *fault, "row {at}");
+        check(&rt, ("faults", at), found == *fault);
     }
 }
 
@@ -454,7 +521,7 @@ const SPLIT_FAULTS: &[(&[u8], Option<(u32, u32)>, u16, Option<MakeFault>)] = &[
 fn bytes_of_a_split_are_looked_at_last(rt: HostRuntime) {
     for (at, (name, wr, n, fault)) in SPLIT_FAULTS.iter().enumerate() {
         let found = Split::new(1, name, None, *wr, *n).err();
-        assert!(rt; found == *fault, "row {at}");
+        check(&rt, ("faults", at), found == *fault);
     }
 }
 
@@ -471,16 +538,10 @@ const WORDS: &[(MakeFault, u8, &str)] = &[
     (MakeFault::Split, 3, BAD_SPLIT),
 ];
 
-fn is_said(rt: &impl Abort, alloc: Global, fault: MakeFault, words: &str) -> bool {
-    let text = fault.to_string(alloc).expect(rt, "no memory");
-    text.as_str() == words
-}
-
 #[test]
 fn faults_have_numbers_and_words(rt: HostRuntime) {
     for (fault, number, words) in WORDS {
-        assert!(rt; fault.number() == *number, "{words}");
-        assert!(rt; is_said(&rt, rt.alloc(), *fault, words), "{words}");
+        assert!(rt; fault.number() == *number && is_displayed(&rt, rt.alloc(), fault, words));
     }
 }
 
@@ -497,6 +558,14 @@ fn is_asked_for(shape: &Shape, kind: &Kind) -> bool {
         && shape.kind == *kind
 }
 
+/// Whether a copy of a shape is equal to it.
+fn is_copied(rt: &impl Abort, alloc: Global, shape: &Shape) -> bool {
+    let copy = shape.copy(alloc).expect(rt, "no memory for a shape");
+    let is_so = copy == *shape;
+    drop(copy);
+    is_so
+}
+
 /// A new module has the shape that was asked for, and a copy of it is equal.
 fn has_shape<M: Module>(
     rt: &impl Abort,
@@ -504,11 +573,11 @@ fn has_shape<M: Module>(
     new: Result<Instance<M>, MakeFault>,
     kind: Kind,
 ) {
-    let it = made(rt, new);
-    let shape = it.shape();
-    assert!(rt; is_asked_for(shape, &kind), "the shape of a new module");
-    let copy = shape.copy(alloc).expect(rt, "no memory for a shape");
-    assert!(rt; copy == *shape, "a copy is equal");
+    let it = new.expect(rt, "a good name and good marks");
+    let is_so = is_asked_for(it.shape(), &kind) && is_copied(rt, alloc, it.shape());
+    drop(it);
+    drop(kind);
+    assert!(rt; is_so);
 }
 
 #[test]

@@ -1,6 +1,6 @@
 //! What a chain shows of itself: its spots and its modes.
 use super::Call::{Count, Errs, HasSpot, Hung, Mode, SetMode};
-use super::{Call, FIVE, Pushes, Row};
+use super::{Call, FIVE, Pushes, Row, play_rows};
 use strm_chain::{Driver, Spot};
 use strm_msg::{End, Prot, ReadMode};
 
@@ -25,7 +25,7 @@ const END_HAS_ITS_SPOTS: &[Call] = &[
     HasSpot(Spot::Up { end: End::A, i: 3 }, false),
 ];
 
-pub(super) const ROWS: &[Row] = &[
+const ROWS: &[Row] = &[
     Row {
         name: "an end reads as it was set",
         driver: Driver::Loop,
@@ -41,3 +41,8 @@ pub(super) const ROWS: &[Row] = &[
         calls: &[END_HAS_ITS_SPOTS],
     },
 ];
+
+#[test]
+fn each_row_is_answered(rt: HostRuntime) {
+    play_rows(&rt, rt.alloc(), ROWS);
+}

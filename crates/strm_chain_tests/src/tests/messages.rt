@@ -1,271 +1,414 @@
 //! Messages: their fields, what is answered of them, and which are equal.
 use super::Sample::{Ack, Data, Error, Error2, Flush, Hangup, Ioctl, Nak, Options, Pcproto, Proto};
-use super::{Part, Sample, bytes, message};
+use super::{Part, Sample, are_same, bytes, check, message};
 use std::alloc::Global;
 use std::process::Abort;
 use strm_msg::Class::{High, Ordinary};
+use strm_msg::MsgKind::{
+    MData, MError, MFlush, MHangup, MIocack, MIocnak, MIoctl, MPcproto, MProto, MSetopts,
+};
 use strm_msg::{Bytes, Class, Errno, Message, MsgKind, ReadMode};
 
-/// A message, and its kind, band, control part and data part.
-type Fields = (Sample, MsgKind, u8, Part, Part);
+/// A message and its kind; its band, control part and data part; its class, rank and weight; and whether its kind can have
+/// data, and whether it comes in from a line.
+type Facts = (
+    Sample,
+    MsgKind,
+    (u8, Part, Part),
+    (Class, u16, u128),
+    (bool, bool),
+);
 
-const NAK: MsgKind = MsgKind::MIocnak {
-    id: 3,
-    errno: Errno::EINVAL,
-};
+const X: Part = Some(b"x");
 
-const FLUSH: MsgKind = MsgKind::MFlush {
-    r: true,
-    w: false,
-    band: Some(9),
-};
+const C: Part = Some(b"c");
 
-const OPTIONS: MsgKind = MsgKind::MSetopts {
+/// Band 0, without parts.
+const BARE: (u8, Part, Part) = (0, None, None);
+
+const READ_AND_MARKS: MsgKind = MSetopts {
     mode: Some(ReadMode::Rmsgn),
     prot: None,
     marks: Some((4, 9)),
 };
 
-const ERROR: MsgKind = MsgKind::MError {
-    rd: Some(Errno::EIO),
-    wr: Some(Errno::EIO),
+const MARKS: MsgKind = MSetopts {
+    mode: None,
+    prot: None,
+    marks: Some((16, 4)),
 };
 
-const WRITE_ERROR: MsgKind = MsgKind::MError {
-    rd: None,
-    wr: Some(Errno::EPROTO),
+const NO_OPTIONS: MsgKind = MSetopts {
+    mode: None,
+    prot: None,
+    marks: None,
 };
 
-// The fields are those that the table of kinds gives each kind: which parts it has, and band 0 for
-// all but data and protocol messages.
-const FIELDS: [Fields; 12] = [
-    (Data(7, b"wxyz"), MsgKind::MData, 7, None, Some(b"wxyz")),
-    (
-        Proto(255, b"ab", Some(b"")),
-        MsgKind::MProto,
-        255,
-        Some(b"ab"),
-        Some(b""),
-    ),
-    (
-        Proto(255, b"ab", None),
-        MsgKind::MProto,
-        255,
-        Some(b"ab"),
-        None,
-    ),
-    (
-        Pcproto(b"hi", Some(b"data")),
-        MsgKind::MPcproto,
-        0,
-        Some(b"hi"),
-        Some(b"data"),
-    ),
-    (
-        Ioctl(3, 16, Some(b"x")),
-        MsgKind::MIoctl { id: 3, cmd: 16 },
-        0,
-        None,
-        Some(b"x"),
-    ),
-    (
-        Ack(3, 4, Some(b"x")),
-        MsgKind::MIocack { id: 3, rval: 4 },
-        0,
-        None,
-        Some(b"x"),
-    ),
-    (Nak(3, Errno::EINVAL), NAK, 0, None, None),
-    (Flush(true, false, Some(9)), FLUSH, 0, None, None),
-    (
-        Options(Some(ReadMode::Rmsgn), Some((4, 9))),
-        OPTIONS,
-        0,
-        None,
-        None,
-    ),
-    (Hangup, MsgKind::MHangup, 0, None, None),
-    (Error(Errno::EIO), ERROR, 0, None, None),
-    (
-        Error2(None, Some(Errno::EPROTO)),
-        WRITE_ERROR,
-        0,
-        None,
-        None,
-    ),
-];
+const READ_AND_EQUAL_MARKS: MsgKind = MSetopts {
+    mode: Some(ReadMode::Rmsgd),
+    prot: None,
+    marks: Some((4, 4)),
+};
 
-fn is_part(found: &Option<Bytes>, want: Part) -> bool {
-    let Some(found) = found else {
-        return want.is_none();
-    };
-    want == Some(found.as_slice())
-}
+const INVALID_3: MsgKind = MIocnak {
+    id: 3,
+    errno: Errno::EINVAL,
+};
 
-fn has_fields(m: &Message, row: &Fields) -> bool {
-    let (_, kind, band, ctl, dat) = *row;
-    let parts_are_so = is_part(&m.ctl, ctl) & is_part(&m.dat, dat);
-    (m.kind == kind) & (m.band == band) & parts_are_so
-}
+const INVALID_1: MsgKind = MIocnak {
+    id: 1,
+    errno: Errno::EINVAL,
+};
 
-#[test]
-fn each_call_fills_the_fields_of_its_kind(rt: HostRuntime) {
-    let alloc = rt.alloc();
-    for (i, row) in FIELDS.iter().enumerate() {
-        let m = message(&rt, alloc, row.0);
-        assert!(rt; has_fields(&m, row), "row {i}");
-    }
-}
-
-/// A message, and its class, rank and weight.
-type Facts = (Sample, Class, u16, u128);
-
-// Worked out by hand from the rules: only data, protocol messages, ioctls and options are ordinary; an ordinary
-// message has its band as rank, a high one 256; the weight is the bytes of control and data together,
-// and 1 where there is none.
-const FACTS: [Facts; 14] = [
-    (Data(7, b"wxyz"), Ordinary, 7, 4),
-    (Data(255, b""), Ordinary, 255, 1),
-    (Proto(3, b"c", Some(b"d")), Ordinary, 3, 2),
-    (Proto(0, b"abc", None), Ordinary, 0, 3),
-    (Ioctl(1, 9, Some(b"xy")), Ordinary, 0, 2),
-    (Ioctl(1, 9, None), Ordinary, 0, 1),
-    (Options(None, Some((16, 4))), Ordinary, 0, 1),
-    (Pcproto(b"hi", Some(b"data")), High, 256, 6),
-    (Pcproto(b"", None), High, 256, 1),
-    (Ack(1, 9, Some(b"xyz")), High, 256, 3),
-    (Nak(1, Errno::EINVAL), High, 256, 1),
-    (Flush(true, true, Some(9)), High, 256, 1),
-    (Hangup, High, 256, 1),
-    (Error(Errno::EIO), High, 256, 1),
-];
-
-fn has_facts(m: &Message, row: &Facts) -> bool {
-    let (_, class, rank, weight) = *row;
-    let is_of_class = m.class() == class;
-    let is_high_if_so = m.is_high() == (class == High);
-    is_of_class & is_high_if_so & (m.rank() == rank) & (m.weight() == weight)
-}
-
-#[test]
-fn class_rank_and_weight_of_each_kind(rt: HostRuntime) {
-    let alloc = rt.alloc();
-    for (i, row) in FACTS.iter().enumerate() {
-        let m = message(&rt, alloc, row.0);
-        assert!(rt; has_facts(&m, row), "row {i}");
-    }
-}
-
-// By the rule that ioctls and their answers never come in from a line.
-const FROM_LINE: [(Sample, bool); 10] = [
-    (Data(7, b"x"), true),
-    (Proto(3, b"c", None), true),
-    (Pcproto(b"c", None), true),
-    (Ioctl(1, 9, None), false),
-    (Ack(1, 9, None), false),
-    (Nak(1, Errno::EINVAL), false),
-    (Options(None, None), true),
-    (Flush(true, true, None), true),
-    (Hangup, true),
-    (Error(Errno::EIO), true),
-];
-
-fn comes_from_line(rt: &impl Abort, alloc: Global, sample: Sample) -> bool {
-    message(rt, alloc, sample).from_line()
-}
-
-#[test]
-fn ioctls_do_not_come_in_from_a_line(rt: HostRuntime) {
-    let alloc = rt.alloc();
-    for (i, (sample, comes)) in FROM_LINE.iter().enumerate() {
-        assert!(rt; comes_from_line(&rt, alloc, *sample) == *comes, "row {i}");
-    }
-}
-
-const COPIED: [Sample; 11] = [
-    Data(7, b"wxyz"),
-    Proto(3, b"c", Some(b"d")),
-    Proto(3, b"", None),
-    Pcproto(b"hi", Some(b"")),
-    Ioctl(1, 9, Some(b"xy")),
-    Ack(1, 9, None),
-    Nak(1, Errno::EINVAL),
-    Flush(false, true, None),
-    Options(Some(ReadMode::Rmsgd), Some((4, 4))),
-    Hangup,
-    Error(Errno::EPROTO),
-];
-
-fn copy_is_equal(rt: &impl Abort, alloc: Global, sample: Sample) -> bool {
-    let m = message(rt, alloc, sample);
-    m.copy(alloc).expect(rt, "no memory for a copy") == m
-}
-
-// By the rule that a copy is equal to what it was made from.
-#[test]
-fn a_copy_of_each_kind_is_equal(rt: HostRuntime) {
-    let alloc = rt.alloc();
-    for (i, sample) in COPIED.iter().enumerate() {
-        assert!(rt; copy_is_equal(&rt, alloc, *sample), "row {i}");
-    }
-}
-
-// By hand: the new data stand in place of the old ones, and all else is as before.
-const WITH_NEW: [(Sample, Sample); 3] = [
-    (Data(7, b"old"), Data(7, b"new")),
-    (Proto(3, b"c", None), Proto(3, b"c", Some(b"new"))),
-    (Ack(1, 9, None), Ack(1, 9, Some(b"new"))),
-];
-
-fn is_with_new(rt: &impl Abort, alloc: Global, (old, new): (Sample, Sample)) -> bool {
-    let m = message(rt, alloc, old);
-    assert!(rt; m.kind.takes_data());
-    m.with_data(bytes(rt, alloc, b"new")) == message(rt, alloc, new)
-}
-
-#[test]
-fn data_are_replaced(rt: HostRuntime) {
-    let alloc = rt.alloc();
-    for (i, row) in WITH_NEW.iter().enumerate() {
-        assert!(rt; is_with_new(&rt, alloc, *row), "row {i}");
-    }
-}
-
-const NAK_OF_1: MsgKind = MsgKind::MIocnak {
+const IO_1: MsgKind = MIocnak {
     id: 1,
     errno: Errno::EIO,
 };
 
-const FLUSH_OF_ALL: MsgKind = MsgKind::MFlush {
+const READ_9: MsgKind = MFlush {
+    r: true,
+    w: false,
+    band: Some(9),
+};
+
+const BOTH_9: MsgKind = MFlush {
+    r: true,
+    w: true,
+    band: Some(9),
+};
+
+const BOTH: MsgKind = MFlush {
     r: true,
     w: true,
     band: None,
 };
 
-// By the table of kinds: five kinds can have data, and all but four are high.
-const KINDS: [(MsgKind, Class, bool); 10] = [
-    (MsgKind::MData, Ordinary, true),
-    (MsgKind::MProto, Ordinary, true),
-    (MsgKind::MPcproto, High, true),
-    (MsgKind::MIoctl { id: 1, cmd: 9 }, Ordinary, true),
-    (OPTIONS, Ordinary, false),
-    (MsgKind::MIocack { id: 1, rval: 9 }, High, true),
-    (NAK_OF_1, High, false),
-    (FLUSH_OF_ALL, High, false),
-    (MsgKind::MHangup, High, false),
-    (ERROR, High, false),
+const WRITTEN: MsgKind = MFlush {
+    r: false,
+    w: true,
+    band: None,
+};
+
+const IO: MsgKind = MError {
+    rd: Some(Errno::EIO),
+    wr: Some(Errno::EIO),
+};
+
+const PROTOCOL: MsgKind = MError {
+    rd: Some(Errno::EPROTO),
+    wr: Some(Errno::EPROTO),
+};
+
+const WRITE_PROTOCOL: MsgKind = MError {
+    rd: None,
+    wr: Some(Errno::EPROTO),
+};
+
+// The fields are those that the table of kinds gives each kind: which parts it has, and band 0 for all but data and protocol
+// messages. The rest is worked out by hand from the rules: only data, protocol messages, ioctls and options are ordinary; an
+// ordinary message has its band as rank, a high one 256; the weight is the bytes of control and data together, and 1 where
+// there is none; five kinds can have data; and ioctls and their answers never come in from a line.
+const ORDINARY: &[Facts] = &[
+    (
+        Data(7, b"wxyz"),
+        MData,
+        (7, None, Some(b"wxyz")),
+        (Ordinary, 7, 4),
+        (true, true),
+    ),
+    (
+        Data(255, b""),
+        MData,
+        (255, None, Some(b"")),
+        (Ordinary, 255, 1),
+        (true, true),
+    ),
+    (
+        Data(7, b"x"),
+        MData,
+        (7, None, X),
+        (Ordinary, 7, 1),
+        (true, true),
+    ),
+    (
+        Proto(255, b"ab", Some(b"")),
+        MProto,
+        (255, Some(b"ab"), Some(b"")),
+        (Ordinary, 255, 2),
+        (true, true),
+    ),
+    (
+        Proto(255, b"ab", None),
+        MProto,
+        (255, Some(b"ab"), None),
+        (Ordinary, 255, 2),
+        (true, true),
+    ),
+    (
+        Proto(3, b"c", Some(b"d")),
+        MProto,
+        (3, C, Some(b"d")),
+        (Ordinary, 3, 2),
+        (true, true),
+    ),
+    (
+        Proto(0, b"abc", None),
+        MProto,
+        (0, Some(b"abc"), None),
+        (Ordinary, 0, 3),
+        (true, true),
+    ),
+    (
+        Proto(3, b"c", None),
+        MProto,
+        (3, C, None),
+        (Ordinary, 3, 1),
+        (true, true),
+    ),
+    (
+        Proto(3, b"", None),
+        MProto,
+        (3, Some(b""), None),
+        (Ordinary, 3, 1),
+        (true, true),
+    ),
+    (
+        Ioctl(3, 16, X),
+        MIoctl { id: 3, cmd: 16 },
+        (0, None, X),
+        (Ordinary, 0, 1),
+        (true, false),
+    ),
+    (
+        Ioctl(1, 9, Some(b"xy")),
+        MIoctl { id: 1, cmd: 9 },
+        (0, None, Some(b"xy")),
+        (Ordinary, 0, 2),
+        (true, false),
+    ),
+    (
+        Ioctl(1, 9, None),
+        MIoctl { id: 1, cmd: 9 },
+        (0, None, None),
+        (Ordinary, 0, 1),
+        (true, false),
+    ),
+    (
+        Options(Some(ReadMode::Rmsgn), Some((4, 9))),
+        READ_AND_MARKS,
+        BARE,
+        (Ordinary, 0, 1),
+        (false, true),
+    ),
+    (
+        Options(None, Some((16, 4))),
+        MARKS,
+        BARE,
+        (Ordinary, 0, 1),
+        (false, true),
+    ),
+    (
+        Options(None, None),
+        NO_OPTIONS,
+        BARE,
+        (Ordinary, 0, 1),
+        (false, true),
+    ),
+    (
+        Options(Some(ReadMode::Rmsgd), Some((4, 4))),
+        READ_AND_EQUAL_MARKS,
+        BARE,
+        (Ordinary, 0, 1),
+        (false, true),
+    ),
 ];
 
+const HIGH: &[Facts] = &[
+    (
+        Pcproto(b"hi", Some(b"data")),
+        MPcproto,
+        (0, Some(b"hi"), Some(b"data")),
+        (High, 256, 6),
+        (true, true),
+    ),
+    (
+        Pcproto(b"", None),
+        MPcproto,
+        (0, Some(b""), None),
+        (High, 256, 1),
+        (true, true),
+    ),
+    (
+        Pcproto(b"c", None),
+        MPcproto,
+        (0, C, None),
+        (High, 256, 1),
+        (true, true),
+    ),
+    (
+        Pcproto(b"hi", Some(b"")),
+        MPcproto,
+        (0, Some(b"hi"), Some(b"")),
+        (High, 256, 2),
+        (true, true),
+    ),
+    (
+        Ack(3, 4, X),
+        MIocack { id: 3, rval: 4 },
+        (0, None, X),
+        (High, 256, 1),
+        (true, false),
+    ),
+    (
+        Ack(1, 9, Some(b"xyz")),
+        MIocack { id: 1, rval: 9 },
+        (0, None, Some(b"xyz")),
+        (High, 256, 3),
+        (true, false),
+    ),
+    (
+        Ack(1, 9, None),
+        MIocack { id: 1, rval: 9 },
+        (0, None, None),
+        (High, 256, 1),
+        (true, false),
+    ),
+    (
+        Nak(3, Errno::EINVAL),
+        INVALID_3,
+        BARE,
+        (High, 256, 1),
+        (false, false),
+    ),
+    (
+        Nak(1, Errno::EINVAL),
+        INVALID_1,
+        BARE,
+        (High, 256, 1),
+        (false, false),
+    ),
+    (
+        Nak(1, Errno::EIO),
+        IO_1,
+        BARE,
+        (High, 256, 1),
+        (false, false),
+    ),
+    (
+        Flush(true, false, Some(9)),
+        READ_9,
+        BARE,
+        (High, 256, 1),
+        (false, true),
+    ),
+    (
+        Flush(true, true, Some(9)),
+        BOTH_9,
+        BARE,
+        (High, 256, 1),
+        (false, true),
+    ),
+    (
+        Flush(true, true, None),
+        BOTH,
+        BARE,
+        (High, 256, 1),
+        (false, true),
+    ),
+    (
+        Flush(false, true, None),
+        WRITTEN,
+        BARE,
+        (High, 256, 1),
+        (false, true),
+    ),
+    (Hangup, MHangup, BARE, (High, 256, 1), (false, true)),
+    (Error(Errno::EIO), IO, BARE, (High, 256, 1), (false, true)),
+    (
+        Error(Errno::EPROTO),
+        PROTOCOL,
+        BARE,
+        (High, 256, 1),
+        (false, true),
+    ),
+    (
+        Error2(None, Some(Errno::EPROTO)),
+        WRITE_PROTOCOL,
+        BARE,
+        (High, 256, 1),
+        (false, true),
+    ),
+];
+
+fn is_part(found: &Option<Bytes>, want: Part) -> bool {
+    match (found, want) {
+        (Some(found), Some(want)) => found.as_slice() == want,
+        (None, None) => true,
+        _ => false,
+    }
+}
+
+fn has_fields(m: &Message, (_, kind, (band, ctl, dat), _, _): &Facts) -> bool {
+    m.kind == *kind && m.band == *band && is_part(&m.ctl, *ctl) && is_part(&m.dat, *dat)
+}
+
+/// What is answered of a message, and of its kind.
+fn has_facts(m: &Message, (_, kind, _, (class, rank, weight), (takes, comes)): &Facts) -> bool {
+    m.class() == *class
+        && kind.class() == *class
+        && m.is_high() == (*class == High)
+        && m.rank() == *rank
+        && m.weight() == *weight
+        && kind.takes_data() == *takes
+        && m.from_line() == *comes
+}
+
+/// Whether a message is as the row says, and equal to its copy.
+fn is_as_told(rt: &impl Abort, alloc: Global, row: &Facts) -> bool {
+    let m = message(rt, alloc, row.0);
+    let copy = m.copy(alloc).expect(rt, "no memory for a copy");
+    let is_so = has_fields(&m, row) && has_facts(&m, row);
+    are_same(Some(m), Some(copy)) && is_so
+}
+
+fn are_as_told(rt: &impl Abort, alloc: Global, rows: &[Facts], name: &str) {
+    for (i, row) in rows.iter().enumerate() {
+        check(rt, (name, i), is_as_told(rt, alloc, row));
+    }
+}
+
 #[test]
-fn class_and_data_of_each_kind(rt: HostRuntime) {
-    for (kind, class, takes) in KINDS.iter() {
-        assert!(rt; kind.class() == *class, "class of {kind:?}");
-        assert!(rt; kind.takes_data() == *takes, "data of {kind:?}");
+fn each_message_has_its_fields_and_facts_and_an_equal_copy(rt: HostRuntime) {
+    are_as_told(&rt, rt.alloc(), ORDINARY, "ordinary messages");
+    are_as_told(&rt, rt.alloc(), HIGH, "high messages");
+}
+
+/// Two messages.
+type Two = (Sample, Sample);
+
+// By hand: the new data stand in place of the old ones, and all else is as before.
+const WITH_NEW: &[Two] = &[
+    (Data(7, b"old"), Data(7, b"new")),
+    (Proto(3, b"c", None), Proto(3, b"c", Some(b"new"))),
+    (Ack(1, 9, None), Ack(1, 9, Some(b"new"))),
+];
+
+fn is_with_new(rt: &impl Abort, alloc: Global, (old, new): Two) -> bool {
+    let m = message(rt, alloc, old);
+    assert!(rt; m.kind.takes_data());
+    let found = m.with_data(bytes(rt, alloc, b"new"));
+    are_same(Some(found), Some(message(rt, alloc, new)))
+}
+
+#[test]
+fn data_are_replaced(rt: HostRuntime) {
+    for row in WITH_NEW {
+        assert!(rt; is_with_new(&rt, rt.alloc(), *row));
     }
 }
 
 // By hand: each pair differs in one field, and a part of no bytes is not a missing part.
-const UNEQUAL: [(Sample, Sample); 6] = [
+const UNEQUAL: &[Two] = &[
     (Pcproto(b"c", None), Proto(0, b"c", None)),
     (Proto(4, b"c", None), Proto(3, b"c", None)),
     (Proto(3, b"d", None), Proto(3, b"c", None)),
@@ -274,14 +417,14 @@ const UNEQUAL: [(Sample, Sample); 6] = [
     (Flush(true, true, None), Flush(true, true, Some(0))),
 ];
 
-fn are_equal(rt: &impl Abort, alloc: Global, one: Sample, other: Sample) -> bool {
-    message(rt, alloc, one) == message(rt, alloc, other)
+fn are_equal(rt: &impl Abort, alloc: Global, (one, other): Two) -> bool {
+    let one = message(rt, alloc, one);
+    are_same(Some(one), Some(message(rt, alloc, other)))
 }
 
 #[test]
 fn messages_that_differ_in_one_field_are_unequal(rt: HostRuntime) {
-    let alloc = rt.alloc();
-    for (i, (one, other)) in UNEQUAL.iter().enumerate() {
-        assert!(rt; !are_equal(&rt, alloc, *one, *other), "row {i}");
+    for row in UNEQUAL {
+        assert!(rt; !are_equal(&rt, rt.alloc(), *row));
     }
 }

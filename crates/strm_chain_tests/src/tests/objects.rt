@@ -1,16 +1,16 @@
 //! Objects that can be told apart: which of them is asked, and which comes back.
-use super::Call::{Deliver, HeadLen, Serve, Settle, Write};
+use super::Call::{HeadLen, Serve, Settle, With, Write};
+use super::Way::Deliver;
 use super::{
-    Call, DRV_A, FIVE, Log, Pushes, RD_1, RD_2, Sample, WR_1, WR_2, boxed, chain_over, faults,
-    held, inserts, logged, new_log, owners, shape_of, steps,
+    Call, DRV_A, FIVE, Log, Pushes, RD_1, RD_2, Sample, WR_1, WR_2, boxed, chain_over, check, held,
+    inserts, logged, new_log, shape_of, steps,
 };
-use Ask::{Dismantle, Do, Push, Remove};
-use arrayvec::ArrayVec;
+use Ask::{Dismantle, Do, GoOn, Push, Remove};
 use std::alloc::Global;
 use std::process::Abort;
 use std::sync::atomic::Ordering;
-use strm_chain::{Chain, Driver, MOST_MODULES, Spot};
-use strm_module::{Boxed, Kind, Module, Outs, Put, Shape};
+use strm_chain::{Chain, Driver, Spot};
+use strm_module::{Boxed, Kind, Module, ModuleOf, Outs, Put, Shape};
 use strm_msg::{End, Message, NoMem, Side};
 
 // What was asked of the objects 1 to 3 stands on a log, in order, a digit for each call: the object's number
@@ -111,11 +111,12 @@ pub(super) enum Ask {
     Counted(u64),
     /// The topmost module of end A comes out, of this serial; its object is taken out of it and dropped.
     Remove(u64),
-    /// So many modules of an end come out, with nothing closed, and are dropped.
-    Clear(End, usize),
-    /// The modules of end A come out, with nothing closed: the serial of each, and what stands on the log
+    /// The modules of an end come out, with nothing closed: the serial of each, and what stands on the log
     /// once its object is dropped.
-    Dismantle(&'static [(u64, u64)]),
+    Dismantle(End, &'static [(u64, u64)]),
+    /// The topmost module of end A goes on in another echo, where something is written: this stands on the log before that
+    /// echo is dropped with it.
+    GoOn(u64),
 }
 
 /// A worked example: steps on a new chain, and what stands on the log after each. In the end the chain
@@ -148,114 +149,103 @@ fn with_object(
     boxed(rt, alloc, shape, told)
 }
 
-/// Hands a module in that stays.
-fn stays(
-    rt: &impl Abort,
-    chain: &mut Boxes,
-    log: &Log,
-    end: End,
-    numbers: (u64, u64),
-    object: Object,
-) -> bool {
-    let instance = with_object(rt, chain.alloc(), log, numbers, object);
-    inserts(chain, end, instance)
+/// Whether a module has come, of this serial, with nothing closed since this stood on the log. Its object is taken out of it
+/// and dropped.
+fn closes<M: Module>(log: &Log, before: u64, came: Option<Boxed<M>>, serial: u64) -> bool {
+    let Some(instance) = came else {
+        return false;
+    };
+    let is_so = instance.shape().serial == serial && logged(log) == before;
+    drop(instance.into_instance().into_object());
+    is_so
 }
 
-/// Hands a module in that comes back, with nothing closed.
-fn comes_back(
-    rt: &impl Abort,
-    chain: &mut Boxes,
+/// Hands a module in that comes back.
+fn comes_back<M: Module>(
+    chain: &mut Chain<M>,
     log: &Log,
     end: End,
-    (serial, number): (u64, u64),
-    object: Object,
+    instance: Boxed<M>,
+    serial: u64,
 ) -> bool {
-    let instance = with_object(rt, chain.alloc(), log, (serial, number), object);
     let before = logged(log);
-    match chain.insert(end, instance) {
-        Ok(()) => false,
-        Err(back) => back.shape().serial == serial && logged(log) == before,
+    let came = chain.insert(end, instance).err();
+    closes(log, before, came, serial)
+}
+
+/// The topmost comes out.
+fn removes<M: Module>(chain: &mut Chain<M>, log: &Log, serial: u64) -> bool {
+    let before = logged(log);
+    let came = chain.remove(End::A);
+    closes(log, before, came, serial)
+}
+
+/// Those that came out go one after the other.
+fn close_in_turn<M: Module>(
+    log: &Log,
+    came: &mut [Option<Boxed<M>>],
+    wants: &[(u64, u64)],
+) -> bool {
+    let mut are_so = true;
+    for (one, (serial, want)) in came.iter_mut().zip(wants) {
+        let before = logged(log);
+        are_so &= closes(log, before, one.take(), *serial) && logged(log) == *want;
+    }
+    are_so
+}
+
+/// All come out, with nothing closed, and go one after the other.
+fn dismantles<M: Module>(chain: &mut Chain<M>, log: &Log, end: End, wants: &[(u64, u64)]) -> bool {
+    let before = logged(log);
+    let mut came = chain.dismantle(end);
+    let are_all = came.len() == wants.len() && logged(log) == before;
+    let are_so = close_in_turn(log, came.as_mut_slice(), wants);
+    drop(came);
+    are_all && are_so
+}
+
+/// The topmost module goes on in another echo, where it is put a message.
+fn goes_on<M: Module>(rt: &impl Abort, chain: &mut Chain<M>, log: &Log, want: u64) -> bool {
+    let mut other = chain_over(rt, chain.alloc(), Driver::Echo, FIVE);
+    let is_moved = moves(chain, &mut other) && steps::acts(rt, &mut other, Write(b"x"));
+    let is_asked = logged(log) == want;
+    drop(other);
+    is_moved && is_asked
+}
+
+/// The topmost module of end A goes from one chain to the other.
+fn moves<M: ModuleOf>(from: &mut Chain<M>, to: &mut Chain<M>) -> bool {
+    match from.remove(End::A) {
+        Some(instance) => inserts(to, End::A, instance),
+        None => false,
     }
 }
 
 /// Whether the topmost module has counted this.
 fn has_counted(chain: &Boxes, n: u64) -> bool {
     match chain.shape(End::A, 1) {
-        Some(shape) => shape.kind == Kind::Count { n },
+        Some(shape) => matches!(shape.kind, Kind::Count { n: found } if found == n),
         None => false,
     }
-}
-
-/// Whether this is the module of a serial, with nothing closed since.
-fn is_whole(log: &Log, before: u64, instance: &Boxed<Box<dyn Module>>, serial: u64) -> bool {
-    instance.shape().serial == serial && logged(log) == before
-}
-
-/// The topmost comes out, and its object is dropped.
-fn removes(chain: &mut Boxes, log: &Log, serial: u64) -> bool {
-    let before = logged(log);
-    match chain.remove(End::A) {
-        Some(instance) => {
-            let is_so = is_whole(log, before, &instance, serial);
-            drop(instance.into_instance().into_object());
-            is_so
-        }
-        None => false,
-    }
-}
-
-/// All that stood in an end, topmost first.
-fn taken_out(
-    chain: &mut Boxes,
-    end: End,
-) -> ArrayVec<Option<Boxed<Box<dyn Module>>>, MOST_MODULES> {
-    chain.dismantle(end)
-}
-
-/// All come out, and are dropped.
-fn clears(chain: &mut Boxes, log: &Log, end: End, want: usize) -> bool {
-    let before = logged(log);
-    let instances = taken_out(chain, end);
-    instances.len() == want && logged(log) == before
-}
-
-/// A module that came out is the one of this serial, and its object is dropped.
-fn closes(log: &Log, instance: Option<Boxed<Box<dyn Module>>>, (serial, want): (u64, u64)) -> bool {
-    match instance {
-        Some(instance) => {
-            let is_so = instance.shape().serial == serial;
-            drop(instance.into_instance().into_object());
-            is_so && logged(log) == want
-        }
-        None => false,
-    }
-}
-
-/// All come out, and are dropped one after the other.
-fn dismantles(rt: &impl Abort, chain: &mut Boxes, log: &Log, wants: &[(u64, u64)]) -> bool {
-    let before = logged(log);
-    let instances = taken_out(chain, End::A);
-    let is_so = instances.len() == wants.len() && logged(log) == before;
-    for (instance, want) in instances.into_iter().zip(wants.iter()) {
-        assert!(rt; closes(log, instance, *want));
-    }
-    is_so
 }
 
 /// Does a step, and says whether it came to what it must.
 fn asks(rt: &impl Abort, chain: &mut Boxes, log: &Log, ask: Ask) -> bool {
+    let alloc = chain.alloc();
     match ask {
         Ask::Do(call) => steps::acts(rt, chain, call),
         Ask::Push(end, serial, number, object) => {
-            stays(rt, chain, log, end, (serial, number), object)
+            let instance = with_object(rt, alloc, log, (serial, number), object);
+            inserts(chain, end, instance)
         }
         Ask::Refused(end, serial, number, object) => {
-            comes_back(rt, chain, log, end, (serial, number), object)
+            let instance = with_object(rt, alloc, log, (serial, number), object);
+            comes_back(chain, log, end, instance, serial)
         }
         Ask::Counted(n) => has_counted(chain, n),
         Ask::Remove(serial) => removes(chain, log, serial),
-        Ask::Clear(end, want) => clears(chain, log, end, want),
-        Ask::Dismantle(wants) => dismantles(rt, chain, log, wants),
+        Ask::Dismantle(end, wants) => dismantles(chain, log, end, wants),
+        Ask::GoOn(want) => goes_on(rt, chain, log, want),
     }
 }
 
@@ -263,8 +253,7 @@ fn asks(rt: &impl Abort, chain: &mut Boxes, log: &Log, ask: Ask) -> bool {
 fn tell(rt: &impl Abort, chain: &mut Boxes, log: &Log, name: &str, rows: &[(Ask, u64)]) {
     for (at, (ask, want)) in rows.iter().enumerate() {
         let is_so = asks(rt, chain, log, *ask);
-        assert!(rt; is_so, "{name}: step {at}");
-        assert_eq!(rt; logged(log), *want, "{name}: the log after step {at}");
+        check(rt, (name, at), is_so && logged(log) == *want);
     }
 }
 
@@ -273,8 +262,8 @@ fn tell_story(rt: &impl Abort, alloc: Global, story: Story<'_>) {
     let mut chain: Box<Boxes> = chain_over(rt, alloc, story.driver, FIVE);
     tell(rt, &mut chain, &log, story.name, story.asks);
     drop(chain);
-    let want = story.end.unwrap_or(logged(&log));
-    assert_eq!(rt; logged(&log), want, "{}: the log in the end", story.name);
+    let is_so = story.end.is_none() || story.end == Some(logged(&log));
+    check(rt, (story.name, story.asks.len()), is_so);
 }
 
 pub(super) fn tell_stories(rt: &impl Abort, alloc: Global, stories: &[Story<'_>]) {
@@ -318,17 +307,23 @@ const EACH_MESSAGE_IS_PUT_TO_ITS_OBJECTS: &[(Ask, u64)] = &[
     (Push(End::A, 2, 2, NO_QUEUE), 0),
     (Push(End::A, 3, 3, NO_QUEUE), 0),
     (
-        Do(Deliver(Spot::Down { end: End::A, i: 2 }, Sample::Data(0, b"x"))),
+        Do(With(
+            Deliver(Spot::Down { end: End::A, i: 2 }),
+            Sample::Data(0, b"x"),
+        )),
         21,
     ),
     (Do(Settle(&[DRV_A], 2)), 21123),
     (
-        Do(Deliver(Spot::Up { end: End::A, i: 2 }, Sample::Data(0, b"y"))),
+        Do(With(
+            Deliver(Spot::Up { end: End::A, i: 2 }),
+            Sample::Data(0, b"y"),
+        )),
         2112323,
     ),
     (
-        Do(Deliver(
-            Spot::Down { end: End::A, i: 3 },
+        Do(With(
+            Deliver(Spot::Down { end: End::A, i: 3 }),
             Sample::Pcproto(b"h", None),
         )),
         21123231123,
@@ -352,10 +347,25 @@ const DISMANTLED_OBJECTS_COME_TOPMOST_FIRST: &[(Ask, u64)] = &[
     (Push(End::A, 1, 1, TWO_QUEUES), 0),
     (Push(End::A, 2, 2, TWO_QUEUES), 0),
     (Push(End::A, 3, 3, TWO_QUEUES), 0),
-    (Dismantle(&[(3, 9), (2, 98), (1, 987)]), 987),
+    (Dismantle(End::A, &[(3, 9), (2, 98), (1, 987)]), 987),
+];
+
+// The object that came back is asked, and no other, once its module stands in another chain; then the one that is left is
+// asked in the first.
+const OBJECT_GOES_ON_IN_ANOTHER_CHAIN: &[(Ask, u64)] = &[
+    (Push(End::A, 1, 1, NO_QUEUE), 0),
+    (Push(End::A, 2, 2, NO_QUEUE), 0),
+    (GoOn(2), 28),
+    (Do(Write(b"x")), 281),
 ];
 
 const STORIES: &[Story<'static>] = &[
+    Story {
+        name: "an object goes on in another chain",
+        driver: Driver::Echo,
+        asks: OBJECT_GOES_ON_IN_ANOTHER_CHAIN,
+        end: None,
+    },
     Story {
         name: "each queue is served by its object",
         driver: Driver::Echo,
@@ -384,44 +394,5 @@ const STORIES: &[Story<'static>] = &[
 
 #[test]
 fn each_story_goes_as_told(rt: HostRuntime) {
-    let alloc = rt.alloc();
-    tell_stories(&rt, alloc, STORIES);
-    tell_stories(&rt, alloc, faults::STORIES);
-    tell_stories(&rt, alloc, owners::STORIES);
-}
-
-// The object that came back is asked, and no other, once its module stands in another chain.
-const TWO_ARE_PUT_IN: &[(Ask, u64)] = &[
-    (Push(End::A, 1, 1, NO_QUEUE), 0),
-    (Push(End::A, 2, 2, NO_QUEUE), 0),
-];
-
-const ONE_IS_IN_ANOTHER: &[(Ask, u64)] = &[(Do(Write(b"x")), 2)];
-
-const ONE_IS_LEFT: &[(Ask, u64)] = &[(Do(Write(b"x")), 21)];
-
-/// The topmost module of end A goes from one chain to the other.
-fn moves(from: &mut Boxes, to: &mut Boxes) -> bool {
-    match from.remove(End::A) {
-        Some(instance) => inserts(to, End::A, instance),
-        None => false,
-    }
-}
-
-#[test]
-fn object_goes_on_in_another_chain(rt: HostRuntime) {
-    let alloc = rt.alloc();
-    let log = new_log(&rt, alloc);
-    let mut first: Box<Boxes> = chain_over(&rt, alloc, Driver::Echo, FIVE);
-    let mut second: Box<Boxes> = chain_over(&rt, alloc, Driver::Echo, FIVE);
-    tell(&rt, &mut first, &log, "two are put in", TWO_ARE_PUT_IN);
-    assert!(rt; moves(&mut first, &mut second));
-    tell(
-        &rt,
-        &mut second,
-        &log,
-        "in another chain",
-        ONE_IS_IN_ANOTHER,
-    );
-    tell(&rt, &mut first, &log, "in the first chain", ONE_IS_LEFT);
+    tell_stories(&rt, rt.alloc(), STORIES);
 }

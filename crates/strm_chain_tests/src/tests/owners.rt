@@ -1,10 +1,11 @@
 //! Boxed modules are handed in and back, and none is lost or dropped twice.
 use super::Call::{
-    Deliver, Enabled, FullAhead, HasRoom, HeadHeld, HeadLen, Hung, IsOpen, May, Read, Serial,
-    Serve, Settle, Write,
+    Enabled, FullAhead, HasRoom, HeadHeld, HeadLen, Hung, IsOpen, May, Read, Serial, Serve, Settle,
+    With, Write,
 };
-use super::objects::Ask::{Clear, Do, Push, Refused, Remove};
-use super::objects::{Ask, Object, Story};
+use super::Way::Deliver;
+use super::objects::Ask::{Dismantle, Do, Push, Refused, Remove};
+use super::objects::{Ask, Object, Story, tell_stories};
 use super::{Call, DRV_A, HEAD_A, Pushes, Sample, WR_1};
 use strm_chain::Driver;
 use strm_msg::End;
@@ -25,13 +26,13 @@ const TAKEN_OUT: &[(Ask, u64)] = &[
     (Do(Serial(2, Some(1))), 0),
     (Do(Serial(3, None)), 0),
     (Remove(2), 8),
-    (Clear(End::A, 1), 87),
+    (Dismantle(End::A, &[(1, 87)]), 87),
 ];
 
 // A closed end hands a module back. One that stands in the other end is closed with the chain.
 const REFUSED_AND_LEFT: &[(Ask, u64)] = &[
     (Push(End::B, 4, 1, PASS), 0),
-    (Clear(End::A, 0), 0),
+    (Dismantle(End::A, &[]), 0),
     (Refused(End::A, 3, 3, PASS), 9),
 ];
 
@@ -56,16 +57,19 @@ const NINTH_COMES_BACK: &[(Ask, u64)] = &[
     (Do(HasRoom(End::A, false)), 0),
     (Refused(End::A, 9, 2, PASS), 8),
     (
-        Ask::Dismantle(&[
-            (8, 87),
-            (7, 877),
-            (6, 8777),
-            (5, 87777),
-            (4, 877777),
-            (3, 8777777),
-            (2, 87777777),
-            (1, 877777777),
-        ]),
+        Dismantle(
+            End::A,
+            &[
+                (8, 87),
+                (7, 877),
+                (6, 8777),
+                (5, 87777),
+                (4, 877777),
+                (3, 8777777),
+                (2, 87777777),
+                (1, 877777777),
+            ],
+        ),
         877777777,
     ),
 ];
@@ -110,18 +114,18 @@ const FAR_END_OF_A_LOOP_IS_CLOSED: &[(Ask, u64)] = &[
     (Do(FullAhead(End::A, true)), 0),
     (Do(HeadLen(End::A, 0)), 0),
     (Do(HeadLen(End::B, 1)), 0),
-    (Clear(End::B, 0), 0),
+    (Dismantle(End::B, &[]), 0),
     (Do(IsOpen(End::B, false)), 0),
     (Do(HeadLen(End::B, 0)), 0),
     (Do(Enabled(DRV_A, true)), 0),
     (Do(Settle(&[DRV_A], 2)), 0),
     (Do(FullAhead(End::A, false)), 0),
     (Do(HeadLen(End::B, 0)), 0),
-    (Do(Deliver(HEAD_A, Sample::Hangup)), 0),
+    (Do(With(Deliver(HEAD_A), Sample::Hangup)), 0),
     (Do(Hung(End::A, true)), 0),
 ];
 
-pub(super) const STORIES: &[Story<'static>] = &[
+const STORIES: &[Story<'static>] = &[
     Story {
         name: "boxes that are taken out are closed once",
         driver: Driver::Loop,
@@ -140,6 +144,9 @@ pub(super) const STORIES: &[Story<'static>] = &[
         asks: NINTH_COMES_BACK,
         end: Some(877777777),
     },
+];
+
+const WAITING: &[Story<'static>] = &[
     Story {
         name: "an echo waits for its head",
         driver: Driver::Echo,
@@ -153,3 +160,13 @@ pub(super) const STORIES: &[Story<'static>] = &[
         end: Some(0),
     },
 ];
+
+#[test]
+fn each_module_is_closed_once(rt: HostRuntime) {
+    tell_stories(&rt, rt.alloc(), STORIES);
+}
+
+#[test]
+fn what_waits_goes_on_past_a_new_module_and_at_a_closed_end(rt: HostRuntime) {
+    tell_stories(&rt, rt.alloc(), WAITING);
+}

@@ -1,4 +1,5 @@
 //! The run queue: examples of calls and what they answer, in order.
+use super::check;
 use Step::{Clear, Enable, Enabled, First, Given, Len, Next, Places, Restart};
 use std::alloc::Global;
 use std::process::Abort;
@@ -22,7 +23,7 @@ enum Step {
 /// What the example shows, how many places there are, and what is done.
 type Example = (&'static str, usize, &'static [Step]);
 
-const EXAMPLES: [Example; 5] = [
+const EXAMPLES: &[Example] = &[
     (
         // By hand: a place that is enabled twice stands there once, so it is given out once.
         "a place is enabled once",
@@ -146,20 +147,16 @@ fn answers(rt: &impl Abort, run: &mut RunQueue, step: Step) -> bool {
     }
 }
 
-fn play(rt: &impl Abort, name: &str, run: &mut RunQueue, steps: &[Step]) {
-    for (i, step) in steps.iter().enumerate() {
-        assert!(rt; answers(rt, run, *step), "{name}: step {i}");
-    }
-}
-
-fn play_one(rt: &impl Abort, alloc: Global, (name, places, steps): Example) {
+fn play(rt: &impl Abort, alloc: Global, (name, places, steps): Example) {
     let mut run = RunQueue::new(alloc, places).expect(rt, "no memory for a run queue");
-    play(rt, name, &mut run, steps);
+    for (i, step) in steps.iter().enumerate() {
+        check(rt, (name, i), answers(rt, &mut run, *step));
+    }
 }
 
 #[test]
 fn places_in_worked_examples(rt: HostRuntime) {
-    for example in EXAMPLES.iter() {
-        play_one(&rt, rt.alloc(), *example);
+    for example in EXAMPLES {
+        play(&rt, rt.alloc(), *example);
     }
 }

@@ -1,6 +1,6 @@
 //! Queues of messages, with the marks 16 and 4: examples of calls and what they answer, in order.
 use super::Sample::{Ack, Data, Error, Flush, Hangup, Ioctl, Nak, Options, Pcproto, Proto};
-use super::{Sample, message, wanted};
+use super::{Sample, are_same, check, is_taken, message, wanted};
 use Step::{
     At, First, FlushAll, FlushBand, Get, HasBand, HasPcproto, Held, Holds, Len, Level, MakeRoom,
     Put, PutBack,
@@ -64,7 +64,7 @@ const TEN: &[Sample] = &[A, IOCTL, OPTIONS, PROTO, ACK, NAK, H, FLUSH, Hangup, E
 
 // Worked out by hand from the rules of order: high before bands, a greater band before a lesser one,
 // put behind equals and put back before them.
-const ORDER: [Example; 6] = [
+const ORDER: &[Example] = &[
     ("messages are put", &[A, B, H, C], &[Holds(&[H, B, C, A])]),
     (
         "a message is put back",
@@ -101,7 +101,7 @@ const ORDER: [Example; 6] = [
 
 // By the rule of flushes: they take data and protocol messages, and a high-priority one counts as
 // one of band 0. A high message is of no band that is asked for.
-const FLUSHES: [Example; 5] = [
+const FLUSHES: &[Example] = &[
     (
         "a flush takes data and protocol messages alone",
         TEN,
@@ -159,7 +159,7 @@ const FLUSHES: [Example; 5] = [
 
 // By hand: at most 4 bytes are slack, at least 16 are full, and another band is not concerned. putq(9F)
 // puts whatever the marks say. A rank above 256 counts as 256: room for it is room for a high message.
-const ROOM: [Example; 5] = [
+const ROOM: &[Example] = &[
     (
         "bands between the marks",
         &[],
@@ -222,11 +222,14 @@ const ROOM: [Example; 5] = [
 
 /// Whether that is the message, or there is none where none is wanted.
 fn is(rt: &impl Abort, alloc: Global, found: Option<&Message>, want: Option<Sample>) -> bool {
-    found == wanted(rt, alloc, want).as_ref()
+    let want = wanted(rt, alloc, want);
+    let is_so = found == want.as_ref();
+    drop(want);
+    is_so
 }
 
 fn gets(rt: &impl Abort, alloc: Global, q: &mut BandQueue, want: Option<Sample>) -> bool {
-    q.get() == wanted(rt, alloc, want)
+    are_same(q.get(), wanted(rt, alloc, want))
 }
 
 /// Whether the message is the first, and is taken.
@@ -247,7 +250,7 @@ fn holds(rt: &impl Abort, alloc: Global, q: &mut BandQueue, wanted: &[Sample]) -
 fn answers(rt: &impl Abort, alloc: Global, q: &mut BandQueue, step: Step) -> bool {
     match step {
         Put(sample) => puts(rt, alloc, q, sample),
-        PutBack(sample) => q.put_back(message(rt, alloc, sample)).is_ok(),
+        PutBack(sample) => is_taken(q.put_back(message(rt, alloc, sample))),
         MakeRoom(rank) => q.make_room(rank).is_ok(),
         FlushAll => {
             q.flush();
@@ -277,12 +280,12 @@ fn new(rt: &impl Abort, alloc: Global) -> BandQueue {
 
 fn play(rt: &impl Abort, alloc: Global, name: &str, q: &mut BandQueue, steps: &[Step]) {
     for (i, step) in steps.iter().enumerate() {
-        assert!(rt; answers(rt, alloc, q, *step), "{name}: step {i}");
+        check(rt, (name, i), answers(rt, alloc, q, *step));
     }
 }
 
 fn puts(rt: &impl Abort, alloc: Global, q: &mut BandQueue, sample: Sample) -> bool {
-    q.put(message(rt, alloc, sample)).is_ok()
+    is_taken(q.put(message(rt, alloc, sample)))
 }
 
 fn puts_all(rt: &impl Abort, alloc: Global, q: &mut BandQueue, samples: &[Sample]) -> bool {
@@ -295,7 +298,7 @@ fn puts_all(rt: &impl Abort, alloc: Global, q: &mut BandQueue, samples: &[Sample
 
 fn play_one(rt: &impl Abort, alloc: Global, (name, puts, steps): Example) {
     let mut q = new(rt, alloc);
-    assert!(rt; puts_all(rt, alloc, &mut q, puts), "{name}");
+    check(rt, (name, 0), puts_all(rt, alloc, &mut q, puts));
     play(rt, alloc, name, &mut q, steps);
 }
 
@@ -306,24 +309,27 @@ fn play_all(rt: &impl Abort, alloc: Global, examples: &[Example]) {
 }
 
 #[test]
-fn order_flushes_and_room_in_worked_examples(rt: HostRuntime) {
-    let alloc = rt.alloc();
-    play_all(&rt, alloc, &ORDER);
-    play_all(&rt, alloc, &FLUSHES);
-    play_all(&rt, alloc, &ROOM);
+fn messages_stand_in_order_of_rank(rt: HostRuntime) {
+    play_all(&rt, rt.alloc(), ORDER);
+}
+
+#[test]
+fn flushes_take_what_they_name(rt: HostRuntime) {
+    play_all(&rt, rt.alloc(), FLUSHES);
+}
+
+#[test]
+fn bands_are_slack_or_full_and_room_is_made(rt: HostRuntime) {
+    play_all(&rt, rt.alloc(), ROOM);
 }
 
 // By the rule that the low mark is below the high one.
 #[test]
 fn marks_are_made_of_a_lower_and_a_higher_one(rt: HostRuntime) {
-    for (hi, lo, marks) in [
-        (4, 4, None),
-        (4, 5, None),
-        (0, 0, None),
-        (5, 4, Some(Marks { hi: 5, lo: 4 })),
-    ] {
-        assert!(rt; Marks::new(hi, lo) == marks, "at {hi} and {lo}");
+    for (hi, lo) in [(4, 4), (4, 5), (0, 0)] {
+        assert!(rt; Marks::new(hi, lo).is_none());
     }
+    assert!(rt; Marks::new(5, 4) == Some(Marks { hi: 5, lo: 4 }));
 }
 
 fn puts_in_each_band(rt: &impl Abort, alloc: Global, q: &mut BandQueue) -> bool {
@@ -342,7 +348,7 @@ fn gets_from_each_band_below_255(rt: &impl Abort, alloc: Global, q: &mut BandQue
     are_got
 }
 
-const BETWEEN: [Step; 7] = [
+const BETWEEN: &[Step] = &[
     Put(H),
     Len(257),
     Held(0, 2),
@@ -359,7 +365,7 @@ fn a_message_in_each_band(rt: HostRuntime) {
     let alloc = rt.alloc();
     let mut q = new(&rt, alloc);
     assert!(rt; puts_in_each_band(&rt, alloc, &mut q));
-    play(&rt, alloc, "between", &mut q, &BETWEEN);
+    play(&rt, alloc, "between", &mut q, BETWEEN);
     assert!(rt; gets_from_each_band_below_255(&rt, alloc, &mut q));
     assert!(rt; gets(&rt, alloc, &mut q, None));
 }
@@ -367,7 +373,7 @@ fn a_message_in_each_band(rt: HostRuntime) {
 const LOW: Sample = Data(0, b"low");
 
 // By hand: a band that ran empty is used again, beside one that has not.
-const ROUND: [Step; 9] = [
+const ROUND: &[Step] = &[
     Put(Data(7, b"a")),
     Put(Proto(7, b"b", None)),
     Held(7, 2),
@@ -381,9 +387,9 @@ const ROUND: [Step; 9] = [
 
 const ROUNDS: &[(&str, &[Step])] = &[
     ("low", &[Put(LOW)]),
-    ("round 0", &ROUND),
-    ("round 1", &ROUND),
-    ("round 2", &ROUND),
+    ("round 0", ROUND),
+    ("round 1", ROUND),
+    ("round 2", ROUND),
     ("end", &[First(Some(LOW))]),
 ];
 

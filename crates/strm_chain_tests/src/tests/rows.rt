@@ -1,24 +1,27 @@
 //! Messages through chains, row by row.
 use super::Call::{
-    Comes, Deliver, FullAhead, HasSpot, HeadHeld, HeadLen, IsOpen, LineFull, May, NoneEnabled,
-    PutBack, Read, Send, Settle, Take, Write,
+    FullAhead, HasSpot, HeadHeld, HeadLen, IsOpen, LineFull, May, NoneEnabled, Read, Settle, With,
+    Write,
 };
-use super::{Call, DRV_A, FIVE, HEAD_A, Pushes, RD_1, Row, Sample, TOP_A, WR_1, WR_2};
+use super::Way::{Comes, Deliver, PutBack, Send, Take};
+use super::{
+    Call, DRV_A, FIVE, HEAD_A, Pushed, Pushes, RD_1, Row, Sample, TOP_A, WR_1, WR_2, play_rows,
+};
 use strm_chain::{Driver, Place, Spot};
 use strm_msg::End;
 
 // What came in waits in the line's list while the head holds its 5 bytes. A message that is put back
 // comes before those of its rank.
 const LINE_TAKES_WHAT_COMES_IN: &[Call] = &[
-    Comes(Sample::Data(0, b"aaaaa")),
+    With(Comes, Sample::Data(0, b"aaaaa")),
     Settle(&[DRV_A], 2),
-    Comes(Sample::Data(0, b"bbbbb")),
+    With(Comes, Sample::Data(0, b"bbbbb")),
     Settle(&[], 1),
     LineFull(true),
     Read(b"aaaaa"),
     Settle(&[DRV_A], 2),
     LineFull(false),
-    PutBack(Sample::Data(0, b"z")),
+    With(PutBack, Sample::Data(0, b"z")),
     Read(b"z"),
     Read(b"bbbbb"),
 ];
@@ -68,12 +71,12 @@ const BANDS_ARE_HELD_BACK_BY_THEMSELVES: &[Call] = &[
     Write(b"aaaaa"),
     Settle(&[DRV_A], 2),
     Write(b"b"),
-    Deliver(TOP_A, Sample::Data(5, b"u")),
+    With(Deliver(TOP_A), Sample::Data(5, b"u")),
     Settle(&[DRV_A], 2),
-    Take(End::A, Sample::Data(5, b"u")),
-    Deliver(TOP_A, Sample::Pcproto(b"h", None)),
-    Deliver(TOP_A, Sample::Pcproto(b"i", None)),
-    Take(End::A, Sample::Pcproto(b"h", None)),
+    With(Take(End::A), Sample::Data(5, b"u")),
+    With(Deliver(TOP_A), Sample::Pcproto(b"h", None)),
+    With(Deliver(TOP_A), Sample::Pcproto(b"i", None)),
+    With(Take(End::A), Sample::Pcproto(b"h", None)),
     Read(b"aaaaa"),
     HeadLen(End::A, 0),
 ];
@@ -91,13 +94,13 @@ const HIGH_MESSAGES_PASS_WHAT_IS_BLOCKED: &[Call] = &[
     Write(b"bbbbb"),
     Settle(&[WR_1, DRV_A], 5),
     May(RD_1, false),
-    Deliver(HEAD_A, Sample::Pcproto(b"h", None)),
+    With(Deliver(HEAD_A), Sample::Pcproto(b"h", None)),
     HeadLen(End::A, 2),
-    Take(End::A, Sample::Pcproto(b"h", None)),
+    With(Take(End::A), Sample::Pcproto(b"h", None)),
     Write(b"c"),
-    Deliver(TOP_A, Sample::Pcproto(b"i", None)),
+    With(Deliver(TOP_A), Sample::Pcproto(b"i", None)),
     HeadLen(End::A, 2),
-    Take(End::A, Sample::Pcproto(b"i", None)),
+    With(Take(End::A), Sample::Pcproto(b"i", None)),
     May(RD_1, false),
     Read(b"aaaaa"),
     HeadLen(End::A, 0),
@@ -105,7 +108,7 @@ const HIGH_MESSAGES_PASS_WHAT_IS_BLOCKED: &[Call] = &[
 
 // A message for the topmost of two modules goes to `Spot::top`, and waits in that one.
 const TOP_IS_THE_SPOT_OF_THE_TOPMOST: &[Call] = &[
-    Send(End::A, Sample::Data(0, b"x")),
+    With(Send(End::A), Sample::Data(0, b"x")),
     Write(b"x"),
     May(WR_1, true),
     May(WR_2, false),
@@ -113,9 +116,9 @@ const TOP_IS_THE_SPOT_OF_THE_TOPMOST: &[Call] = &[
 ];
 
 /// A module with a queue for its write side.
-const QUEUED: (End, Pushes, bool, bool) = (End::A, Pushes::Pass, false, true);
+const QUEUED: Pushed = (End::A, Pushes::Pass, false, true);
 
-pub(super) const ROWS: &[Row] = &[
+const ROWS: &[Row] = &[
     Row {
         name: "a line takes what comes in",
         driver: Driver::Line,
@@ -159,3 +162,8 @@ pub(super) const ROWS: &[Row] = &[
         calls: &[TOP_IS_THE_SPOT_OF_THE_TOPMOST],
     },
 ];
+
+#[test]
+fn each_row_is_answered(rt: HostRuntime) {
+    play_rows(&rt, rt.alloc(), ROWS);
+}

@@ -1,5 +1,5 @@
 //! What a call of a table does, and whether it answers what it must.
-use super::{Call, Sample, TOP_A, message, wanted};
+use super::{Call, Sample, TOP_A, Way, are_same, is_taken, message};
 use std::process::Abort;
 use strm_chain::{Chain, ChainFault, Driver, Place, Spot};
 use strm_module::ModuleOf;
@@ -26,7 +26,7 @@ fn serves<M: ModuleOf>(chain: &mut Chain<M>, place: Place, want: Result<(), Chai
 /// Takes the first message of the head of an end, which is to be this.
 fn takes<M: ModuleOf>(rt: &impl Abort, chain: &mut Chain<M>, end: End, sample: Sample) -> bool {
     let want = message(rt, chain.alloc(), sample);
-    chain.take_head(end) == Some(want)
+    are_same(chain.take_head(end), Some(want))
 }
 
 /// Serves until no place is enabled, by these moves and so many looks.
@@ -42,25 +42,7 @@ fn comes<M: ModuleOf>(rt: &impl Abort, chain: &mut Chain<M>, sample: Sample) -> 
     let m = message(rt, chain.alloc(), sample);
     assert!(rt; chain.driver() == Driver::Line);
     assert!(rt; m.class() == Class::Ordinary);
-    chain.line_put(m).is_ok()
-}
-
-/// A call that hands a message in, moves it or takes it.
-pub(super) fn acts<M: ModuleOf>(rt: &impl Abort, chain: &mut Chain<M>, call: Call) -> bool {
-    match call {
-        Call::Write(bytes) => puts(rt, chain, TOP_A, Sample::Data(0, bytes), Ok(())),
-        Call::Send(end, sample) => puts(rt, chain, Spot::top(end), sample, Ok(())),
-        Call::Deliver(spot, sample) => puts(rt, chain, spot, sample, Ok(())),
-        Call::DeliverFails(spot, sample, fault) => puts(rt, chain, spot, sample, Err(fault)),
-        Call::Comes(sample) => comes(rt, chain, sample),
-        Call::Serve(place) => serves(chain, place, Ok(())),
-        Call::ServeFails(place, fault) => serves(chain, place, Err(fault)),
-        Call::Settle(moves, looks) => settles(chain, moves, looks),
-        Call::SettleFails(fault) => chain.settle().err() == Some(fault),
-        Call::Read(bytes) => takes(rt, chain, End::A, Sample::Data(0, bytes)),
-        Call::Take(end, sample) => takes(rt, chain, end, sample),
-        _ => sets(rt, chain, call),
-    }
+    is_taken(chain.line_put(m))
 }
 
 /// Room is made for a message, which is put back.
@@ -68,8 +50,41 @@ fn puts_back<M: ModuleOf>(rt: &impl Abort, chain: &mut Chain<M>, sample: Sample)
     let has_room = chain.head_room(End::A, 0).is_ok();
     let line_has_room = chain.driver() == Driver::Line && chain.line_room(0).is_ok();
     let m = message(rt, chain.alloc(), sample);
-    let is_back = chain.put_back_head(End::A, m).is_ok();
+    let is_back = is_taken(chain.put_back_head(End::A, m));
     has_room && line_has_room && is_back
+}
+
+/// Takes the answer that has come, which is to be this.
+fn ends<M: ModuleOf>(rt: &impl Abort, chain: &mut Chain<M>, sample: Sample) -> bool {
+    let want = message(rt, chain.alloc(), sample);
+    are_same(chain.end_ioctl(End::A), Some(want))
+}
+
+/// What is done with a message.
+fn moves<M: ModuleOf>(rt: &impl Abort, chain: &mut Chain<M>, way: Way, sample: Sample) -> bool {
+    match way {
+        Way::Send(end) => puts(rt, chain, Spot::top(end), sample, Ok(())),
+        Way::Deliver(spot) => puts(rt, chain, spot, sample, Ok(())),
+        Way::Fails(spot, fault) => puts(rt, chain, spot, sample, Err(fault)),
+        Way::Comes => comes(rt, chain, sample),
+        Way::Take(end) => takes(rt, chain, end, sample),
+        Way::PutBack => puts_back(rt, chain, sample),
+        Way::Answer => ends(rt, chain, sample),
+    }
+}
+
+/// A call that hands a message in, moves it or takes it.
+pub(super) fn acts<M: ModuleOf>(rt: &impl Abort, chain: &mut Chain<M>, call: Call) -> bool {
+    match call {
+        Call::Write(bytes) => puts(rt, chain, TOP_A, Sample::Data(0, bytes), Ok(())),
+        Call::Read(bytes) => takes(rt, chain, End::A, Sample::Data(0, bytes)),
+        Call::With(way, sample) => moves(rt, chain, way, sample),
+        Call::Serve(place) => serves(chain, place, Ok(())),
+        Call::ServeFails(place, fault) => serves(chain, place, Err(fault)),
+        Call::Settle(moves, looks) => settles(chain, moves, looks),
+        Call::SettleFails(fault) => chain.settle().err() == Some(fault),
+        _ => sets(chain, call),
+    }
 }
 
 /// Takes an id, which is to be this one.
@@ -85,12 +100,6 @@ fn undoes<M: ModuleOf>(chain: &mut Chain<M>) -> bool {
         chain.undo_ioctl(End::A);
     }
     is_unanswered
-}
-
-/// Takes the answer that has come.
-fn ends<M: ModuleOf>(rt: &impl Abort, chain: &mut Chain<M>, want: Option<Sample>) -> bool {
-    let want = wanted(rt, chain.alloc(), want);
-    chain.end_ioctl(End::A) == want
 }
 
 /// Takes the topmost module out.
@@ -112,14 +121,13 @@ fn sets_mode<M: ModuleOf>(chain: &mut Chain<M>, end: End, mode: ReadMode, prot: 
 }
 
 /// A call that changes something else.
-fn sets<M: ModuleOf>(rt: &impl Abort, chain: &mut Chain<M>, call: Call) -> bool {
+fn sets<M: ModuleOf>(chain: &mut Chain<M>, call: Call) -> bool {
     match call {
-        Call::PutBack(sample) => puts_back(rt, chain, sample),
         Call::BreakOff => breaks_off(chain),
         Call::SetMode(end, mode, prot) => sets_mode(chain, end, mode, prot),
         Call::Begins(id) => begins(chain, id),
         Call::Undoes => undoes(chain),
-        Call::Ends(want) => ends(rt, chain, want),
+        Call::NoAnswer => are_same(chain.end_ioctl(End::A), None),
         Call::Remove(want) => removes(chain) == want,
         _ => shows(chain, call),
     }

@@ -1,38 +1,43 @@
 //! Bytes and errors, and what is printed.
 use super::Sample::Data;
-use super::{bytes, message};
+use super::{bytes, check, message};
 use std::alloc::Global;
+use std::fmt::{Debug, Display};
 use std::process::Abort;
 use strm_msg::{Bytes, Errno, NoMem, Prot, ReadMode};
 
-fn are_kept(made: &Bytes, want: &[u8]) -> bool {
-    let has_length = made.len() == want.len();
-    let is_empty_if_so = made.is_empty() == want.is_empty();
-    (made.as_slice() == want) & has_length & is_empty_if_so
+/// Whether bytes are these, and the vector that they are turned into has them too.
+fn are_kept(made: Bytes, want: &[u8]) -> bool {
+    let has_length = made.len() == want.len() && made.is_empty() == want.is_empty();
+    let are_so = has_length && made.as_slice() == want;
+    let items = made.into_vec();
+    are_so && items.as_slice() == want
 }
 
-/// Bytes that are copied, and bytes that are made of a vector and turned back into it.
-fn all_are_kept(rt: &impl Abort, alloc: Global, want: &[u8]) -> bool {
+/// Bytes that are made of a vector.
+fn of_vector(rt: &impl Abort, alloc: Global, want: &[u8]) -> Bytes {
+    Bytes::from(Vec::from_slice(alloc, want).expect(rt, "no memory for a vector"))
+}
+
+/// Whether bytes that are copied or made of a vector are these and are equal, and are not the others.
+fn all_are_kept(rt: &impl Abort, alloc: Global, want: &[u8], other: &[u8]) -> bool {
     let copied = bytes(rt, alloc, want);
     let copy = copied.copy(alloc).expect(rt, "no memory for a copy");
-    let items = Vec::from_slice(alloc, want).expect(rt, "no memory for a vector");
-    let made = Bytes::from(items);
-    let are_equal = (copy == copied) & (made == copied);
-    let are_all_kept = are_kept(&copied, want) & are_kept(&made, want);
-    are_equal & are_all_kept & (made.into_vec().as_slice() == want)
+    let made = of_vector(rt, alloc, want);
+    let differs = made != bytes(rt, alloc, other);
+    let are_equal = copy == copied && made == copied;
+    are_kept(copied, want) && are_kept(copy, want) && are_kept(made, want) && are_equal && differs
 }
 
 // By hand: the bytes stay as they were put in, in order.
 #[test]
 fn bytes_keep_what_they_were_made_of(rt: HostRuntime) {
-    let alloc = rt.alloc();
-    assert!(rt; all_are_kept(&rt, alloc, b"abc"));
-    assert!(rt; all_are_kept(&rt, alloc, b""));
-    assert!(rt; bytes(&rt, alloc, b"abc") != bytes(&rt, alloc, b"abd"));
+    assert!(rt; all_are_kept(&rt, rt.alloc(), b"abc", b"abd"));
+    assert!(rt; all_are_kept(&rt, rt.alloc(), b"", b"a"));
 }
 
 // The names of errno.h, typed by hand.
-const NAMES: [(Errno, &str); 11] = [
+const NAMES: &[(Errno, &str)] = &[
     (Errno::EBADF, "EBADF"),
     (Errno::ENOSR, "ENOSR"),
     (Errno::EINVAL, "EINVAL"),
@@ -46,46 +51,54 @@ const NAMES: [(Errno, &str); 11] = [
     (Errno::EPROTO, "EPROTO"),
 ];
 
-fn is_named(rt: &impl Abort, alloc: Global, errno: Errno, name: &str) -> bool {
-    let text = format!(in alloc; "{errno}").expect(rt, "no memory for a text");
-    text.as_str() == name && errno.name() == name
+/// Whether a value is displayed so.
+pub(super) fn is_displayed<T: Display>(
+    rt: &impl Abort,
+    alloc: Global,
+    value: &T,
+    want: &str,
+) -> bool {
+    let text = format!(in alloc; "{value}").expect(rt, "no memory for a text");
+    text.as_str() == want
 }
 
 #[test]
 fn errors_are_printed_by_name(rt: HostRuntime) {
-    let alloc = rt.alloc();
-    for (errno, name) in NAMES.iter() {
-        assert!(rt; is_named(&rt, alloc, *errno, name), "{name}");
+    for (i, (errno, name)) in NAMES.iter().enumerate() {
+        let is_named = errno.name() == *name && is_displayed(&rt, rt.alloc(), errno, name);
+        check(&rt, ("errors", i), is_named);
     }
+}
+
+fn is_padded(rt: &impl Abort, alloc: Global, errno: Errno, want: &str) -> bool {
+    let padded = format!(in alloc; "{errno:>6}|").expect(rt, "no memory for a text");
+    padded.as_str() == want
 }
 
 #[test]
 fn an_error_is_padded_and_want_of_memory_printed(rt: HostRuntime) {
-    let alloc = rt.alloc();
-    let padded = format!(in alloc; "{:>6}|", Errno::EIO).expect(&rt, "no memory for a text");
-    assert!(rt; padded.as_str() == "   EIO|");
-    let no_memory = format!(in alloc; "{NoMem}").expect(&rt, "no memory for a text");
-    assert!(rt; no_memory.as_str() == "no memory");
+    assert!(rt; is_padded(&rt, rt.alloc(), Errno::EIO, "   EIO|"));
+    assert!(rt; is_displayed(&rt, rt.alloc(), &NoMem, "no memory"));
 }
 
 // The escapes are those of the example in the documentation of Rust's `escape_ascii`.
-const PRINTED: [(&[u8], &str); 3] = [
+const PRINTED: &[(&[u8], &str)] = &[
     (b"", "b\"\""),
     (b"ab\n", "b\"ab\\n\""),
     (b"0\t\r\n'\"\\\x9d", "b\"0\\t\\r\\n\\'\\\"\\\\\\x9d\""),
 ];
 
-fn is_printed(rt: &impl Abort, alloc: Global, part: &[u8], text: &str) -> bool {
-    let part = bytes(rt, alloc, part);
-    let printed = format!(in alloc; "{part:?}").expect(rt, "no memory for a text");
-    printed.as_str() == text
+/// Whether a value is printed so for whoever looks for a fault.
+fn is_printed<T: Debug>(rt: &impl Abort, alloc: Global, value: &T, want: &str) -> bool {
+    let printed = format!(in alloc; "{value:?}").expect(rt, "no memory for a text");
+    printed.as_str() == want
 }
 
 #[test]
 fn bytes_are_printed_as_a_byte_string(rt: HostRuntime) {
-    let alloc = rt.alloc();
-    for (part, text) in PRINTED.iter() {
-        assert!(rt; is_printed(&rt, alloc, part, text), "{text}");
+    for (part, text) in PRINTED {
+        let part = bytes(&rt, rt.alloc(), part);
+        assert!(rt; is_printed(&rt, rt.alloc(), &part, text));
     }
 }
 
@@ -93,15 +106,14 @@ const MESSAGE: &str = "Message { kind: MData, band: 7, ctl: None, dat: Some(b\"a
 
 #[test]
 fn a_message_is_printed_with_its_bytes(rt: HostRuntime) {
-    let alloc = rt.alloc();
-    let m = message(&rt, alloc, Data(7, b"a\0"));
-    let printed = format!(in alloc; "{m:?}").expect(&rt, "no memory for a text");
-    assert!(rt; printed.as_str() == MESSAGE);
+    let m = message(&rt, rt.alloc(), Data(7, b"a\0"));
+    let is_so = is_printed(&rt, rt.alloc(), &m, MESSAGE);
+    drop(m);
+    assert!(rt; is_so);
 }
 
 // By the rule that a stream begins to read as a byte stream, with control parts refused.
 #[test]
 fn reading_begins_as_a_byte_stream(rt: HostRuntime) {
-    assert_eq!(rt; ReadMode::default(), ReadMode::Rnorm);
-    assert_eq!(rt; Prot::default(), Prot::Norm);
+    assert!(rt; ReadMode::default() == ReadMode::Rnorm && Prot::default() == Prot::Norm);
 }

@@ -1,9 +1,9 @@
 //! Modules as a user of the crate writes them: an object that tallies what it is asked, one that
 //! leaves both procedures out, and one for a vocabulary of its own.
 use super::Sample::{Ack, Ioctl};
-use super::kinds::Keeps::Counted;
-use super::kinds::Want::{GoesOn, Sends};
-use super::kinds::{Call, Row, Want, X, called, play};
+use super::kinds::Keeps::{Counted, Same};
+use super::kinds::Want::{GoesOn, Refused, Sends};
+use super::kinds::{Call, Row, Want, X, is_answer, play};
 use super::{Log, held, logged, message, new_log, shaped};
 use std::alloc::Global;
 use std::process::Abort;
@@ -95,103 +95,71 @@ fn counting<M: Module>(rt: &impl Abort, object: M) -> Instance<M> {
     Instance::new(shaped(rt, 3, b"count", (None, None), kind), object)
 }
 
-/// What a call answers at data that go down.
-fn called_at_x<M: Module>(
-    rt: &impl Abort,
-    alloc: Global,
-    it: &mut Instance<M>,
-    call: Call,
-) -> Result<Put, NoMem> {
-    called(alloc, it, call, Wr, message(rt, alloc, X))
-}
+const ANSWERED: &[Row] = &[(Wr, X, GoesOn, Counted(4))];
 
-fn is_answered<M: Module>(
-    rt: &impl Abort,
-    alloc: Global,
-    it: &mut Instance<M>,
-    call: Call,
-) -> bool {
-    called_at_x(rt, alloc, it, call).is_ok()
-}
+/// A refused call leaves the shape, and the next one is answered.
+const REFUSED_FIRST: &[Row] = &[(Wr, X, Refused, Same), (Wr, X, GoesOn, Counted(4))];
 
-fn is_refused<M: Module>(rt: &impl Abort, alloc: Global, it: &mut Instance<M>, call: Call) -> bool {
-    called_at_x(rt, alloc, it, call) == Err(NoMem)
-}
+/// What an object is asked, what it refuses, what it is handed, and what stands in its tally then, and when it is closed.
+type Example = (Call, (bool, bool), &'static [Row], u64, u64);
 
-/// Whether these sums stand in the tallies.
-fn have((tally, other): (&Log, &Log), sum: u64, other_sum: u64) -> bool {
-    (logged(tally) == sum) & (logged(other) == other_sum)
-}
+const EXAMPLES: &[Example] = &[
+    (Call::Put, NEVER, ANSWERED, PUT, PUT + CLOSED),
+    (Call::Serve, NEVER, ANSWERED, SERVED, SERVED + CLOSED),
+    (
+        Call::Put,
+        (true, false),
+        REFUSED_FIRST,
+        2 * PUT,
+        2 * PUT + CLOSED,
+    ),
+    (
+        Call::Serve,
+        (false, true),
+        REFUSED_FIRST,
+        2 * SERVED,
+        2 * SERVED + CLOSED,
+    ),
+];
 
-/// One message is put to the first module, and one is served by the second.
-fn asks_each<M: Module>(
+/// The first module is asked and closed, while the second has nothing on its tally.
+fn asks_first<M: Module>(
     rt: &impl Abort,
     alloc: Global,
     (first, second): (M, M),
-    tallies: (&Log, &Log),
+    (tally, other): (&Log, &Log),
+    (call, _, rows, asked, closed): Example,
 ) {
     let mut first = counting(rt, first);
-    let mut second = counting(rt, second);
-    assert!(rt; is_answered(rt, alloc, &mut first, Call::Put));
-    assert!(rt; have(tallies, PUT, 0));
-    assert!(rt; is_answered(rt, alloc, &mut second, Call::Serve));
-    assert!(rt; have(tallies, PUT, SERVED));
+    let second = counting(rt, second);
+    play(rt, alloc, &mut first, call, ("an object", rows));
+    assert!(rt; logged(tally) == asked);
     drop(first);
-    assert!(rt; have(tallies, PUT + CLOSED, SERVED));
+    assert!(rt; logged(tally) == closed && logged(other) == 0);
+    drop(second);
+    assert!(rt; logged(tally) == closed && logged(other) == CLOSED);
 }
 
 #[test]
 fn object_of_the_instance_is_called_and_closed_once(rt: HostRuntime) {
-    let alloc = rt.alloc();
-    let (one, other) = (new_log(&rt, alloc), new_log(&rt, alloc));
-    let objects = (watching(&rt, &one, NEVER), watching(&rt, &other, NEVER));
-    asks_each(&rt, alloc, objects, (&one, &other));
-    assert!(rt; logged(&other) == SERVED + CLOSED);
+    for example in EXAMPLES {
+        let (one, other) = (new_log(&rt, rt.alloc()), new_log(&rt, rt.alloc()));
+        let objects = (
+            watching(&rt, &one, example.1),
+            watching(&rt, &other, example.1),
+        );
+        asks_first(&rt, rt.alloc(), objects, (&one, &other), *example);
+    }
 }
 
 #[test]
 fn object_in_the_box_is_called_and_closed_once(rt: HostRuntime) {
     let alloc = rt.alloc();
-    let (one, other) = (new_log(&rt, alloc), new_log(&rt, alloc));
-    let first = boxed(&rt, alloc, watching(&rt, &one, NEVER));
-    let second = boxed(&rt, alloc, watching(&rt, &other, NEVER));
-    asks_each(&rt, alloc, (first, second), (&one, &other));
-    assert!(rt; logged(&other) == SERVED + CLOSED);
-}
-
-const COUNTED_AS_FOURTH: &[Row] = &[(Wr, X, GoesOn, Counted(4))];
-
-/// A refused call leaves the shape, and the next one is answered.
-fn answers_the_second_time<M: Module>(rt: &impl Abort, alloc: Global, object: M, call: Call) {
-    let mut it = counting(rt, object);
-    let before = it.shape().copy(alloc).expect(rt, "no memory for a shape");
-    assert!(rt; is_refused(rt, alloc, &mut it, call));
-    assert!(rt; *it.shape() == before, "a refusal changes nothing");
-    play(rt, alloc, &mut it, call, COUNTED_AS_FOURTH);
-}
-
-const PUT_TWICE: u64 = 2 * PUT + CLOSED;
-
-const SERVED_TWICE: u64 = 2 * SERVED + CLOSED;
-
-/// A call, what is refused, and what stands in the tally when an object was asked twice and closed, and then
-/// another.
-const REFUSED: &[(Call, (bool, bool), u64, u64)] = &[
-    (Call::Put, (true, false), PUT_TWICE, 2 * PUT_TWICE),
-    (Call::Serve, (false, true), SERVED_TWICE, 2 * SERVED_TWICE),
-];
-
-#[test]
-fn object_that_refused_is_asked_again(rt: HostRuntime) {
-    let alloc = rt.alloc();
-    for (call, refuses, one, both) in REFUSED {
-        let tally = new_log(&rt, alloc);
-        let object = watching(&rt, &tally, *refuses);
-        answers_the_second_time(&rt, alloc, object, *call);
-        assert!(rt; logged(&tally) == *one);
-        let object = boxed(&rt, alloc, watching(&rt, &tally, *refuses));
-        answers_the_second_time(&rt, alloc, object, *call);
-        assert!(rt; logged(&tally) == *both);
+    for example in EXAMPLES {
+        let (one, other) = (new_log(&rt, alloc), new_log(&rt, alloc));
+        let first = boxed(&rt, alloc, watching(&rt, &one, example.1));
+        let second = boxed(&rt, alloc, watching(&rt, &other, example.1));
+        asks_first(&rt, alloc, (first, second), (&one, &other), *example);
     }
 }
 
@@ -207,9 +175,8 @@ fn object_comes_back_with_its_private_data(rt: HostRuntime) {
     let alloc = rt.alloc();
     let tally = new_log(&rt, alloc);
     let mut it = counting(&rt, watching(&rt, &tally, NEVER));
-    assert!(rt; is_answered(&rt, alloc, &mut it, Call::Put));
-    assert!(rt; has_seen_one(&tally, it.into_object()));
-    assert!(rt; logged(&tally) == PUT + CLOSED);
+    play(&rt, alloc, &mut it, Call::Put, ("private data", ANSWERED));
+    assert!(rt; has_seen_one(&tally, it.into_object()) && logged(&tally) == PUT + CLOSED);
 }
 
 const TOLD: Want = Sends(Rd, Ack(7, 4, None));
@@ -224,7 +191,13 @@ fn boxed_count_counts(rt: HostRuntime) {
     let alloc = rt.alloc();
     let object: Box<dyn Module> = Box::new(alloc, Count).expect(&rt, "no memory for a box");
     let mut it = counting(&rt, object);
-    play(&rt, alloc, &mut it, Call::Put, COUNTED_AND_TOLD);
+    play(
+        &rt,
+        alloc,
+        &mut it,
+        Call::Put,
+        ("boxed count", COUNTED_AND_TOLD),
+    );
 }
 
 /// A vocabulary of one kind, which turns each message round.
@@ -253,16 +226,24 @@ impl ModuleOf for Turner {
     type Kind = Turn;
 }
 
-/// A message is put to such a module, which answers this.
-fn puts_turned(rt: &impl Abort, it: &mut Instance<Turner>, alloc: Global, side: Side, want: Put) {
-    let answer = it.put(alloc, side, message(rt, alloc, X));
-    assert!(rt; answer == Ok(want));
+/// Whether such a module answers so to what is put.
+fn answers_put(
+    rt: &impl Abort,
+    alloc: Global,
+    it: &mut Instance<Turner>,
+    side: Side,
+    want: Put,
+) -> bool {
+    is_answer(it.put(alloc, side, message(rt, alloc, X)), Ok(want))
 }
 
-/// What is served is turned round.
-fn serves_turned(rt: &impl Abort, it: &mut Instance<Turner>, alloc: Global) {
-    let served = it.serve(alloc, Rd, message(rt, alloc, X));
-    assert!(rt; served == Ok(reply(message(rt, alloc, X))));
+/// Whether what is served is turned round.
+fn turns_served(rt: &impl Abort, alloc: Global, it: &mut Instance<Turner>) -> bool {
+    let Ok(served) = it.serve(alloc, Rd, message(rt, alloc, X)) else {
+        return false;
+    };
+    let turned = reply(message(rt, alloc, X));
+    is_answer(Ok(Put::Sent(served)), Ok(Put::Sent(turned)))
 }
 
 #[test]
@@ -272,9 +253,9 @@ fn kind_of_another_vocabulary_acts_by_its_meaning(rt: HostRuntime) {
     let mut it = Instance::new(shape, Turner);
     let before = it.shape().copy(alloc).expect(&rt, "no memory for a shape");
     let turned = Put::Sent(reply(message(&rt, alloc, X)));
-    puts_turned(&rt, &mut it, alloc, Wr, turned);
+    assert!(rt; answers_put(&rt, alloc, &mut it, Wr, turned));
     let queued = Put::Queue(message(&rt, alloc, X));
-    puts_turned(&rt, &mut it, alloc, Rd, queued);
-    serves_turned(&rt, &mut it, alloc);
+    assert!(rt; answers_put(&rt, alloc, &mut it, Rd, queued));
+    assert!(rt; turns_served(&rt, alloc, &mut it));
     assert!(rt; *it.shape() == before);
 }

@@ -1,6 +1,6 @@
 -- Streams of a run, as they end.
-use Rattle.std.proofs.Common.{◌≡◌, ℕ, zero, suc, ◌+◌, ◌<◌, ◌≤◌, not, Bool, true, false, Option, Some, None, Result, Ok, Err, List, [], ◌∷◌, ◌++◌, All, length, get_or, map, set, take, append-nil, IfOk, Vec, Global, refl, sym, ◌∙◌, ap, subst, arith, below_more}
-use Rattle.std.specs.Prelude.{nat_lt, Any, IfSome}
+use Rattle.std.proofs.Common.{◌≡◌, ℕ, zero, suc, ◌+◌, ◌<◌, ◌≤◌, not, Bool, true, false, Option, Some, None, Result, Ok, Err, List, [], ◌∷◌, ◌++◌, All, length, get_or, map, set, append-nil, IfOk, Vec, Global, refl, sym, ◌∙◌, ap, subst, arith, below_more}
+use Rattle.std.specs.Prelude.{nat_lt, IfSome}
 use Rattle.std.proofs.lemmas.Bool.{eqb-true, ltb-true, ltb-false}
 use Rattle.std.proofs.Math.Seq.{get_or-append_seam}
 use Rattle.std.proofs.lemmas.List.{take_all, length-append, length-map, length-set, length_push, get_or-set_other, get_or_append_left}
@@ -19,17 +19,17 @@ use Rattle.strm_history.specs.Entry.{asked_of}
 use Rattle.strm_history.specs.Receipt.{ReceiptValue}
 use Rattle.strm_shared.specs.Turns.{AreFirstOf}
 use Rattle.strm_shared.specs.Feed.{FeedValue, accepted_of}
-use Rattle.strm_shared.specs.Ending.{SharedValue, AreSeats, AreShown, CountsAgree, is_fed}
+use Rattle.strm_shared.specs.Ending.{SharedValue, AreSeats, CountsAgree, is_fed}
 use Rattle.strm_run.specs.declared.fault.RunFault.{RunFault}
 use Rattle.strm_crew.specs.declared.script.Script.{Script}
 use Rattle.strm_crew.specs.declared.transcript.StreamLog.{StreamLog}
 use Rattle.strm_crew.specs.Scripts.{calls_on, script_of, feed_of}
-use Rattle.strm_crew.specs.Account.{AreReceipts, HasReceipts, IsHeld}
+use Rattle.strm_crew.specs.Account.{HasReceipts}
 use Rattle.strm_crew.specs.Run.{RunValue}
 use Rattle.strm_crew.specs.Transcript.{AreLogs, IsFed, IsLog, IsPartOf}
 use Rattle.strm_crew.specs.Play.{ArePlayed, AreStreams, HasPlayed}
 use Rattle.strm_run.specs.Inside.Table.{IsTransposed}
-use Rattle.strm_run.specs.Inside.Ending.{AreLinesFed, AreParted, AreSeatsPlayed, AreTold, IsOffered, IsStream, Leaves}
+use Rattle.strm_run.specs.Inside.Ending.{AreLinesFed, AreParted, AreSeatsPlayed, IsOffered, IsStream, Leaves}
 use Rattle.strm_run.proofs.TableLemmas.{row_there}
 
 -- past the last caller there is no script
@@ -131,34 +131,6 @@ parted_more {K} run seats more receipts longer seat mine is its has was =
           (subst (λ (a : SeatValue). HasReceipts run a mine.items) (sym (get_or-append_seam seats seat [] s)) has))
           k (subst (λ n. k < n) long below)));
     }
-
--- a caller that has played its script has a receipt of each call
-told_by : {K : Type 0} (run : RunValue K) (number : ℕ) (seats : List SeatValue) (receipts : List (Vec (ReceiptValue K) Global)) (history : List (Entry K)) (caller : ℕ) → AreParted run seats receipts → All (HasPlayed run number) seats → AreShown seats → All (λ mine. All (λ r. IsHeld history r) mine.items) receipts → Any (λ s. s.caller ≡ caller) seats → (mine : List (ReceiptValue K)) × AreReceipts caller (calls_on number (script_of run.scripts caller)) mine × All (IsHeld history) mine
-told_by run number seats [] history caller parted played shown held sits =
-    let none = parted.many in let below = sits.2 in absurd (omega arith)
-told_by run number seats (first ∷ rest) history caller parted played shown held sits =
-    let seat = get_or seats sits.0 sits.1 in
-    let here : seat.caller ≡ caller = ap (λ (s : SeatValue). s.caller) sits.3 ∙ sits.4 in
-    let mine = get_or (first ∷ rest) sits.0 first in
-    let has = parted.each sits.0 sits.1 first sits.2 (shown sits.0 sits.1 sits.2) in
-    let done = played sits.0 sits.1 sits.2 in
-    let calls = done.calls in
-    let whole : take seat.calls (calls_on seat.number (script_of run.scripts seat.caller)) ≡ calls_on number (script_of run.scripts caller) =
-    ap (λ n. take seat.calls (calls_on n (script_of run.scripts seat.caller))) done.number ∙ take_all _ _ (omega arith) ∙ ap (λ n. calls_on number (script_of run.scripts n)) here in (
-      mine.items,
-      subst (λ n. AreReceipts n (calls_on number (script_of run.scripts caller)) mine.items) here (subst (λ l. AreReceipts seat.caller l mine.items) whole has),
-      held sits.0 first (subst (λ n. sits.0 < n) (sym parted.many) sits.2),
-    )
-
-pub told_left : {K : Type 0} (run : RunValue K) (shared : SharedValue) (seats : List SeatValue) (receipts : List (Vec (ReceiptValue K) Global)) (overrun : ℕ) (ended : Result (EndedValue K) EndFault) (result : Result (Option (StreamLog K)) RunFault) → IsStream run shared → AreParted run seats receipts → All (HasPlayed run shared.number) seats → Leaves ended receipts overrun result → IfOk ended (λ done. AreShown seats) → IfOk ended (λ done. AreSeats shared.number shared.seats seats) → IfOk result (λ found. IfSome found (λ log. AreTold run shared.number log.history.items))
-told_left run shared seats receipts overrun (Ok done) (Ok (Some log)) stream parted played leaves shown are = λ caller there.
-    rw leaves.0.same
-    (told_by run shared.number seats receipts done.history caller parted played shown leaves.1 (are.each caller (subst (λ n. caller < n) (sym stream.callers) there)))
-told_left run shared seats receipts overrun (Ok done) (Ok None) stream parted played leaves shown are = tt
-told_left run shared seats receipts overrun (Ok done) (Err fault) stream parted played leaves shown are = tt
-told_left run shared seats receipts overrun (Err fault) (Ok (Some log)) stream parted played leaves shown are = absurd leaves
-told_left run shared seats receipts overrun (Err fault) (Ok None) stream parted played leaves shown are = tt
-told_left run shared seats receipts overrun (Err fault) (Err other) stream parted played leaves shown are = tt
 
 -- the streams of a run that have ended, and the seats of the others
 pub record AreEnding {K : Type 0} (means : Meaning K) (run : RunValue K) (streams : List SharedValue) (at : ℕ) (seats : List (Vec SeatValue Global)) (logs : List (Option (StreamLog K))) : Type 0 where

@@ -3,7 +3,7 @@ ghost use Rattle.std.specs.Prelude.{◌≡◌, true, false, [], length, map, opt
 ghost use Rattle.strm_head.specs.Step.{is_line};
 ghost use Rattle.strm_crew.specs.Transcript.{AreLogs, IsLog};
 ghost use Rattle.strm_crew.specs.Play.{ArePlayed, HasPlayed};
-ghost use Rattle.strm_run.specs.Inside.Ending.{is_end_refused, overrun_of, AreLinesFed, AreParted, AreSeatsPlayed, AreTold, IsLate, IsOffered, IsStream, Leaves};
+ghost use Rattle.strm_run.specs.Inside.Ending.{is_end_refused, overrun_of, AreLinesFed, AreParted, AreSeatsPlayed, IsLate, IsOffered, IsStream, Leaves};
 ghost use Rattle.strm_crew.specs.Scripts.{feed_of};
 
 use crate::fault::RunFault;
@@ -91,7 +91,6 @@ where
     requires seats { All (HasPlayed N.run shared.number) accounts.items }
     requires unfed { is_line shared.setup.driver ≡ false → feed_of N.run.feeds shared.number ≡ [] }
     ensures log { IfOk result (λ found. IfSome found (λ log. IsLog M.Kind.means N.run shared.number shared.setup log)) }
-    ensures told { IfOk result (λ found. IfSome found (λ log. AreTold N.run shared.number log.history.items)) }
     ensures refusal { IfErr result (λ fault. is_end_refused fault ≡ true) }
 {
     let (feed, overrun) = fed(offered);

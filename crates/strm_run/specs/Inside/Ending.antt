@@ -18,8 +18,8 @@ use Rattle.strm_shared.specs.Ending.{SharedValue}
 use Rattle.strm_run.specs.declared.fault.RunFault.{RunFault}
 use Rattle.strm_run.specs.declared.fault.RunFault.TheVariants as RunFaults
 use Rattle.strm_crew.specs.declared.transcript.StreamLog.{StreamLog}
-use Rattle.strm_crew.specs.Scripts.{calls_on, feed_of, script_of}
-use Rattle.strm_crew.specs.Account.{AreReceipts, HasReceipts, IsHeld}
+use Rattle.strm_crew.specs.Scripts.{feed_of}
+use Rattle.strm_crew.specs.Account.{HasReceipts, IsHeld}
 use Rattle.strm_crew.specs.Run.{RunValue}
 use Rattle.strm_crew.specs.Play.{OfferedValue, HasOffered, HasPlayed}
 use Rattle.strm_crew.specs.Transcript.{names_at}
@@ -84,11 +84,6 @@ Leaves (Err EndFaults.NoReceipt) receipts overrun (Err refused) = ⊥
 pub record AreParted {K : Type 0} (run : RunValue K) (seats : List SeatValue) (receipts : List (Vec (ReceiptValue K) Global)) : Type 0 where
   pub many : length receipts ≡ length seats
   pub each : (k : ℕ) (s : SeatValue) (d : Vec (ReceiptValue K) Global) → k < length seats → HasReceipts run (get_or seats k s) (get_or receipts k d).items
-
--- each caller has receipts of all calls that its script has for a stream, in order, and the history holds each
-abbrev pub AreTold : {K : Type 0} → RunValue K → ℕ → List (Entry K) → Type 0
-AreTold {K} run number history =
-    (caller : ℕ) → caller < length run.scripts → (receipts : List (ReceiptValue K)) × AreReceipts caller (calls_on number (script_of run.scripts caller)) receipts × All (IsHeld history) receipts
 
 -- a fault of a run of which all is there: none of those that were looked at before
 abbrev pub IsLate : RunFault → Type 0

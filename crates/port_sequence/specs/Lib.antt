@@ -1,2 +1,3 @@
 pub mod Sequence
 pub mod SequenceLaws
+pub mod Words

@@ -1,7 +1,7 @@
 //! A protocol on running streams: data is numbered on its way down, and judged by its number on its way up.
 //!
 //! Its module is a discipline of a program's own. It has an ioctl and a queue whose service numbers the data, and what takes it out
-//! finds how many messages were lost. The program plays it on a line, call by call, and then on a loop for two callers, with a feed
+//! finds how many messages were lost. The program plays it on a line, call by call, and then a script of two callers on a loop with a feed
 //! beside them. Last a caller shows by its receipts that its calls are in a stream's history.
 #![tactic(auto)]
 
@@ -10,15 +10,16 @@ mod laws;
 mod playing;
 mod saying;
 mod showing;
+mod words;
 
-use playing::{play_calls, play_run};
+use playing::{play_calls, play_script};
 use showing::show_receipts;
 use std::process::ExitCode;
 
 fn main(rt: HostRuntime) -> ExitCode {
     let alloc = rt.alloc();
     if play_calls(&rt, alloc).is_some()
-        && play_run(&rt, alloc).is_some()
+        && play_script(&rt, alloc).is_some()
         && show_receipts(&rt, alloc).is_some()
     {
         ExitCode::from(0)

@@ -1,14 +1,15 @@
-//! The module on a line, and on a loop with two callers.
-use crate::kinds::{ByShape, Sequence};
-use crate::saying::{say_answer, say_entry};
+//! The module on a line, call by call, and in a script.
+use crate::kinds::ByShape;
+use crate::saying::say_answer;
 use std::alloc::Global;
+use std::io;
 use std::sync::Wait;
 use std::thread::Threads;
 use strm_head::{Driver, Outcome, Request, Stream};
-use strm_history::{Call, Setup};
 use strm_module::Boxed;
 use strm_msg::{Bytes, End, Message};
-use strm_run::{Feed, Gate, Script, ScriptCall, Transcript, are_from_line, are_setups, run};
+use strm_play::play;
+use strm_script::print;
 
 /// A module, in the box in which it is handed in.
 fn module(alloc: Global, serial: u64) -> Option<Boxed<ByShape>> {
@@ -52,87 +53,24 @@ pub fn play_calls<R: Print>(rt: &R, alloc: Global) -> Option<()> {
     take_out(rt, &mut stream)
 }
 
-/// Lets each call through.
-struct Open;
+/// Two callers on a loop, each with a module on its end, and a line that is fed, on which nobody calls.
+const SCRIPT: &str = "\
+stream s loop 16/4 16/4
+stream l line 16/4 16/4 4
+process writer
+push s:b sequence far - 8/2 7
+push s:a sequence near - 8/2 7
+write s:a =ab
+write s:a =c
+process reader
+read s:b 16
+str s:b 1 -
+feed l
+data 0 =%00x
+";
 
-impl Gate for Open {
-    fn before(&self, _: u32, _: u64) {}
-
-    fn after(&self, _: u32, _: u64) {}
-}
-
-/// A call of a script on the loop.
-fn at(end: End, request: Request<Boxed<ByShape>>) -> ScriptCall<Boxed<ByShape>> {
-    ScriptCall {
-        stream: 0,
-        call: Call { end, request },
-    }
-}
-
-/// A push of a module at an end.
-fn push_at(alloc: Global, end: End, serial: u64) -> Option<ScriptCall<Boxed<ByShape>>> {
-    let instance = module(alloc, serial)?;
-    Some(at(end, Request::Push { instance }))
-}
-
-/// A write at end A.
-fn write(alloc: Global, bytes: &[u8]) -> Option<ScriptCall<Boxed<ByShape>>> {
-    let dat = Bytes::from_slice(alloc, bytes).ok()?;
-    Some(at(End::A, Request::Write { dat }))
-}
-
-/// Puts a module in at each end, and writes twice.
-fn writer(alloc: Global) -> Option<Script<Boxed<ByShape>>> {
-    let far = push_at(alloc, End::B, 2)?;
-    let near = push_at(alloc, End::A, 1)?;
-    let calls = vec![in alloc; far, near, write(alloc, b"ab")?, write(alloc, b"c")?].ok()?;
-    Some(Script { calls })
-}
-
-/// Reads at the far end, and asks what was lost on the way.
-fn reader(alloc: Global) -> Option<Script<Boxed<ByShape>>> {
-    let read = at(End::B, Request::Read { max: 16 });
-    let asks = at(End::B, Request::Str { cmd: 1, dat: None });
-    let calls = vec![in alloc; read, asks].ok()?;
-    Some(Script { calls })
-}
-
-/// How a stream over a driver is made.
-fn setup(driver: Driver) -> Setup {
-    Setup {
-        driver,
-        head: (16, 4),
-        drv: (16, 4),
-        ring: 4,
-    }
-}
-
-/// What is left of a run: two callers on a loop, and a line that is fed, without a caller.
-fn played<R: Threads + Wait + Sync>(rt: &R, alloc: Global) -> Option<Transcript<Sequence>> {
-    let setups = vec![in alloc; setup(Driver::Loop), setup(Driver::Line)].ok()?;
-    let scripts = vec![in alloc; writer(alloc)?, reader(alloc)?].ok()?;
-    let messages = vec![in alloc; Message::of_data(alloc, 0, b"\x00x").ok()?].ok()?;
-    let feeds = vec![in alloc;
-        Feed {
-            stream: 1,
-            messages
-        },
-    ]
-    .ok()?;
-    if !are_setups(setups.as_slice()) || !are_from_line(feeds.as_slice()) {
-        return None;
-    }
-    run(rt, alloc, setups, scripts, feeds, 1, &Open).ok()
-}
-
-/// Plays two callers and a feed, and says what each stream's history has, and what became of its feed.
-pub fn play_run<R: Print + Threads + Wait + Sync>(rt: &R, alloc: Global) -> Option<()> {
-    let transcript = played(rt, alloc)?;
-    for log in &transcript.streams {
-        for kept in &log.history {
-            say_entry(rt, kept.entry())?;
-        }
-        println!(rt; "fed: {} accepted, {} arrived", log.accepted, log.arrived).ok()?;
-    }
-    Some(())
+/// Plays a script against the module, and prints its transcript.
+pub fn play_script<R: Print + Threads + Wait + Sync>(rt: &R, alloc: Global) -> Option<()> {
+    let outcome = play::<ByShape, R>(rt, alloc, SCRIPT.as_bytes(), 1).ok()?;
+    print(&outcome.transcript, &outcome.plan, &mut io::writer(rt)).ok()
 }

@@ -19,5 +19,9 @@ pub use Rattle.strm_history.specs.Entry
 pub use Rattle.strm_history.specs.History
 pub use Rattle.strm_shared.specs.Name
 pub use Rattle.strm_shared.specs.Runs
+pub use Rattle.strm_verb.specs.Fault
+pub use Rattle.strm_verb.specs.Field
+pub use Rattle.strm_verb.specs.Naming
+pub use Rattle.strm_script.specs.Fields
 pub use Rattle.strm_play.specs.Playing
 pub use Rattle.strm_play.specs.Played

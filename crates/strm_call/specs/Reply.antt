@@ -8,7 +8,7 @@ use Rattle.strm_call.specs.declared.answer.Acknowledged.TheVariants.{Ack, Nak, T
 use Rattle.strm_call.specs.declared.answer.Reply.{Reply}
 use Rattle.strm_call.specs.declared.answer.Reply.TheVariants.{Getmsg, Getpmsg, Read, Peek, Str}
 
--- the replies that have bytes of messages, a copy of which takes memory
+-- the replies that may have bytes of messages, a copy of which takes memory
 abbrev pub has_bytes : Reply → Bool
 has_bytes (Getmsg ctl dat flag more) = true
 has_bytes (Getpmsg ctl dat flag more) = true

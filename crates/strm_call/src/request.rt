@@ -56,7 +56,7 @@ pub enum GetFlag {
 /// A push carries `P`: the module when the call is made, and the module's shape in a history.
 ///
 /// Beside the refusals that it names, each call but a close is refused where its end is closed, the
-/// stream is broken, or an error came up; these three are looked at first. Want of memory is looked at
+/// stream is broken, or an error came up for a side that it looks at; these three are looked at first. Want of memory is looked at
 /// last: it refuses a call that has changed nothing yet, and else breaks the stream.
 #[derive(Debug, Drop)]
 pub enum Request<P> {
@@ -115,7 +115,7 @@ pub enum Request<P> {
         /// Which message is wanted.
         flag: GetFlag,
     },
-    /// Reads bytes (read(2)), as the read mode says. 0 bytes are read without a look at the stream,
+    /// Reads bytes (read(2)), as the read mode says. 0 bytes are read without a look at what waits,
     /// and at a hung up end without messages there are none to read.
     ///
     /// Refused with EBADMSG where the first message has control and the mode has `Norm`, and with

@@ -1,5 +1,5 @@
--- Queues by number, from 0 on: the heads, the drivers' lists, and for each module its write queue and its read queue, those of
--- end A before those of end B.
+-- Queues by number, from 0 on: the heads, the drivers' lists, and for each module its write queue and its read queue, each of
+-- end A before that of end B.
 use Rattle.std.specs.Prelude.{ℕ, ◌+◌, ◌-◌, ◌*◌, ◌/◌, ◌%◌, ◌==◌, nat_lt, if◌then◌else◌}
 use Rattle.strm_msg.specs.declared.words.End.{End}
 use Rattle.strm_msg.specs.declared.words.End.TheVariants.{A, B}

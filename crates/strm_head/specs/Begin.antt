@@ -199,6 +199,6 @@ wants_memory (Done reply) = false
 wants_memory (Refused refusal) = is_no_memory refusal
 wants_memory Broke = true
 
--- what may refuse a call is looked for in the order of the refusals' numbers
+-- what may refuse a call is looked for in the one order of all refusals (`looking_order`)
 abbrev pub AreRefusalsInOrder : Type 0 → Type 0
 AreRefusalsInOrder K = (image : Image K) (e : End) (request : Request (Shape K)) → are_in_order (refusals image e request) ≡ true

@@ -28,7 +28,7 @@ abbrev pub is_caller : ℕ → Who → Bool
 is_caller caller (Caller other) = other == caller
 is_caller caller Line = false
 
--- what an entry asked for, and at which end
+-- what happened, and at which end
 abbrev pub asked_of : {K : Type 0} → Entry K → End × Event (Shape K)
 asked_of entry = (entry.end, entry.event)
 

@@ -300,7 +300,7 @@ fn done<N: Runs<Kind>, R: Print + Wait>(
 }
 
 /// What a script hands over.
-fn handed(alloc: Global, bytes: &[u8]) -> anyhow::Result<Handed> {
+fn handed(alloc: Global, bytes: &[u8]) -> anyhow::Result<Handed<Plain>> {
     let plan = parse(alloc, bytes)?;
     Ok(hand_over(alloc, plan)?)
 }
@@ -373,7 +373,7 @@ fn tell(rt: &impl Print, alloc: Global, plan: &Plan, log: StreamLog<Kind>) -> an
 fn play_out<R: Print + Wait>(
     rt: &R,
     alloc: Global,
-    handed: Handed,
+    handed: Handed<Plain>,
     same: Vec<ScriptCall<Boxed<Plain>>>,
     offers: &str,
 ) -> anyhow::Result<()> {

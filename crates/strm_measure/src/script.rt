@@ -6,7 +6,7 @@ use std::sync::Wait;
 use std::thread::Threads;
 use std::time::Instant;
 use strm_crew::Transcript;
-use strm_module::Kind;
+use strm_module::{Kind, Plain};
 use strm_plan::{LoadFault, load, parse};
 use strm_play::{Outcome, play};
 use strm_script::print;
@@ -19,7 +19,7 @@ pub fn script<R: Files>(rt: &R, alloc: Global, path: &str) -> Result<Vec<u8>, Lo
 /// How many milliseconds it takes to read a script.
 fn time_to_read(rt: &impl Clock, alloc: Global, bytes: &[u8]) -> anyhow::Result<u128> {
     let start = Instant::now(rt)?;
-    let plan = parse(alloc, bytes)?;
+    let plan = parse::<Kind>(alloc, bytes)?;
     let read = start.elapsed(rt);
     drop(plan);
     Ok(read?.as_millis())
@@ -41,7 +41,7 @@ fn time_to_play<R: Clock + Threads + Wait + Sync>(
     workers: u32,
 ) -> anyhow::Result<(u128, u128)> {
     let start = Instant::now(rt)?;
-    let outcome = play(rt, alloc, bytes, workers)?;
+    let outcome = play::<Plain, R>(rt, alloc, bytes, workers)?;
     let played = start.elapsed(rt);
     let printed = time_to_print(rt, alloc, &outcome);
     drop(outcome);
@@ -83,6 +83,6 @@ pub fn moves<R: Files + Print + Threads + Wait + AllocGlobal + Sync>(
 ) -> anyhow::Result<()> {
     let alloc: Global = rt.alloc();
     let bytes = script(rt, alloc, path)?;
-    let outcome = play(rt, alloc, bytes.as_slice(), 1)?;
+    let outcome = play::<Plain, R>(rt, alloc, bytes.as_slice(), 1)?;
     tell_moves(rt, &outcome.transcript)
 }

@@ -14,7 +14,7 @@ abbrev pub is_up : Side → Bool
 is_up Rd = true
 is_up Wr = false
 
--- all that leaves goes up, to the head
+-- all that leaves goes up
 abbrev pub all_go_up : OutList → Bool
 all_go_up outs = list_all (λ out. is_up out.0) outs
 

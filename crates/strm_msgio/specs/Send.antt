@@ -38,7 +38,7 @@ putpmsg_message ctl dat band PutFlag.Zero = None
 putpmsg_message ctl dat band PutFlag.Band = ordinary_message band ctl dat
 putpmsg_message ctl dat band PutFlag.Hipri = high_message ctl dat
 
--- the greatest sizes of a part that a call sends, in bytes
+-- a part is longer than one that a call sends may be, in bytes
 abbrev pub is_too_long : Part → Part → Bool
 is_too_long ctl dat = nat_lt MAX_CONTROL (part_len ctl) || nat_lt MAX_DATA (part_len dat)
 

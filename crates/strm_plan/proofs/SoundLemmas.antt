@@ -13,6 +13,7 @@ use Rattle.strm_history.specs.Setup.{is_fit, is_ring}
 use Rattle.strm_history.specs.declared.setup.Setup.{Setup}
 use Rattle.strm_text.specs.Bytes.{is_allowed}
 use Rattle.strm_text.specs.Text.{fields_of}
+use Rattle.strm_verb.specs.Naming.{KindWords}
 use Rattle.strm_verb.specs.Fault.{◌>>=◌, or_fault}
 use Rattle.strm_verb.specs.Arrival.{message_named, message_at}
 use Rattle.strm_verb.specs.Table.{verb_named, is_push}
@@ -30,26 +31,26 @@ use Rattle.strm_plan.proofs.FieldLemmas.{setup_fits, message_from_line}
 use Rattle.strm_plan.proofs.ThereLemmas.{IsPlaceThere, call_there, stream_found, line_there, processes_more, lines_more, place_more, unfed, both_of, once_more}
 
 -- a process that goes on is one more than those that ended
-abbrev going : Place → ℕ
+abbrev going : {K : Type 0} → Place K → ℕ
 going Nowhere = 0
 going (In_process process) = 1
 going (In_feed feed) = 0
 
 -- the messages of the feed that goes on come from a line
-abbrev AreGoing : Place → Type 0
+abbrev AreGoing : {K : Type 0} → Place K → Type 0
 AreGoing Nowhere = Unit {0}
 AreGoing (In_process process) = Unit {0}
 AreGoing (In_feed feed) = All (λ m. is_from_line m.kind ≡ true) feed.messages
 
 -- all is there that a plan names so far, and no line has two feeds
-pub record AreThere (d : Partial) : Type 0 where
+pub record AreThere {K : Type 0} (d : Partial K) : Type 0 where
   pub calls : AreProcessesThere d.streams d.processes
   pub lines : AreLinesThere d.streams d.feeds
   pub once : AreOnce d.feeds
   pub going_on : IsPlaceThere d.streams d.feeds d.place
 
 -- a plan of which a run can be made when it ends here
-pub record IsKept (d : Partial) : Type 0 where
+pub record IsKept {K : Type 0} (d : Partial K) : Type 0 where
   pub setups : AreSetups d.streams
   pub few_streams : length d.streams ≤ MOST_STREAMS
   pub few_processes : length d.processes + going d.place ≤ MOST_PROCESSES
@@ -58,28 +59,28 @@ pub record IsKept (d : Partial) : Type 0 where
   pub there : AreThere d
 
 -- what a line keeps, which declares one module at most
-pub record Keeps (d e : Partial) : Type 0 where
+pub record Keeps {K : Type 0} (d e : Partial K) : Type 0 where
   pub kept : IsKept e
   pub modules : e.modules ≤ d.modules + 1
 
 -- ---- what goes on ends
 
-ended_at_kept : (d : Partial) (place : Place) → IsKept (record d { place = place }) → IsKept (ended_at d place)
-ended_at_kept d Nowhere k = k
-ended_at_kept d (In_process process) k = record {
+ended_at_kept : {K : Type 0} (d : Partial K) (place : Place K) → IsKept (record d { place = place }) → IsKept (ended_at d place)
+ended_at_kept {K} d Nowhere k = k
+ended_at_kept {K} d (In_process process) k = record {
   setups = k.setups;
   few_streams = k.few_streams;
   few_processes = omega (arith, k.few_processes, length-append d.processes (process ∷ []));
   messages = k.messages;
   going_on = tt;
   there = record {
-    calls = All-push (λ (p : Process). AreCallsThere d.streams p.calls) d.processes process k.there.calls k.there.going_on;
+    calls = All-push (λ (p : Process K). AreCallsThere d.streams p.calls) d.processes process k.there.calls k.there.going_on;
     lines = k.there.lines;
     once = k.there.once;
     going_on = tt;
   };
 }
-ended_at_kept d (In_feed feed) k = record {
+ended_at_kept {K} d (In_feed feed) k = record {
   setups = k.setups;
   few_streams = k.few_streams;
   few_processes = k.few_processes;
@@ -93,22 +94,22 @@ ended_at_kept d (In_feed feed) k = record {
   };
 }
 
-ended_kept : (d : Partial) → IsKept d → IsKept (ended d)
+ended_kept : {K : Type 0} (d : Partial K) → IsKept d → IsKept (ended d)
 ended_kept d k = ended_at_kept d d.place k
 
 -- ending changes neither streams nor the number of modules, and leaves nothing that goes on
-ended_modules : (d : Partial) (place : Place) → (ended_at d place).modules ≡ d.modules
+ended_modules : {K : Type 0} (d : Partial K) (place : Place K) → (ended_at d place).modules ≡ d.modules
 ended_modules d Nowhere = refl
 ended_modules d (In_process process) = refl
 ended_modules d (In_feed feed) = refl
 
-ended_place : (d : Partial) (place : Place) → (ended_at d place).place ≡ Nowhere
+ended_place : {K : Type 0} (d : Partial K) (place : Place K) → (ended_at d place).place ≡ Nowhere
 ended_place d Nowhere = refl
 ended_place d (In_process process) = refl
 ended_place d (In_feed feed) = refl
 
 -- so a plan that is kept is sound when it ends
-pub kept_sound : (d : Partial) → IsKept d → IsSound (plan_of d)
+pub kept_sound : {K : Type 0} (d : Partial K) → IsKept d → IsSound (plan_of d)
 kept_sound d k =
     let e = ended_kept d k in
     record {
@@ -121,16 +122,16 @@ kept_sound d k =
       once = e.there.once;
     }
 
-pub nothing_kept : IsKept nothing_yet
-nothing_kept = record {
+pub nothing_kept : {K : Type 0} → IsKept {K = K} nothing_yet
+nothing_kept {K} = record {
   setups = All-nil (λ (stream : List ℕ × Setup). (is_fit stream.1 ≡ true) × (is_ring stream.1 ≡ true));
   few_streams = omega arith;
   few_processes = omega arith;
   messages = All-nil (λ (f : Fed). All (λ m. is_from_line m.kind ≡ true) f.messages);
   going_on = tt;
   there = record {
-    calls = All-nil (λ (p : Process). AreCallsThere [] p.calls);
-    lines = All-nil (λ (f : Fed). line_is_there (slice_get nothing_yet.streams f.stream) ≡ true);
+    calls = All-nil (λ (p : Process K). AreCallsThere [] p.calls);
+    lines = All-nil (λ (f : Fed). line_is_there (slice_get [] f.stream) ≡ true);
     once = λ i j d before within. absurd (omega (arith, within));
     going_on = tt;
   };
@@ -141,7 +142,7 @@ nothing_kept = record {
 abbrev named : List ℕ → Setup → List ℕ × Setup
 named name setup = (name, setup)
 
-with_stream_keeps : (d e : Partial) (name : List ℕ) (setup : Setup) → (is_fit setup ≡ true) × (is_ring setup ≡ true) → with_stream d (named name setup) ≡ Ok e → IsKept d → Keeps d e
+with_stream_keeps : {K : Type 0} (d e : Partial K) (name : List ℕ) (setup : Setup) → (is_fit setup ≡ true) × (is_ring setup ≡ true) → with_stream d (named name setup) ≡ Ok e → IsKept d → Keeps d e
 with_stream_keeps d e name setup fits is k =
     passed (has_room d.streams) (Ok (record d { streams = d.streams ++ named name setup ∷ [] })) e causes.TooMany is (λ room is.
     same (Keeps d) (record d { streams = d.streams ++ named name setup ∷ [] }) e is (record {
@@ -161,14 +162,14 @@ with_stream_keeps d e name setup fits is k =
       modules = omega arith;
     }))
 
-setup_keeps : (d e : Partial) (driver : Driver) (name : List ℕ) (texts : List (List ℕ)) → setup_onto d driver name texts ≡ Ok e → IsKept d → Keeps d e
+setup_keeps : {K : Type 0} (d e : Partial K) (driver : Driver) (name : List ℕ) (texts : List (List ℕ)) → setup_onto d driver name texts ≡ Ok e → IsKept d → Keeps d e
 setup_keeps d e driver name texts is k =
     through (declared_at d.streams driver name texts) (λ stream. with_stream d stream) e is (λ stream declared next.
     through (fresh_name (stream_names d.streams) name) (λ chosen. setup_at driver texts >>= λ setup. Ok (named chosen setup)) stream declared (λ chosen _ declared.
     through (setup_at driver texts) (λ setup. Ok (named chosen setup)) stream declared (λ setup read is.
     same (λ (s : List ℕ × Setup). with_stream d s ≡ Ok e → Keeps d e) (named chosen setup) stream is (λ next. with_stream_keeps d e chosen setup (setup_fits driver texts setup read) next k) next)))
 
-stream_keeps : (d e : Partial) (texts : List (List ℕ)) → stream_onto d texts ≡ Ok e → IsKept d → Keeps d e
+stream_keeps : {K : Type 0} (d e : Partial K) (texts : List (List ℕ)) → stream_onto d texts ≡ Ok e → IsKept d → Keeps d e
 unfolding stream_onto
 stream_keeps d e [] is k = absurd cc
 stream_keeps d e (name ∷ []) is k = absurd cc
@@ -178,11 +179,11 @@ stream_keeps d e (name ∷ driver ∷ texts) is k =
 
 -- ---- a process
 
-abbrev new_process : List ℕ → Process
+abbrev new_process : {K : Type 0} → List ℕ → Process K
 new_process name = record { name = name; calls = [] }
 
-with_process_keeps : (d e : Partial) (name : List ℕ) → with_process d name ≡ Ok e → IsKept d → Keeps d e
-with_process_keeps d e name is k =
+with_process_keeps : {K : Type 0} (d e : Partial K) (name : List ℕ) → with_process d name ≡ Ok e → IsKept d → Keeps d e
+with_process_keeps {K} d e name is k =
     passed (nat_lt (length d.processes) MOST_PROCESSES) (Ok (record d { place = In_process (new_process name) })) e causes.TooMany is (λ room is.
     same (Keeps d) (record d { place = In_process (new_process name) }) e is (record {
       kept = record {
@@ -195,13 +196,13 @@ with_process_keeps d e name is k =
           calls = k.there.calls;
           lines = k.there.lines;
           once = k.there.once;
-          going_on = All-nil (λ (call : Call). end_is_there (slice_get d.streams call.stream) call.end ≡ true);
+          going_on = All-nil (λ (call : Call K). end_is_there (slice_get d.streams call.stream) call.end ≡ true);
         };
       };
       modules = omega arith;
     }))
 
-process_keeps : (d e : Partial) (texts : List (List ℕ)) → process_onto d texts ≡ Ok e → IsKept d → Keeps d e
+process_keeps : {K : Type 0} (d e : Partial K) (texts : List (List ℕ)) → process_onto d texts ≡ Ok e → IsKept d → Keeps d e
 unfolding process_onto
 process_keeps d e [] is k = absurd cc
 process_keeps d e (name ∷ []) is k = through (process_name d.processes name) (λ chosen. with_process d chosen) e is (λ chosen _ is. with_process_keeps d e chosen is k)
@@ -215,7 +216,7 @@ new_feed number = record { stream = number; messages = [] }
 from_line : Msg → Type 0
 from_line m = is_from_line m.kind ≡ true
 
-with_feed_keeps : (d e : Partial) (text : List ℕ) (found : ℕ × Driver) → stream_at d.streams text ≡ Some found → with_feed d found ≡ Ok e → IsKept d → Keeps d e
+with_feed_keeps : {K : Type 0} (d e : Partial K) (text : List ℕ) (found : ℕ × Driver) → stream_at d.streams text ≡ Some found → with_feed d found ≡ Ok e → IsKept d → Keeps d e
 with_feed_keeps d e text found named is k =
     passed (is_line found.1 && not (has_feed d.feeds found.0)) (Ok (record d { place = In_feed (new_feed found.0) })) e causes.OutOfPlace is (λ free is.
     let line = both_of (is_line found.1) (has_feed d.feeds found.0) free in
@@ -236,7 +237,7 @@ with_feed_keeps d e text found named is k =
       modules = omega arith;
     }))
 
-feed_keeps : (d e : Partial) (texts : List (List ℕ)) → feed_onto d texts ≡ Ok e → IsKept d → Keeps d e
+feed_keeps : {K : Type 0} (d e : Partial K) (texts : List (List ℕ)) → feed_onto d texts ≡ Ok e → IsKept d → Keeps d e
 unfolding feed_onto
 feed_keeps d e [] is k = absurd cc
 feed_keeps d e (name ∷ []) is k = through (or_fault causes.NoSuch (stream_at d.streams name)) (λ found. with_feed d found) e is (λ found named is. with_feed_keeps d e name found (found_in (stream_at d.streams name) causes.NoSuch found named) is k)
@@ -248,13 +249,13 @@ one_module : (verb : Verb) (modules : ℕ) (b : Bool) → cond b (modules + 1) m
 one_module verb modules true = omega arith
 one_module verb modules false = omega arith
 
-abbrev called : Process → Call → Process
+abbrev called : {K : Type 0} → Process K → Call K → Process K
 called process call = record { name = process.name; calls = process.calls ++ call ∷ [] }
 
-call_keeps : (d e : Partial) (process : Process) (verb : Verb) (texts : List (List ℕ)) → call_onto d process verb texts ≡ Ok e → IsKept (record d { place = In_process process }) → Keeps d e
+call_keeps : {K : Type 0} (words : KindWords K) (d e : Partial K) (process : Process K) (verb : Verb) (texts : List (List ℕ)) → call_onto words d process verb texts ≡ Ok e → IsKept (record d { place = In_process process }) → Keeps d e
 unfolding call_onto
-call_keeps d e process verb texts is k =
-    through (call_at d.streams (d.modules + 1) verb texts) (λ call. with_call d process verb call) e is (λ call read is.
+call_keeps {K} words d e process verb texts is k =
+    through (call_at words d.streams (d.modules + 1) verb texts) (λ call. with_call d process verb call) e is (λ call read is.
     passed (nat_lt (length process.calls) MOST_CALLS) (Ok (record d { modules = modules_after verb d.modules; place = In_process (called process call) })) e causes.TooMany is (λ _ is.
     same (Keeps d) (record d { modules = modules_after verb d.modules; place = In_process (called process call) }) e is (record {
       kept = record {
@@ -267,7 +268,7 @@ call_keeps d e process verb texts is k =
           calls = k.there.calls;
           lines = k.there.lines;
           once = k.there.once;
-          going_on = All-push (λ (c : Call). end_is_there (slice_get d.streams c.stream) c.end ≡ true) process.calls call k.there.going_on (call_there d.streams (d.modules + 1) verb texts call read);
+          going_on = All-push (λ (c : Call K). end_is_there (slice_get d.streams c.stream) c.end ≡ true) process.calls call k.there.going_on (call_there words d.streams (d.modules + 1) verb texts call read);
         };
       };
       modules = one_module verb d.modules (is_push verb);
@@ -278,7 +279,7 @@ call_keeps d e process verb texts is k =
 abbrev fed : Fed → Msg → Fed
 fed feed m = record { stream = feed.stream; messages = feed.messages ++ m ∷ [] }
 
-message_keeps : (d e : Partial) (feed : Fed) (word : MessageWord) (texts : List (List ℕ)) → message_onto d feed word texts ≡ Ok e → IsKept (record d { place = In_feed feed }) → Keeps d e
+message_keeps : {K : Type 0} (d e : Partial K) (feed : Fed) (word : MessageWord) (texts : List (List ℕ)) → message_onto d feed word texts ≡ Ok e → IsKept (record d { place = In_feed feed }) → Keeps d e
 unfolding message_onto
 message_keeps d e feed word texts is k =
     through (message_at word texts) (λ m. with_message d feed m) e is (λ m read is.
@@ -297,39 +298,39 @@ message_keeps d e feed word texts is k =
 
 -- ---- a line
 
-inner_keeps : (d e : Partial) (place : Place) (word : List ℕ) (texts : List (List ℕ)) → inner_onto d place word texts ≡ Ok e → IsKept (record d { place = place }) → Keeps d e
-inner_keeps d e Nowhere word texts is k = absurd cc
-inner_keeps d e (In_process process) word texts is k = through (or_fault (outside word) (verb_named word)) (λ verb. call_onto d process verb texts) e is (λ verb _ is. call_keeps d e process verb texts is k)
-inner_keeps d e (In_feed feed) word texts is k = through (or_fault (outside word) (message_named word)) (λ m. message_onto d feed m texts) e is (λ m _ is. message_keeps d e feed m texts is k)
+inner_keeps : {K : Type 0} (words : KindWords K) (d e : Partial K) (place : Place K) (word : List ℕ) (texts : List (List ℕ)) → inner_onto words d place word texts ≡ Ok e → IsKept (record d { place = place }) → Keeps d e
+inner_keeps words d e Nowhere word texts is k = absurd cc
+inner_keeps words d e (In_process process) word texts is k = through (or_fault (outside word) (verb_named word)) (λ verb. call_onto words d process verb texts) e is (λ verb _ is. call_keeps words d e process verb texts is k)
+inner_keeps words d e (In_feed feed) word texts is k = through (or_fault (outside word) (message_named word)) (λ m. message_onto d feed m texts) e is (λ m _ is. message_keeps d e feed m texts is k)
 
 -- what a line keeps of what has ended, it keeps
-since_ended : (d e : Partial) → Keeps (ended d) e → Keeps d e
+since_ended : {K : Type 0} (d e : Partial K) → Keeps (ended d) e → Keeps d e
 since_ended d e keeps = record { kept = keeps.kept; modules = omega (arith, keeps.modules, ended_modules d d.place) }
 
-word_keeps : (d e : Partial) (word : List ℕ) (texts : List (List ℕ)) → word_onto d word texts ≡ Ok e → IsKept d → Keeps d e
+word_keeps : {K : Type 0} (words : KindWords K) (d e : Partial K) (word : List ℕ) (texts : List (List ℕ)) → word_onto words d word texts ≡ Ok e → IsKept d → Keeps d e
 unfolding word_onto
-word_keeps d e word texts is k =
+word_keeps words d e word texts is k =
     let after = ended_kept d k in
     either (bytes_eq word (codes "stream")) (stream_onto (ended d) texts) _ e is (λ is. since_ended d e (stream_keeps (ended d) e texts is after)) (λ is.
     either (bytes_eq word (codes "process")) (process_onto (ended d) texts) _ e is (λ is. since_ended d e (process_keeps (ended d) e texts is after)) (λ is.
     either (bytes_eq word (codes "feed")) (feed_onto (ended d) texts) _ e is (λ is. since_ended d e (feed_keeps (ended d) e texts is after)) (λ is.
-    inner_keeps d e d.place word texts is k)))
+    inner_keeps words d e d.place word texts is k)))
 
-unchanged : (d e : Partial) → ◌≡◌ {A = Result Partial Cause} (Ok d) (Ok e) → IsKept d → Keeps d e
+unchanged : {K : Type 0} (d e : Partial K) → ◌≡◌ {A = Result (Partial K) Cause} (Ok d) (Ok e) → IsKept d → Keeps d e
 unchanged d e is k = same (Keeps d) d e is (record { kept = k; modules = omega arith })
 
-fields_keep : (d e : Partial) (texts : List (List ℕ)) → fields_onto d texts ≡ Ok e → IsKept d → Keeps d e
-fields_keep d e [] is k = unchanged d e is k
-fields_keep d e (word ∷ texts) is k = word_keeps d e word texts is k
+fields_keep : {K : Type 0} (words : KindWords K) (d e : Partial K) (texts : List (List ℕ)) → fields_onto words d texts ≡ Ok e → IsKept d → Keeps d e
+fields_keep words d e [] is k = unchanged d e is k
+fields_keep words d e (word ∷ texts) is k = word_keeps words d e word texts is k
 
 -- a line that is short enough and no comment
-abbrev judged : Partial → List ℕ → Result Partial Cause
-judged d line = cond (list_all is_allowed line) (fields_onto d (fields_of line)) (Err causes.Byte)
+abbrev judged : {K : Type 0} → KindWords K → Partial K → List ℕ → Result (Partial K) Cause
+judged words d line = cond (list_all is_allowed line) (fields_onto words d (fields_of line)) (Err causes.Byte)
 
 -- a line keeps a plan of which a run can be made
-pub line_keeps : (d e : Partial) (line : List ℕ) → line_onto d line ≡ Ok e → IsKept d → Keeps d e
+pub line_keeps : {K : Type 0} (words : KindWords K) (d e : Partial K) (line : List ℕ) → line_onto words d line ≡ Ok e → IsKept d → Keeps d e
 unfolding line_onto
-line_keeps d e line is k =
-    either (nat_lt LONGEST_LINE (length line)) (Err causes.TooLong) (cond (slice_index line 0 == 35) (Ok d) (judged d line)) e is (λ is. absurd cc) (λ is.
-    either (slice_index line 0 == 35) (Ok d) (judged d line) e is (λ is. unchanged d e is k) (λ is.
-    passed (list_all is_allowed line) (fields_onto d (fields_of line)) e causes.Byte is (λ _ is. fields_keep d e (fields_of line) is k)))
+line_keeps words d e line is k =
+    either (nat_lt LONGEST_LINE (length line)) (Err causes.TooLong) (cond (slice_index line 0 == 35) (Ok d) (judged words d line)) e is (λ is. absurd cc) (λ is.
+    either (slice_index line 0 == 35) (Ok d) (judged words d line) e is (λ is. unchanged d e is k) (λ is.
+    passed (list_all is_allowed line) (fields_onto words d (fields_of line)) e causes.Byte is (λ _ is. fields_keep words d e (fields_of line) is k)))

@@ -70,7 +70,7 @@ inserted name_of (x ∷ entries) k setup is =
     ∙ ap (λ (rest : Streams). named (name_of x.0) x.1 ∷ rest) (inserted name_of entries k setup both.1)
 
 -- a process of some name
-pub any_name : (wanted : List ℕ) (processes : List ProcessDecl) → list_any (λ (process : ProcessDecl). bytes_eq wanted process.name.items) processes ≡ list_any (bytes_eq wanted) (map (λ process. process.name) (map process_view processes))
+pub any_name : {K : Type 0} (wanted : List ℕ) (processes : List (ProcessDecl K)) → list_any (λ (process : ProcessDecl K). bytes_eq wanted process.name.items) processes ≡ list_any (bytes_eq wanted) (map (λ process. process.name) (map process_view processes))
 any_name wanted [] = refl
 any_name wanted (process ∷ processes) = ap (λ (b : Bool). bytes_eq wanted process.name.items || b) (any_name wanted processes)
 

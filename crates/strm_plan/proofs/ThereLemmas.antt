@@ -13,6 +13,7 @@ use Rattle.strm_ends.specs.Image.{has_end}
 use Rattle.strm_head.specs.Step.{is_line}
 use Rattle.strm_history.specs.declared.setup.Setup.{Setup}
 use Rattle.strm_text.specs.Text.{halves_of, name_of}
+use Rattle.strm_verb.specs.Naming.{KindWords}
 use Rattle.strm_verb.specs.Fault.{or_fault}
 use Rattle.strm_verb.specs.Table.{arity_at, request_at}
 use Rattle.strm_verb.specs.declared.fault.Cause.TheVariants as causes
@@ -67,23 +68,23 @@ target_there streams text place is =
     on (end_of found.1 halves.1) _ place is (λ end named is.
     same_found (IsThere streams) (found.0, end) place is (end_there streams found end (stream_found streams halves.0 found there) (end_found found.1 halves.1 end named)))))
 
-abbrev IsCallThere : Streams → Call → Type 0
+abbrev IsCallThere : {K : Type 0} → Streams → Call K → Type 0
 IsCallThere streams call = end_is_there (slice_get streams call.stream) call.end ≡ true
 
-placed_there : (streams : Streams) (serial : ℕ) (verb : Verb) (target : List ℕ) (texts : List (List ℕ)) (call : Call) → placed_call streams serial verb target texts ≡ Ok call → IsCallThere streams call
-placed_there streams serial verb target texts call is =
+placed_there : {K : Type 0} (words : KindWords K) (streams : Streams) (serial : ℕ) (verb : Verb) (target : List ℕ) (texts : List (List ℕ)) (call : Call K) → placed_call words streams serial verb target texts ≡ Ok call → IsCallThere streams call
+placed_there words streams serial verb target texts call is =
     through (or_fault causes.NoSuch (target_of streams target)) _ call is (λ place found is.
-    through (request_at serial verb texts) _ call is (λ asked _ is.
+    through (request_at words serial verb texts) _ call is (λ asked _ is.
     same (IsCallThere streams) (record { stream = place.0; end = place.1; asked = asked }) call is (target_there streams target place (found_in (target_of streams target) causes.NoSuch place found))))
 
 -- the stream and the end of a call that was read are there
-pub call_there : (streams : Streams) (serial : ℕ) (verb : Verb) (texts : List (List ℕ)) (call : Call) → call_at streams serial verb texts ≡ Ok call → IsCallThere streams call
+pub call_there : {K : Type 0} (words : KindWords K) (streams : Streams) (serial : ℕ) (verb : Verb) (texts : List (List ℕ)) (call : Call K) → call_at words streams serial verb texts ≡ Ok call → IsCallThere streams call
 unfolding call_at
-call_there streams serial verb [] call is = absurd cc
-call_there streams serial verb (target ∷ texts) call is =
-    through (arity_at verb texts) _ call is (λ arity _ is.
-    passed (length texts == arity) (placed_call streams serial verb target texts) call causes.Fields is (λ _ is.
-    placed_there streams serial verb target texts call is))
+call_there words streams serial verb [] call is = absurd cc
+call_there words streams serial verb (target ∷ texts) call is =
+    through (arity_at words verb texts) _ call is (λ arity _ is.
+    passed (length texts == arity) (placed_call words streams serial verb target texts) call causes.Fields is (λ _ is.
+    placed_there words streams serial verb target texts call is))
 
 -- ---- one stream more
 
@@ -97,10 +98,10 @@ line_more [] stream number is = absurd cc
 line_more (first ∷ streams) stream zero is = is
 line_more (first ∷ streams) stream (suc number) is = line_more streams stream number is
 
-pub calls_more : (streams : Streams) (stream : List ℕ × Setup) (calls : List Call) → AreCallsThere streams calls → AreCallsThere (streams ++ stream ∷ []) calls
+pub calls_more : {K : Type 0} (streams : Streams) (stream : List ℕ × Setup) (calls : List (Call K)) → AreCallsThere streams calls → AreCallsThere (streams ++ stream ∷ []) calls
 calls_more streams stream calls all = λ k d within. end_more streams stream (get_or calls k d).stream (get_or calls k d).end (all k d within)
 
-pub processes_more : (streams : Streams) (stream : List ℕ × Setup) (processes : List Process) → AreProcessesThere streams processes → AreProcessesThere (streams ++ stream ∷ []) processes
+pub processes_more : {K : Type 0} (streams : Streams) (stream : List ℕ × Setup) (processes : List (Process K)) → AreProcessesThere streams processes → AreProcessesThere (streams ++ stream ∷ []) processes
 processes_more streams stream processes all = λ k d within. calls_more streams stream (get_or processes k d).calls (all k d within)
 
 pub lines_more : (streams : Streams) (stream : List ℕ × Setup) (feeds : List Fed) → AreLinesThere streams feeds → AreLinesThere (streams ++ stream ∷ []) feeds
@@ -113,12 +114,12 @@ abbrev pub IsUnfed : List Fed → ℕ → Type 0
 IsUnfed feeds number = All (λ other. other.stream ≡ number → ⊥) feeds
 
 -- what goes on names what is there, and a feed that goes on is the first of its line
-abbrev pub IsPlaceThere : Streams → List Fed → Place → Type 0
+abbrev pub IsPlaceThere : {K : Type 0} → Streams → List Fed → Place K → Type 0
 IsPlaceThere streams feeds Nowhere = Unit {0}
 IsPlaceThere streams feeds (In_process process) = AreCallsThere streams process.calls
 IsPlaceThere streams feeds (In_feed feed) = (line_is_there (slice_get streams feed.stream) ≡ true) × IsUnfed feeds feed.stream
 
-pub place_more : (streams : Streams) (stream : List ℕ × Setup) (feeds : List Fed) (place : Place) → IsPlaceThere streams feeds place → IsPlaceThere (streams ++ stream ∷ []) feeds place
+pub place_more : {K : Type 0} (streams : Streams) (stream : List ℕ × Setup) (feeds : List Fed) (place : Place K) → IsPlaceThere streams feeds place → IsPlaceThere (streams ++ stream ∷ []) feeds place
 place_more streams stream feeds Nowhere there = tt
 place_more streams stream feeds (In_process process) there = calls_more streams stream process.calls there
 place_more streams stream feeds (In_feed feed) there = (line_more streams stream feed.stream there.0, there.1)

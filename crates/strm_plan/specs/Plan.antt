@@ -13,15 +13,15 @@ use Rattle.strm_plan.specs.declared.draft.Current.{Current}
 use Rattle.strm_plan.specs.declared.draft.Draft.{Draft}
 
 -- a call: the number of its stream, the end, and what it asks for
-pub record Call : Type 0 where
+pub record Call (K : Type 0) : Type 0 where
   pub stream : ℕ
   pub end : End
-  pub asked : Asked
+  pub asked : Asked K
 
 -- a process: its name, and its calls in order
-pub record Process : Type 0 where
+pub record Process (K : Type 0) : Type 0 where
   pub name : List ℕ
-  pub calls : List Call
+  pub calls : List (Call K)
 
 -- the messages that a line is offered
 pub record Fed : Type 0 where
@@ -33,33 +33,33 @@ abbrev pub Streams : Type 0
 Streams = List (List ℕ × Setup)
 
 -- what a script says
-pub record Whole : Type 0 where
+pub record Whole (K : Type 0) : Type 0 where
   pub streams : Streams
-  pub processes : List Process
+  pub processes : List (Process K)
   pub feeds : List Fed
 
 -- to what the lines that come next belong
-pub data Place : Type 0 where
-  Nowhere : Place
-  In_process : (process : Process) → Place
-  In_feed : (feed : Fed) → Place
+pub data Place (K : Type 0) : Type 0 where
+  Nowhere : Place K
+  In_process : (process : Process K) → Place K
+  In_feed : (feed : Fed) → Place K
 
 -- a plan while it is read: what has ended, how many modules were declared, and what goes on
-pub record Partial : Type 0 where
+pub record Partial (K : Type 0) : Type 0 where
   pub streams : Streams
-  pub processes : List Process
+  pub processes : List (Process K)
   pub feeds : List Fed
   pub modules : ℕ
-  pub place : Place
+  pub place : Place K
 
 -- ---- the values of the code, without where they lie in memory
 
 -- a call
-abbrev pub call_view : CallLine → Call
+abbrev pub call_view : {K : Type 0} → CallLine K → Call K
 call_view line = record { stream = line.stream; end = line.call.end; asked = asked_of line.call.request }
 
 -- a process, its calls without their places in memory
-abbrev pub process_view : ProcessDecl → Process
+abbrev pub process_view : {K : Type 0} → ProcessDecl K → Process K
 process_view process = record { name = process.name.items; calls = map call_view process.calls.items }
 
 -- what a line is fed with
@@ -71,18 +71,18 @@ abbrev pub streams_view : List (ArrayVec ℕ × Setup) → Streams
 streams_view entries = map (λ entry. (entry.0.items, entry.1)) entries
 
 -- a plan
-abbrev pub plan_view : Plan → Whole
+abbrev pub plan_view : {K : Type 0} → Plan K → Whole K
 plan_view plan =
     record { streams = streams_view plan.streams.entries; processes = map process_view plan.processes.items; feeds = map feed_view plan.feeds.items }
 
 -- what goes on
-abbrev pub place_view : Current → Place
+abbrev pub place_view : {K : Type 0} → Current K → Place K
 place_view Current.Nowhere = Nowhere
 place_view (Current.Process process) = In_process (process_view process)
 place_view (Current.Feed feed) = In_feed (feed_view feed)
 
 -- a plan while it is read
-abbrev pub draft_view : Draft → Partial
+abbrev pub draft_view : {K : Type 0} → Draft K → Partial K
 draft_view draft =
     record {
       streams = streams_view draft.streams.entries;

@@ -13,6 +13,7 @@ use Rattle.strm_text.specs.Bytes.{is_allowed}
 use Rattle.strm_text.specs.Text.{name_of, fields_of}
 use Rattle.strm_verb.specs.Fault.{◌>>=◌, or_fault}
 use Rattle.strm_verb.specs.Field.{number_at, marks_at}
+use Rattle.strm_verb.specs.Naming.{KindWords}
 use Rattle.strm_verb.specs.Table.{verb_named, is_push, arity_at, request_at}
 use Rattle.strm_verb.specs.Arrival.{message_named, message_at}
 use Rattle.strm_verb.specs.declared.fault.Cause.{Cause}
@@ -32,13 +33,13 @@ fresh_name used text = do
   if list_any (bytes_eq chosen) used then Err causes.Name else Ok chosen
 
 -- what goes on there has ended
-abbrev pub ended_at : Partial → Place → Partial
+abbrev pub ended_at : {K : Type 0} → Partial K → Place K → Partial K
 ended_at d Nowhere = record d { place = Nowhere }
 ended_at d (In_process process) = record d { processes = d.processes ++ process ∷ []; place = Nowhere }
 ended_at d (In_feed feed) = record d { feeds = d.feeds ++ feed ∷ []; place = Nowhere }
 
 -- whatever goes on has ended
-abbrev pub ended : Partial → Partial
+abbrev pub ended : {K : Type 0} → Partial K → Partial K
 ended d = ended_at d d.place
 
 -- ---- stream NAME DRIVER H D, and RING for a line
@@ -84,16 +85,16 @@ abbrev pub has_room : Streams → Bool
 has_room streams = nat_lt (length streams) MOST_STREAMS
 
 -- one stream more
-abbrev pub with_stream : Partial → List ℕ × Setup → Result Partial Cause
+abbrev pub with_stream : {K : Type 0} → Partial K → List ℕ × Setup → Result (Partial K) Cause
 with_stream d stream =
     if has_room d.streams then Ok (record d { streams = d.streams ++ stream ∷ [] }) else Err causes.TooMany
 
 -- a stream line whose fields are as many as its driver wants
-abbrev pub setup_onto : Partial → Driver → List ℕ → List (List ℕ) → Result Partial Cause
+abbrev pub setup_onto : {K : Type 0} → Partial K → Driver → List ℕ → List (List ℕ) → Result (Partial K) Cause
 setup_onto d driver name texts = declared_at d.streams driver name texts >>= λ stream. with_stream d stream
 
 -- the driver decides how many fields there are, so its word is judged before their number
-unfoldable pub stream_onto : Partial → List (List ℕ) → Result Partial Cause
+unfoldable pub stream_onto : {K : Type 0} → Partial K → List (List ℕ) → Result (Partial K) Cause
 stream_onto d (name ∷ driver ∷ texts) = do
   kind ← driver_at driver
   if length texts == setup_arity kind then setup_onto d kind name texts else Err causes.Fields
@@ -102,18 +103,18 @@ stream_onto d texts = Err causes.Fields
 -- ---- process NAME
 
 -- `line` stands for arrivals in a transcript, so no process has that name
-abbrev pub process_name : List Process → List ℕ → Result (List ℕ) Cause
+abbrev pub process_name : {K : Type 0} → List (Process K) → List ℕ → Result (List ℕ) Cause
 process_name processes text = do
   chosen ← fresh_name (map (λ process. process.name) processes) text
   if bytes_eq chosen (codes "line") then Err causes.Name else Ok chosen
 
 -- a process of this name goes on from here
-abbrev pub with_process : Partial → List ℕ → Result Partial Cause
+abbrev pub with_process : {K : Type 0} → Partial K → List ℕ → Result (Partial K) Cause
 with_process d chosen =
     if nat_lt (length d.processes) MOST_PROCESSES then Ok (record d { place = In_process (record { name = chosen; calls = [] }) }) else Err causes.TooMany
 
 -- a process line
-unfoldable pub process_onto : Partial → List (List ℕ) → Result Partial Cause
+unfoldable pub process_onto : {K : Type 0} → Partial K → List (List ℕ) → Result (Partial K) Cause
 process_onto d (name ∷ []) = process_name d.processes name >>= λ chosen. with_process d chosen
 process_onto d texts = Err causes.Fields
 
@@ -124,13 +125,13 @@ abbrev pub has_feed : List Fed → ℕ → Bool
 has_feed feeds number = list_any (λ feed. feed.stream == number) feeds
 
 -- a feed is for a line that has none
-abbrev pub with_feed : Partial → ℕ × Driver → Result Partial Cause
+abbrev pub with_feed : {K : Type 0} → Partial K → ℕ × Driver → Result (Partial K) Cause
 with_feed d found =
     if is_line found.1 && not (has_feed d.feeds found.0) then Ok (record d { place = In_feed (record { stream = found.0; messages = [] }) })
     else Err causes.OutOfPlace
 
 -- a feed line
-unfoldable pub feed_onto : Partial → List (List ℕ) → Result Partial Cause
+unfoldable pub feed_onto : {K : Type 0} → Partial K → List (List ℕ) → Result (Partial K) Cause
 feed_onto d (name ∷ []) = or_fault causes.NoSuch (stream_at d.streams name) >>= λ found. with_feed d found
 feed_onto d texts = Err causes.Fields
 
@@ -141,38 +142,38 @@ abbrev pub modules_after : Verb → ℕ → ℕ
 modules_after verb modules = if is_push verb then modules + 1 else modules
 
 -- a call with as many fields as it has, from left to right
-abbrev pub placed_call : Streams → ℕ → Verb → List ℕ → List (List ℕ) → Result Call Cause
-placed_call streams serial verb target texts = do
+abbrev pub placed_call : {K : Type 0} → KindWords K → Streams → ℕ → Verb → List ℕ → List (List ℕ) → Result (Call K) Cause
+placed_call words streams serial verb target texts = do
   place ← or_fault causes.NoSuch (target_of streams target)
-  asked ← request_at serial verb texts
+  asked ← request_at words serial verb texts
   Ok (record { stream = place.0; end = place.1; asked = asked })
 
 -- the number of fields is judged first, and for a push the word of its kind before that
-unfoldable pub call_at : Streams → ℕ → Verb → List (List ℕ) → Result Call Cause
-call_at streams serial verb [] = Err causes.Fields
-call_at streams serial verb (target ∷ texts) =
-    arity_at verb texts >>= λ arity. if length texts == arity then placed_call streams serial verb target texts else Err causes.Fields
+unfoldable pub call_at : {K : Type 0} → KindWords K → Streams → ℕ → Verb → List (List ℕ) → Result (Call K) Cause
+call_at words streams serial verb [] = Err causes.Fields
+call_at words streams serial verb (target ∷ texts) =
+    arity_at words verb texts >>= λ arity. if length texts == arity then placed_call words streams serial verb target texts else Err causes.Fields
 
 -- one call more of the process that goes on
-abbrev pub with_call : Partial → Process → Verb → Call → Result Partial Cause
+abbrev pub with_call : {K : Type 0} → Partial K → Process K → Verb → Call K → Result (Partial K) Cause
 with_call d process verb call =
     if nat_lt (length process.calls) MOST_CALLS then Ok (record d { modules = modules_after verb d.modules; place = In_process (record { name = process.name; calls = process.calls ++ call ∷ [] }) })
     else Err causes.TooMany
 
 -- a call line, whose module is the next one where it is a push
-unfoldable pub call_onto : Partial → Process → Verb → List (List ℕ) → Result Partial Cause
-call_onto d process verb texts = call_at d.streams (d.modules + 1) verb texts >>= λ call. with_call d process verb call
+unfoldable pub call_onto : {K : Type 0} → KindWords K → Partial K → Process K → Verb → List (List ℕ) → Result (Partial K) Cause
+call_onto words d process verb texts = call_at words d.streams (d.modules + 1) verb texts >>= λ call. with_call d process verb call
 
 -- ---- a message of a feed
 
 -- one message more of the feed that goes on
-abbrev pub with_message : Partial → Fed → Msg → Result Partial Cause
+abbrev pub with_message : {K : Type 0} → Partial K → Fed → Msg → Result (Partial K) Cause
 with_message d feed m =
     if nat_lt (length feed.messages) MOST_MESSAGES then Ok (record d { place = In_feed (record { stream = feed.stream; messages = feed.messages ++ m ∷ [] }) })
     else Err causes.TooMany
 
 -- a line that is a message of a feed
-unfoldable pub message_onto : Partial → Fed → MessageWord → List (List ℕ) → Result Partial Cause
+unfoldable pub message_onto : {K : Type 0} → Partial K → Fed → MessageWord → List (List ℕ) → Result (Partial K) Cause
 message_onto d feed word texts = message_at word texts >>= λ m. with_message d feed m
 
 -- ---- a line
@@ -182,29 +183,29 @@ abbrev pub outside : List ℕ → Cause
 outside word = if is_some (verb_named word) || is_some (message_named word) then causes.OutOfPlace else causes.UnknownWord
 
 -- a call of the process that goes on, or a message of the feed that does. `flush` is a message in a feed, and a call elsewhere
-abbrev pub inner_onto : Partial → Place → List ℕ → List (List ℕ) → Result Partial Cause
-inner_onto d Nowhere word texts = Err (outside word)
-inner_onto d (In_process process) word texts = or_fault (outside word) (verb_named word) >>= λ verb. call_onto d process verb texts
-inner_onto d (In_feed feed) word texts = or_fault (outside word) (message_named word) >>= λ m. message_onto d feed m texts
+abbrev pub inner_onto : {K : Type 0} → KindWords K → Partial K → Place K → List ℕ → List (List ℕ) → Result (Partial K) Cause
+inner_onto words d Nowhere word texts = Err (outside word)
+inner_onto words d (In_process process) word texts = or_fault (outside word) (verb_named word) >>= λ verb. call_onto words d process verb texts
+inner_onto words d (In_feed feed) word texts = or_fault (outside word) (message_named word) >>= λ m. message_onto d feed m texts
 
 -- the line that begins with this word
-unfoldable pub word_onto : Partial → List ℕ → List (List ℕ) → Result Partial Cause
-word_onto d word texts =
+unfoldable pub word_onto : {K : Type 0} → KindWords K → Partial K → List ℕ → List (List ℕ) → Result (Partial K) Cause
+word_onto words d word texts =
     if bytes_eq word (codes "stream") then stream_onto (ended d) texts
     else (if bytes_eq word (codes "process") then process_onto (ended d) texts
-    else (if bytes_eq word (codes "feed") then feed_onto (ended d) texts else inner_onto d d.place word texts))
+    else (if bytes_eq word (codes "feed") then feed_onto (ended d) texts else inner_onto words d d.place word texts))
 
 -- a line by its fields; one without fields says nothing
-abbrev pub fields_onto : Partial → List (List ℕ) → Result Partial Cause
-fields_onto d [] = Ok d
-fields_onto d (word ∷ texts) = word_onto d word texts
+abbrev pub fields_onto : {K : Type 0} → KindWords K → Partial K → List (List ℕ) → Result (Partial K) Cause
+fields_onto words d [] = Ok d
+fields_onto words d (word ∷ texts) = word_onto words d word texts
 
 -- a line without its LF and the CR before it: its length is judged first, and a comment for nothing else
-unfoldable pub line_onto : Partial → List ℕ → Result Partial Cause
-line_onto d line =
+unfoldable pub line_onto : {K : Type 0} → KindWords K → Partial K → List ℕ → Result (Partial K) Cause
+line_onto words d line =
     if nat_lt LONGEST_LINE (length line) then Err causes.TooLong
     else (if slice_index line 0 == 35 then Ok d
-    else (if list_all is_allowed line then fields_onto d (fields_of line) else Err causes.Byte))
+    else (if list_all is_allowed line then fields_onto words d (fields_of line) else Err causes.Byte))
 
 -- ---- all lines
 
@@ -214,23 +215,23 @@ pub record FaultAt : Type 0 where
   pub cause : Cause
 
 -- the plan, when the script ends here
-abbrev pub plan_of : Partial → Whole
+abbrev pub plan_of : {K : Type 0} → Partial K → Whole K
 plan_of d = record { streams = (ended d).streams; processes = (ended d).processes; feeds = (ended d).feeds }
 
 -- the others go onto what a line made, and a fault is told with the number of its line
-abbrev pub then_lines : ℕ → Result Partial Cause → (Partial → Result Whole FaultAt) → Result Whole FaultAt
+abbrev pub then_lines : {K : Type 0} → ℕ → Result (Partial K) Cause → (Partial K → Result (Whole K) FaultAt) → Result (Whole K) FaultAt
 then_lines n (Ok d) others = others d
 then_lines n (Err cause) others = Err (record { line = n; cause = cause })
 
 -- lines one after another, behind so many that were read
-unfoldable pub lines_onto : ℕ → Partial → List (List ℕ) → Result Whole FaultAt
-lines_onto n d [] = Ok (plan_of d)
-lines_onto n d (line ∷ others) = then_lines (n + 1) (line_onto d line) (λ e. lines_onto (n + 1) e others)
+unfoldable pub lines_onto : {K : Type 0} → KindWords K → ℕ → Partial K → List (List ℕ) → Result (Whole K) FaultAt
+lines_onto words n d [] = Ok (plan_of d)
+lines_onto words n d (line ∷ others) = then_lines (n + 1) (line_onto words d line) (λ e. lines_onto words (n + 1) e others)
 
 -- before the first line
-abbrev pub nothing_yet : Partial
+abbrev pub nothing_yet : {K : Type 0} → Partial K
 nothing_yet = record { streams = []; processes = []; feeds = []; modules = 0; place = Nowhere }
 
 -- the plan that a script spells, or its first fault. The length of the whole is judged before any line
-abbrev pub spelt : List ℕ → Result Whole FaultAt
-spelt bytes = if nat_lt LONGEST_SCRIPT (length bytes) then Err (record { line = 0; cause = causes.TooLong }) else lines_onto 0 nothing_yet (lines bytes)
+abbrev pub spelt : {K : Type 0} → KindWords K → List ℕ → Result (Whole K) FaultAt
+spelt words bytes = if nat_lt LONGEST_SCRIPT (length bytes) then Err (record { line = 0; cause = causes.TooLong }) else lines_onto words 0 nothing_yet (lines bytes)

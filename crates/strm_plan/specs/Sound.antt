@@ -28,11 +28,11 @@ line_is_there None = false
 line_is_there (Some stream) = is_line stream.1.driver
 
 -- each call is on a stream and an end that are there
-abbrev pub AreCallsThere : Streams → List Call → Type 0
+abbrev pub AreCallsThere : {K : Type 0} → Streams → List (Call K) → Type 0
 AreCallsThere streams calls = All (λ call. end_is_there (slice_get streams call.stream) call.end ≡ true) calls
 
 -- so is each of each process
-abbrev pub AreProcessesThere : Streams → List Process → Type 0
+abbrev pub AreProcessesThere : {K : Type 0} → Streams → List (Process K) → Type 0
 AreProcessesThere streams processes = All (λ process. AreCallsThere streams process.calls) processes
 
 -- each feed is for a line
@@ -44,7 +44,7 @@ abbrev pub AreOnce : List Fed → Type 0
 AreOnce feeds = AllPairs (λ one other. one.stream ≡ other.stream → ⊥) feeds
 
 -- all that a run asks of a plan, and all that it looks for there
-pub record IsSound (plan : Whole) : Type 0 where
+pub record IsSound {K : Type 0} (plan : Whole K) : Type 0 where
   pub setups : AreSetups plan.streams
   pub few_streams : length plan.streams ≤ MOST_STREAMS
   pub few_processes : length plan.processes ≤ MOST_PROCESSES

@@ -12,6 +12,6 @@ pub record IsNoMemory (fault : ScriptFault) : Type 0 where
   pub cause : fault.cause ≡ causes.NoMemory
 
 -- the plan is the one that is spelt; the fault is the one that reading finds, or want of memory
-abbrev pub Spells : Result Plan ScriptFault → Result Whole FaultAt → Type 0
+abbrev pub Spells : {K : Type 0} → Result (Plan K) ScriptFault → Result (Whole K) FaultAt → Type 0
 Spells (Ok plan) spelt = spelt ≡ Ok (plan_view plan)
 Spells (Err fault) spelt = IsNoMemory fault ⊎ (spelt ≡ Err (record { line = fault.line; cause = fault.cause }))

@@ -5,21 +5,22 @@ ghost use Rattle.strm_plan.specs.Calls.{plain_of, pushed_of};
 
 use strm_call::Request;
 use strm_history::Call;
+use strm_module::Kind;
 use strm_msg::End;
 use strm_verb::PushDecl;
 
 /// A call on an end of some stream, with the shape of the module where it is a push.
 #[derive(Debug, Drop)]
-pub struct CallDecl {
+pub struct CallDecl<K = Kind> {
     /// The end.
     pub end: End,
     /// What is asked.
-    pub request: Request<PushDecl>,
+    pub request: Request<PushDecl<K>>,
 }
 
-impl CallDecl {
+impl<K: Drop> CallDecl<K> {
     /// The module that a push declares; nothing where the call is no push.
-    pub fn push(&self) -> Option<&PushDecl>
+    pub fn push(&self) -> Option<&PushDecl<K>>
         ensures { option_map (λ shape. shape.now) result ≡ pushed_of self.now.request }
     {
         match &self.request {
@@ -54,7 +55,7 @@ impl CallDecl {
 }
 
 /// A request that is no push, where modules are of another type.
-fn plain_request<P>(request: Request<PushDecl>) -> Request<P>
+fn plain_request<P, K: Drop>(request: Request<PushDecl<K>>) -> Request<P>
     requires { pushed_of request ≡ None }
     ensures { Some result ≡ plain_of request }
 {

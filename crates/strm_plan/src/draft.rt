@@ -16,7 +16,7 @@ use std::mem;
 use strm_head::Driver;
 use strm_history::Setup;
 use strm_text::{fields, is_allowed};
-use strm_verb::{Cause, MessageWord, ReadError, Verb, message_at};
+use strm_verb::{Cause, MessageWord, ReadError, ReadKind, Verb, message_at};
 
 /// The most streams of a plan.
 const MOST_STREAMS: usize = 64;
@@ -35,28 +35,28 @@ const LONGEST_LINE: usize = 16_384;
 
 /// To what the lines that come next belong.
 #[derive(Drop)]
-enum Current {
+enum Current<K> {
     /// To nothing yet.
     Nowhere,
     /// To a process.
-    Process(ProcessDecl),
+    Process(ProcessDecl<K>),
     /// To a feed.
     Feed(FeedDecl),
 }
 
 /// A plan while it is read: what has ended, how many modules were declared, and what goes on.
 #[derive(Drop)]
-pub(crate) struct Draft {
+pub(crate) struct Draft<K> {
     /// How each stream is made, by its name.
     streams: IndexMap<Name, Setup>,
     /// The processes that have ended.
-    processes: Vec<ProcessDecl>,
+    processes: Vec<ProcessDecl<K>>,
     /// The feeds that have ended.
     feeds: Vec<FeedDecl>,
     /// How many modules were declared, by all processes.
     modules: u64,
     /// What goes on.
-    current: Current,
+    current: Current<K>,
 }
 
 /// Whether there may be one stream more.
@@ -84,9 +84,9 @@ fn outside(word: &[u8]) -> Cause
     }
 }
 
-impl Draft {
+impl<K: ReadKind> Draft<K> {
     /// Nothing yet.
-    pub(crate) fn new(alloc: Global) -> Draft
+    pub(crate) fn new(alloc: Global) -> Draft<K>
         ensures { draft_view result ≡ reading.nothing_yet }
     {
         Draft {
@@ -178,13 +178,13 @@ impl Draft {
     fn call_line(
         &mut self,
         alloc: Global,
-        mut process: ProcessDecl,
+        mut process: ProcessDecl<K>,
         verb: Verb,
         texts: &[&[u8]],
     ) -> Result<(), ReadError>
         requires few { length self.old.streams.entries ≤ MOST_STREAMS }
         requires modules { self.old.modules < 2 ^ 63 }
-        ensures { Gives (λ _. draft_view self.new) result (reading.call_onto (draft_view self.old) (process_view process) verb (map (λ text. text.now) texts.now)) }
+        ensures { Gives (λ _. draft_view self.new) result (reading.call_onto K.words (draft_view self.old) (process_view process) verb (map (λ text. text.now) texts.now)) }
     {
         let call = call_at(alloc, &self.streams, self.modules + 1, verb, texts)?;
         if process.calls.len() >= MOST_CALLS {
@@ -220,13 +220,13 @@ impl Draft {
     fn process_word(
         &mut self,
         alloc: Global,
-        process: ProcessDecl,
+        process: ProcessDecl<K>,
         word: &[u8],
         texts: &[&[u8]],
     ) -> Result<(), ReadError>
         requires few { length self.old.streams.entries ≤ MOST_STREAMS }
         requires modules { self.old.modules < 2 ^ 63 }
-        ensures { Gives (λ _. draft_view self.new) result (reading.inner_onto (draft_view self.old) (In_process (process_view process)) word.now (map (λ text. text.now) texts.now)) }
+        ensures { Gives (λ _. draft_view self.new) result (reading.inner_onto K.words (draft_view self.old) (In_process (process_view process)) word.now (map (λ text. text.now) texts.now)) }
     {
         match Verb::named(word) {
             Some(verb) => self.call_line(alloc, process, verb, texts),
@@ -242,7 +242,7 @@ impl Draft {
         word: &[u8],
         texts: &[&[u8]],
     ) -> Result<(), ReadError>
-        ensures { Gives (λ _. draft_view self.new) result (reading.inner_onto (draft_view self.old) (In_feed (feed_view feed)) word.now (map (λ text. text.now) texts.now)) }
+        ensures { Gives (λ _. draft_view self.new) result (reading.inner_onto K.words (draft_view self.old) (In_feed (feed_view feed)) word.now (map (λ text. text.now) texts.now)) }
     {
         match MessageWord::named(word) {
             Some(word) => self.message_line(alloc, feed, word, texts),
@@ -255,7 +255,7 @@ impl Draft {
     fn inner_line(&mut self, alloc: Global, word: &[u8], texts: &[&[u8]]) -> Result<(), ReadError>
         requires few { length self.old.streams.entries ≤ MOST_STREAMS }
         requires modules { self.old.modules < 2 ^ 63 }
-        ensures { Gives (λ _. draft_view self.new) result (reading.inner_onto (draft_view self.old) (draft_view self.old).place word.now (map (λ text. text.now) texts.now)) }
+        ensures { Gives (λ _. draft_view self.new) result (reading.inner_onto K.words (draft_view self.old) (draft_view self.old).place word.now (map (λ text. text.now) texts.now)) }
     {
         match mem::replace(&mut self.current, Current::Nowhere) {
             Current::Nowhere => Err(ReadError::Fault(outside(word))),
@@ -269,7 +269,7 @@ impl Draft {
     fn word_line(&mut self, alloc: Global, word: &[u8], texts: &[&[u8]]) -> Result<(), ReadError>
         requires few { length self.old.streams.entries ≤ MOST_STREAMS }
         requires modules { self.old.modules < 2 ^ 63 }
-        ensures { Gives (λ _. draft_view self.new) result (reading.word_onto (draft_view self.old) word.now (map (λ text. text.now) texts.now)) }
+        ensures { Gives (λ _. draft_view self.new) result (reading.word_onto K.words (draft_view self.old) word.now (map (λ text. text.now) texts.now)) }
     {
         if word == b"stream".as_slice() {
             self.close()?;
@@ -290,7 +290,7 @@ impl Draft {
     fn fields_line(&mut self, alloc: Global, texts: &[&[u8]]) -> Result<(), ReadError>
         requires few { length self.old.streams.entries ≤ MOST_STREAMS }
         requires modules { self.old.modules < 2 ^ 63 }
-        ensures { Gives (λ _. draft_view self.new) result (reading.fields_onto (draft_view self.old) (map (λ text. text.now) texts.now)) }
+        ensures { Gives (λ _. draft_view self.new) result (reading.fields_onto K.words (draft_view self.old) (map (λ text. text.now) texts.now)) }
     {
         match texts {
             [] => Ok(()),
@@ -304,7 +304,7 @@ impl Draft {
     pub(crate) fn line(&mut self, alloc: Global, line: &[u8]) -> Result<(), ReadError>
         requires few { length self.old.streams.entries ≤ MOST_STREAMS }
         requires modules { self.old.modules < 2 ^ 63 }
-        ensures { Gives (λ _. draft_view self.new) result (reading.line_onto (draft_view self.old) line.now) }
+        ensures { Gives (λ _. draft_view self.new) result (reading.line_onto K.words (draft_view self.old) line.now) }
     {
         if line.len() > LONGEST_LINE {
             return Err(ReadError::Fault(Cause::TooLong));
@@ -320,7 +320,7 @@ impl Draft {
     }
 
     /// The plan that the lines make. Refused for want of memory alone.
-    pub(crate) fn finish(mut self) -> Result<Plan, ReadError>
+    pub(crate) fn finish(mut self) -> Result<Plan<K>, ReadError>
         ensures { Gives plan_view result (Ok (reading.plan_of (draft_view self))) }
     {
         self.close()?;

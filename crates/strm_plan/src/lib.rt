@@ -18,4 +18,4 @@ pub use fault::ScriptFault;
 pub use loading::{LoadFault, MOST_READ, load};
 pub use parsing::{LONGEST_SCRIPT, parse};
 pub use plan::{CallLine, FeedDecl, Name, Plan, ProcessDecl};
-pub use strm_verb::{Cause, PushDecl};
+pub use strm_verb::{Cause, PushDecl, ReadKind};

@@ -21,7 +21,7 @@ fn has_stream(streams: &IndexMap<Name, Setup>, chosen: &Name) -> bool
 }
 
 /// Whether a process has this name.
-fn has_process(processes: &[ProcessDecl], chosen: &Name) -> bool
+fn has_process<K>(processes: &[ProcessDecl<K>], chosen: &Name) -> bool
     ensures { result ≡ list_any (bytes_eq chosen.now.items) (map (λ process. process.name) (map process_view processes.now)) }
 {
     processes.iter().any(|process| *chosen == process.name)
@@ -43,7 +43,7 @@ pub(crate) fn stream_name(streams: &IndexMap<Name, Setup>, text: &[u8]) -> Resul
 
 /// The name of a process to come. Refused where the text is no name, a process has it, or it is `line`,
 /// which stands for arrivals in a transcript.
-pub(crate) fn process_name(processes: &[ProcessDecl], text: &[u8]) -> Result<Name, ReadError>
+pub(crate) fn process_name<K>(processes: &[ProcessDecl<K>], text: &[u8]) -> Result<Name, ReadError>
     ensures { Gives (λ name. name.items) result (reading.process_name (map process_view processes.now) text.now) }
 {
     let Some(chosen) = name::<LONGEST>(text) else {

@@ -7,7 +7,6 @@ use Rattle.arrayvec.specs.ArrayVec.{ArrayVec}
 use Rattle.strm_msg.specs.Kind.{is_from_line}
 use Rattle.strm_msg.specs.declared.words.End.{End}
 use Rattle.strm_msg.specs.Message.{Msg}
-use Rattle.strm_module.specs.declared.kind.Kind.{Kind}
 use Rattle.strm_module.specs.declared.shape.Shape.{Shape}
 use Rattle.strm_history.specs.Setup.{is_fit, is_ring}
 use Rattle.strm_history.specs.declared.setup.Setup.{Setup}
@@ -59,7 +58,7 @@ few_setups n setups entries are many under =
     omega (arith, as_many, viewed, many, under)
 
 -- and fewer processes
-pub few_scripts : (n : ℕ) (scripts : List (Script (Shape Kind))) (processes : List ProcessDecl) → calls_of_scripts scripts ≡ calls_of_processes processes → length (map process_view processes) ≤ n → n < 4294967296 → length scripts < 4294967296
+pub few_scripts : {K : Type 0} (n : ℕ) (scripts : List (Script (Shape K))) (processes : List (ProcessDecl K)) → calls_of_scripts scripts ≡ calls_of_processes processes → length (map process_view processes) ≤ n → n < 4294967296 → length scripts < 4294967296
 few_scripts n scripts processes are many under =
     let made : length (calls_of_scripts scripts) ≡ length scripts = length-map scripts (λ script. script.calls.items) in
     let of_plan : length (calls_of_processes processes) ≡ length processes = length-map processes (λ process. map played_line process.calls.items) in
@@ -68,7 +67,7 @@ few_scripts n scripts processes are many under =
     omega (arith, made, of_plan, same, viewed, many, under)
 
 -- the calls of a caller, by the lists of calls
-pub script_calls : (scripts : List (Script (Shape Kind))) (caller : ℕ) → crews.script_of scripts caller ≡ get_or (calls_of_scripts scripts) caller []
+pub script_calls : {K : Type 0} (scripts : List (Script (Shape K))) (caller : ℕ) → crews.script_of scripts caller ≡ get_or (calls_of_scripts scripts) caller []
 script_calls [] caller = refl
 script_calls (script ∷ scripts) zero = refl
 script_calls (script ∷ scripts) (suc caller) = script_calls scripts caller
@@ -79,7 +78,7 @@ feed_messages [] number = refl
 feed_messages (feed ∷ feeds) number = ap (λ (others : List Msg). cond (feed.stream == number) feed.messages.items others) (feed_messages feeds number)
 
 -- what came in is of the feed that the plan has
-pub fed_of_plan : (log : StreamLog Kind) (feeds : List Feed) (decls : List FeedDecl) (number : ℕ) → map played_fed feeds ≡ map fed decls → IsFed (crews.feed_of feeds number) log → IsFed (messages_for (map fed decls) number) log
+pub fed_of_plan : {K : Type 0} (log : StreamLog K) (feeds : List Feed) (decls : List FeedDecl) (number : ℕ) → map played_fed feeds ≡ map fed decls → IsFed (crews.feed_of feeds number) log → IsFed (messages_for (map fed decls) number) log
 fed_of_plan log feeds decls number same was =
     subst (λ messages. IsFed messages log) (feed_messages feeds number ∙ ap (λ all. messages_for all number) same) was
 
@@ -103,20 +102,20 @@ same_line (entry ∷ entries) zero = refl
 same_line (entry ∷ entries) (suc number) = same_line entries number
 
 -- the calls of a process
-process_there : (entries : Entries) (lines : List CallLine) → plans.AreCallsThere (streams_view entries) (map call_view lines) → runs.AreCallsThere (setups_in entries) (map played_line lines)
-process_there entries lines there =
+process_there : {K : Type 0} (entries : Entries) (lines : List (CallLine K)) → plans.AreCallsThere (streams_view entries) (map call_view lines) → runs.AreCallsThere (setups_in entries) (map played_line lines)
+process_there {K} entries lines there =
     let each = unmapped (λ call. plans.end_is_there (slice_get (streams_view entries) call.stream) call.end ≡ true) call_view lines there in
-    All-map (λ (one : ScriptCall (Shape Kind)). runs.end_is_there (slice_get (setups_in entries) one.stream) one.call.end ≡ true) played_line lines
+    All-map (λ (one : ScriptCall (Shape K)). runs.end_is_there (slice_get (setups_in entries) one.stream) one.call.end ≡ true) played_line lines
     (λ k d under. let line = get_or lines k d in sym (same_end entries line.stream line.call.end) ∙ each k d under)
 
 -- those of all processes, by the lists of calls
-scripts_there : (entries : Entries) (scripts : List (Script (Shape Kind))) (processes : List ProcessDecl) → calls_of_scripts scripts ≡ calls_of_processes processes → AreProcessesThere (streams_view entries) (map process_view processes) → All (λ script. runs.AreCallsThere (setups_in entries) script.calls.items) scripts
-scripts_there entries scripts processes same there =
+scripts_there : {K : Type 0} (entries : Entries) (scripts : List (Script (Shape K))) (processes : List (ProcessDecl K)) → calls_of_scripts scripts ≡ calls_of_processes processes → AreProcessesThere (streams_view entries) (map process_view processes) → All (λ script. runs.AreCallsThere (setups_in entries) script.calls.items) scripts
+scripts_there {K} entries scripts processes same there =
     let each = unmapped (λ process. plans.AreCallsThere (streams_view entries) process.calls) process_view processes there in
-    let lists : All (λ (calls : List (ScriptCall (Shape Kind))). runs.AreCallsThere (setups_in entries) calls) (calls_of_processes processes) =
-    All-map (λ (calls : List (ScriptCall (Shape Kind))). runs.AreCallsThere (setups_in entries) calls) (λ (process : ProcessDecl). map played_line process.calls.items) processes (λ k d under. process_there entries (get_or processes k d).calls.items (each k d under)) in
-    unmapped (λ (calls : List (ScriptCall (Shape Kind))). runs.AreCallsThere (setups_in entries) calls) (λ (script : Script (Shape Kind)). script.calls.items) scripts
-    (subst (All (λ (calls : List (ScriptCall (Shape Kind))). runs.AreCallsThere (setups_in entries) calls)) (sym same) lists)
+    let lists : All (λ (calls : List (ScriptCall (Shape K))). runs.AreCallsThere (setups_in entries) calls) (calls_of_processes processes) =
+    All-map (λ (calls : List (ScriptCall (Shape K))). runs.AreCallsThere (setups_in entries) calls) (λ (process : ProcessDecl K). map played_line process.calls.items) processes (λ k d under. process_there entries (get_or processes k d).calls.items (each k d under)) in
+    unmapped (λ (calls : List (ScriptCall (Shape K))). runs.AreCallsThere (setups_in entries) calls) (λ (script : Script (Shape K)). script.calls.items) scripts
+    (subst (All (λ (calls : List (ScriptCall (Shape K))). runs.AreCallsThere (setups_in entries) calls)) (sym same) lists)
 
 -- the feeds of lines, by the numbers of their streams
 feeds_there : (entries : Entries) (feeds : List Feed) (decls : List FeedDecl) → map played_fed feeds ≡ map fed decls → AreLinesThere (streams_view entries) (map feed_view decls) → All (λ feed. runs.line_is_there (slice_get (setups_in entries) feed.stream) ≡ true) feeds
@@ -164,7 +163,7 @@ feeds_once feeds decls same once =
     pairs_unmapped Differ played_fed feeds (subst (λ pairs. AllPairs Differ pairs) (sym same) (pairs_mapped Differ fed decls of_decls))
 
 -- so all is there that the run of a plan names
-pub all_there : (entries : Entries) (scripts : List (Script (Shape Kind))) (processes : List ProcessDecl) (feeds : List Feed) (decls : List FeedDecl) → calls_of_scripts scripts ≡ calls_of_processes processes → map played_fed feeds ≡ map fed decls → AreProcessesThere (streams_view entries) (map process_view processes) → AreLinesThere (streams_view entries) (map feed_view decls) → AreOnce (map feed_view decls) → runs.AreThere (setups_in entries) scripts feeds
+pub all_there : {K : Type 0} (entries : Entries) (scripts : List (Script (Shape K))) (processes : List (ProcessDecl K)) (feeds : List Feed) (decls : List FeedDecl) → calls_of_scripts scripts ≡ calls_of_processes processes → map played_fed feeds ≡ map fed decls → AreProcessesThere (streams_view entries) (map process_view processes) → AreLinesThere (streams_view entries) (map feed_view decls) → AreOnce (map feed_view decls) → runs.AreThere (setups_in entries) scripts feeds
 all_there entries scripts processes feeds decls same_calls same_feeds calls lines once = record {
   calls = scripts_there entries scripts processes same_calls calls;
   lines = feeds_there entries feeds decls same_feeds lines;

@@ -1,9 +1,8 @@
 -- What a script that was played leaves.
-use Rattle.std.specs.Prelude.{◌≡◌, ◌⊎◌, ℕ, ◌<◌, ◌==◌, Bool, true, false, not, List, [], ◌∷◌, length, map, get_or, Ok, Err, if◌then◌else◌}
+use Rattle.std.specs.Prelude.{◌≡◌, ℕ, ◌<◌, ◌==◌, Bool, true, false, not, List, [], ◌∷◌, length, map, get_or, Ok, Err, if◌then◌else◌}
 use Rattle.strm_msg.specs.Message.{Msg}
-use Rattle.strm_module.specs.declared.kind.Kind.{Kind}
 use Rattle.strm_module.specs.declared.shape.Shape.{Shape}
-use Rattle.strm_module.specs.Builtin.{builtin}
+use Rattle.strm_module.specs.Kinds.{Meaning}
 use Rattle.strm_history.specs.declared.setup.Setup.{Setup}
 use Rattle.strm_history.specs.History.{own}
 use Rattle.strm_history.specs.Entry.{asked_of}
@@ -14,9 +13,10 @@ use Rattle.strm_run.specs.There.{is_crew}
 use Rattle.strm_crew.specs.Transcript.{IsFed, IsLegal}
 use Rattle.strm_run.specs.declared.fault.RunFault.{RunFault}
 use Rattle.strm_run.specs.declared.fault.RunFault.TheVariants as runs
+use Rattle.strm_verb.specs.Naming.{KindWords}
 use Rattle.strm_plan.specs.Plan.{plan_view}
 use Rattle.strm_plan.specs.Reading.{spelt}
-use Rattle.strm_plan.specs.Spelling.{IsNoMemory}
+use Rattle.strm_plan.specs.Spelling.{Spells}
 use Rattle.strm_plan.specs.declared.plan.Plan.{Plan}
 use Rattle.strm_play.specs.Playing.{setups_of, calls_of_processes, fed, names_of}
 use Rattle.strm_play.specs.declared.playing.Outcome.{Outcome}
@@ -24,7 +24,7 @@ use Rattle.strm_play.specs.declared.fault.PlayFault.{PlayFault}
 use Rattle.strm_play.specs.declared.fault.PlayFault.TheVariants.{Script, Run}
 
 -- the calls of a process, by its number; there are none past the last
-abbrev pub calls_of : Plan → ℕ → List (ScriptCall (Shape Kind))
+abbrev pub calls_of : {K : Type 0} → Plan K → ℕ → List (ScriptCall (Shape K))
 calls_of plan caller = get_or (calls_of_processes plan.processes.items) caller []
 
 -- the messages that feeds have for a stream
@@ -34,15 +34,15 @@ messages_for (feed ∷ feeds) number = if feed.0 == number then feed.1 else mess
 
 -- the plan is what the script spells, and what is left of it are its names; each stream that it declares has a log, in order,
 -- with a legal history that has each process's calls there, in order, and in which what came in is of the stream's feed
-pub record IsPlayed (bytes : List ℕ) (outcome : Outcome) : Type 0 where
-  pub plan : Plan
-  pub spells : spelt bytes ≡ Ok (plan_view plan)
+pub record IsPlayed {K : Type 0} (means : Meaning K) (words : KindWords K) (bytes : List ℕ) (outcome : Outcome K) : Type 0 where
+  pub plan : Plan K
+  pub spells : spelt words bytes ≡ Ok (plan_view plan)
   pub streams : outcome.plan.streams ≡ plan.streams
   pub names : names_of outcome.plan.processes.items ≡ names_of plan.processes.items
   pub many : length outcome.transcript.streams.items ≡ length (setups_of plan)
-  pub legal : (k : ℕ) (setup : Setup) (log : StreamLog Kind) → k < length (setups_of plan) → IsLegal builtin (get_or (setups_of plan) k setup) (get_or outcome.transcript.streams.items k log)
-  pub calls : (k caller : ℕ) (log : StreamLog Kind) → k < length (setups_of plan) → map asked_of (own caller (get_or outcome.transcript.streams.items k log).history.items) ≡ calls_on k (calls_of plan caller)
-  pub arrivals : (k : ℕ) (log : StreamLog Kind) → k < length (setups_of plan) → IsFed (messages_for (map fed plan.feeds.items) k) (get_or outcome.transcript.streams.items k log)
+  pub legal : (k : ℕ) (setup : Setup) (log : StreamLog K) → k < length (setups_of plan) → IsLegal means (get_or (setups_of plan) k setup) (get_or outcome.transcript.streams.items k log)
+  pub calls : (k caller : ℕ) (log : StreamLog K) → k < length (setups_of plan) → map asked_of (own caller (get_or outcome.transcript.streams.items k log).history.items) ≡ calls_on k (calls_of plan caller)
+  pub arrivals : (k : ℕ) (log : StreamLog K) → k < length (setups_of plan) → IsFed (messages_for (map fed plan.feeds.items) k) (get_or outcome.transcript.streams.items k log)
 
 -- which faults the run of a script may have with so many workers: `Workers` where they are not 1 to `MOST_WORKERS`, and then no other
 -- but want of memory, which may come before the run; never `NoSuch`, as a script names nothing that it has not declared
@@ -54,12 +54,12 @@ may_have workers runs.Unfinished = is_crew workers
 may_have workers runs.NoReceipt = is_crew workers
 
 -- the bytes are a script, and its run may have this fault
-pub record IsFaultOfRun (bytes : List ℕ) (workers : ℕ) (fault : RunFault) : Type 0 where
-  pub plan : Plan
-  pub spells : spelt bytes ≡ Ok (plan_view plan)
+pub record IsFaultOfRun {K : Type 0} (words : KindWords K) (bytes : List ℕ) (workers : ℕ) (fault : RunFault) : Type 0 where
+  pub plan : Plan K
+  pub spells : spelt words bytes ≡ Ok (plan_view plan)
   pub may : may_have workers fault ≡ true
 
--- a fault of the script is its first, or want of memory; a fault of its run is told of a script alone
-abbrev pub IsFaultOf : List ℕ → ℕ → PlayFault → Type 0
-IsFaultOf bytes workers (Script fault) = IsNoMemory fault ⊎ (spelt bytes ≡ Err (record { line = fault.line; cause = fault.cause }))
-IsFaultOf bytes workers (Run fault) = IsFaultOfRun bytes workers fault
+-- a fault of the script is one that `parse` may answer: its first, or want of memory; a fault of its run is told of a script alone
+abbrev pub IsFaultOf : {K : Type 0} → KindWords K → List ℕ → ℕ → PlayFault → Type 0
+IsFaultOf words bytes workers (Script fault) = Spells (Err fault) (spelt words bytes)
+IsFaultOf words bytes workers (Run fault) = IsFaultOfRun words bytes workers fault

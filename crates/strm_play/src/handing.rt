@@ -2,26 +2,24 @@
 ghost use Rattle.std.specs.Prelude.{◌≡◌, ◌++◌, ◌∷◌, [], map, IfOk};
 ghost use Rattle.strm_play.specs.Playing.{setups_of, played_call, played_line, calls_of_processes, calls_of_scripts, fed, played_fed, names_of};
 
+use crate::pushing::PlayModule;
 use indexmap::IndexMap;
 use std::alloc::Global;
 use strm_history::{Call, Setup};
-use strm_module::{Boxed, Instance, Plain};
+use strm_module::{Boxed, Instance, ModuleOf};
 use strm_msg::NoMem;
 use strm_plan::{CallDecl, CallLine, FeedDecl, Name, Plan, ProcessDecl};
 use strm_run::{Feed, Script, ScriptCall};
 
-/// The modules of scripts: each acts by its shape alone.
-pub type Module = Boxed<Plain>;
-
 /// What a run is given, and the plan without it.
 #[derive(Drop)]
-pub struct Handed {
+pub struct Handed<M: ModuleOf> {
     /// The plan, whose processes have their names and no calls, and which has no feeds.
-    pub plan: Plan,
+    pub plan: Plan<M::Kind>,
     /// How each stream is made, in order of declaration.
     pub setups: Vec<Setup>,
     /// The calls of each process, in order. Each push has the module that was declared.
-    pub scripts: Vec<Script<Module>>,
+    pub scripts: Vec<Script<Boxed<M>>>,
     /// The feeds.
     pub feeds: Vec<Feed>,
 }
@@ -35,18 +33,22 @@ fn setups(alloc: Global, streams: &IndexMap<Name, Setup>) -> Result<Vec<Setup>, 
 }
 
 /// A call, with the module that it declares if it is a push. Refused for want of memory alone.
-fn call(alloc: Global, call: CallDecl) -> Result<Call<Module>, NoMem>
+fn call<M: PlayModule>(alloc: Global, call: CallDecl<M::Kind>) -> Result<Call<Boxed<M>>, NoMem>
     ensures { IfOk result (λ made. made ≡ played_call call) }
 {
     let Some(declared) = call.push() else {
         return Ok(call.plain());
     };
-    let module = Instance::new(declared.shape().copy(alloc)?, Plain);
+    let object = M::object(alloc, declared.shape())?;
+    let module = Instance::new(declared.shape().copy(alloc)?, object);
     Ok(call.with_module(Boxed::new(alloc, module)?))
 }
 
 /// The calls of a process, in order. Refused for want of memory alone.
-fn script(alloc: Global, lines: Vec<CallLine>) -> Result<Script<Module>, NoMem>
+fn script<M: PlayModule>(
+    alloc: Global,
+    lines: Vec<CallLine<M::Kind>>,
+) -> Result<Script<Boxed<M>>, NoMem>
     ensures { IfOk result (λ made. made.calls.items ≡ map played_line lines.items) }
 {
     let mut calls = Vec::with_capacity(alloc, lines.len())?;
@@ -59,10 +61,10 @@ fn script(alloc: Global, lines: Vec<CallLine>) -> Result<Script<Module>, NoMem>
 }
 
 /// The calls of each process, and the processes without them. Refused for want of memory alone.
-fn scripts(
+fn scripts<M: PlayModule>(
     alloc: Global,
-    processes: Vec<ProcessDecl>,
-) -> Result<(Vec<ProcessDecl>, Vec<Script<Module>>), NoMem>
+    processes: Vec<ProcessDecl<M::Kind>>,
+) -> Result<(Vec<ProcessDecl<M::Kind>>, Vec<Script<Boxed<M>>>), NoMem>
     ensures names { IfOk result (λ both. names_of both.0.items ≡ names_of processes.items) }
     ensures calls { IfOk result (λ both. calls_of_scripts both.1.items ≡ calls_of_processes processes.items) }
 {
@@ -93,7 +95,7 @@ fn feeds(alloc: Global, decls: Vec<FeedDecl>) -> Result<Vec<Feed>, NoMem>
 /// left of the plan are the names of its streams and processes, by which a transcript is printed.
 ///
 /// Refused for want of memory alone.
-pub fn hand_over(alloc: Global, plan: Plan) -> Result<Handed, NoMem>
+pub fn hand_over<M: PlayModule>(alloc: Global, plan: Plan<M::Kind>) -> Result<Handed<M>, NoMem>
     ensures streams { IfOk result (λ handed. handed.plan.streams ≡ plan.streams) }
     ensures names { IfOk result (λ handed. names_of handed.plan.processes.items ≡ names_of plan.processes.items) }
     ensures setups { IfOk result (λ handed. handed.setups.items ≡ setups_of plan) }

@@ -5,7 +5,9 @@
 mod fault;
 mod handing;
 mod playing;
+mod pushing;
 
 pub use fault::PlayFault;
 pub use handing::{Handed, hand_over};
 pub use playing::{Outcome, play};
+pub use pushing::PlayModule;

@@ -1,24 +1,27 @@
 //! A script is read and run.
 ghost use Rattle.std.specs.Prelude.{◌≡◌, true, IfOk, IfErr};
+ghost use Rattle.strm_crew.specs.Run.{CallsFit};
 ghost use Rattle.strm_run.specs.There.{is_crew};
 ghost use Rattle.strm_play.specs.Played.{IsPlayed, IsFaultOf};
 
 use crate::fault::PlayFault;
 use crate::handing::{Handed, hand_over};
+use crate::pushing::PlayModule;
 use std::alloc::Global;
 use std::sync::Wait;
 use std::thread::Threads;
+use strm_history::SameKind;
 use strm_module::Kind;
-use strm_plan::{Plan, parse};
+use strm_plan::{Plan, ReadKind, parse};
 use strm_run::{Gate, Transcript, run};
 
 /// What is left of a script that was played.
 #[derive(Drop)]
-pub struct Outcome {
+pub struct Outcome<K = Kind> {
     /// The names of its streams and processes.
-    pub plan: Plan,
+    pub plan: Plan<K>,
     /// What became of each stream.
-    pub transcript: Transcript<Kind>,
+    pub transcript: Transcript<K>,
 }
 
 /// A gate that nobody waits at.
@@ -33,26 +36,32 @@ impl Gate for Open {
 /// Plays a script with as many worker threads as are asked for, 1 to `MOST_WORKERS`: its streams are made, the
 /// calls of its processes are made on them, and its feeds come in beside. It returns when all threads have ended.
 ///
+/// The modules are of type `M`, and of the kinds that its vocabulary has words for: `play::<Plain, _>` plays what
+/// `strsh` does, and a program plays scripts against kinds of its own by a type of its own.
+///
 /// Refused with `Script` and the first fault, where it is no script; then with `Run`: for want of memory before
 /// the run; then as a run is, with `Workers` exactly where there are not 1 to `MOST_WORKERS` of them, and never
 /// with `NoSuch`, since a script names no stream and no end that it has not declared.
-pub fn play<R: Threads + Wait + Sync>(
+pub fn play<M: PlayModule, R: Threads + Wait + Sync>(
     rt: &R,
     alloc: Global,
     bytes: &[u8],
     workers: u32,
-) -> Result<Outcome, PlayFault>
-    ensures played { IfOk result (λ outcome. IsPlayed bytes.now outcome) }
+) -> Result<Outcome<M::Kind>, PlayFault>
+where
+    M::Kind: ReadKind + SameKind + Send + Sync,
+    requires fits { CallsFit M.row M.Kind.row M.Kind.Kinds }
+    ensures played { IfOk result (λ outcome. IsPlayed M.Kind.means M.Kind.words bytes.now outcome) }
     ensures workers { IfOk result (λ _. is_crew workers ≡ true) }
-    ensures fault { IfErr result (λ fault. IsFaultOf bytes.now workers fault) }
+    ensures fault { IfErr result (λ fault. IsFaultOf M.Kind.words bytes.now workers fault) }
 {
-    let plan = parse(alloc, bytes)?;
+    let plan = parse::<M::Kind>(alloc, bytes)?;
     let Handed {
         plan,
         setups,
         scripts,
         feeds,
-    } = hand_over(alloc, plan)?;
+    } = hand_over::<M>(alloc, plan)?;
     let transcript = run(rt, alloc, setups, scripts, feeds, workers, &Open)?;
     Ok(Outcome { plan, transcript })
 }

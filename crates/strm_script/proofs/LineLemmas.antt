@@ -4,39 +4,39 @@ use Rattle.std.specs.Io.KnownBytes.{Appends}
 use Rattle.std.proofs.lemmas.List.{append-nil}
 use native.Mathlib.Numerals.{unary_clauses}
 use Rattle.strm_text.proofs.WriteLemmas.{appends_then}
-use Rattle.strm_module.specs.declared.kind.Kind.{Kind}
+use Rattle.strm_script.specs.Fields.{KindSpelling}
 use Rattle.strm_crew.specs.declared.transcript.StreamLog.{StreamLog}
 use Rattle.strm_plan.specs.Plan.{Streams, Process}
 use Rattle.strm_script.specs.Lines.{stream_text, streams_text, found_text}
 
 -- without logs there are no lines
-no_logs : (processes : List Process) (streams : Streams) → streams_text processes streams [] ≡ []
-no_logs processes [] = refl
-no_logs processes (stream ∷ streams) = refl
+no_logs : {K : Type 0} (spelling : KindSpelling K) (processes : List (Process K)) (streams : Streams) → streams_text spelling processes streams [] ≡ []
+no_logs spelling processes [] = refl
+no_logs spelling processes (stream ∷ streams) = refl
 
 -- one log more, and the lines of its stream
-pub one_more : (processes : List Process) (streams : Streams) (logs : List (StreamLog Kind)) (number : ℕ) (log : StreamLog Kind) → slice_get logs number ≡ Some log → streams_text processes streams (take (suc number) logs) ≡ streams_text processes streams (take number logs) ++ found_text processes (slice_get streams number) log
-one_more processes streams [] number log is = absurd cc
-one_more processes [] (first ∷ logs) zero log is = refl
-one_more processes (stream ∷ streams) (first ∷ logs) zero log is =
+pub one_more : {K : Type 0} (spelling : KindSpelling K) (processes : List (Process K)) (streams : Streams) (logs : List (StreamLog K)) (number : ℕ) (log : StreamLog K) → slice_get logs number ≡ Some log → streams_text spelling processes streams (take (suc number) logs) ≡ streams_text spelling processes streams (take number logs) ++ found_text spelling processes (slice_get streams number) log
+one_more spelling processes streams [] number log is = absurd cc
+one_more spelling processes [] (first ∷ logs) zero log is = refl
+one_more spelling processes (stream ∷ streams) (first ∷ logs) zero log is =
     let same : first ≡ log = cc in
-    ap (λ (rest : List ℕ). stream_text processes stream.0 stream.1 first ++ rest) (no_logs processes streams)
-    ∙ append-nil (stream_text processes stream.0 stream.1 first)
-    ∙ ap (stream_text processes stream.0 stream.1) same
-one_more processes [] (first ∷ logs) (suc number) log is = refl
-one_more processes (stream ∷ streams) (first ∷ logs) (suc number) log is =
-    ap (λ (rest : List ℕ). stream_text processes stream.0 stream.1 first ++ rest) (one_more processes streams logs number log is)
-    ∙ sym (append_assoc (stream_text processes stream.0 stream.1 first) (streams_text processes streams (take number logs)) (found_text processes (slice_get streams number) log))
+    ap (λ (rest : List ℕ). stream_text spelling processes stream.0 stream.1 first ++ rest) (no_logs spelling processes streams)
+    ∙ append-nil (stream_text spelling processes stream.0 stream.1 first)
+    ∙ ap (stream_text spelling processes stream.0 stream.1) same
+one_more spelling processes [] (first ∷ logs) (suc number) log is = refl
+one_more spelling processes (stream ∷ streams) (first ∷ logs) (suc number) log is =
+    ap (λ (rest : List ℕ). stream_text spelling processes stream.0 stream.1 first ++ rest) (one_more spelling processes streams logs number log is)
+    ∙ sym (append_assoc (stream_text spelling processes stream.0 stream.1 first) (streams_text spelling processes streams (take number logs)) (found_text spelling processes (slice_get streams number) log))
 
-one_more_at : (processes : List Process) (streams : Streams) (logs : List (StreamLog Kind)) (number : ℕ) (log : StreamLog Kind) → slice_get logs number ≡ Some log → streams_text processes streams (take (number + 1) logs) ≡ streams_text processes streams (take number logs) ++ found_text processes (slice_get streams number) log
-one_more_at processes streams logs number log is = simp unary_clauses (one_more processes streams logs number log is)
+one_more_at : {K : Type 0} (spelling : KindSpelling K) (processes : List (Process K)) (streams : Streams) (logs : List (StreamLog K)) (number : ℕ) (log : StreamLog K) → slice_get logs number ≡ Some log → streams_text spelling processes streams (take (number + 1) logs) ≡ streams_text spelling processes streams (take number logs) ++ found_text spelling processes (slice_get streams number) log
+one_more_at spelling processes streams logs number log is = simp unary_clauses (one_more spelling processes streams logs number log is)
 
 -- the lines of one log more are written
-pub one_more_written : (before between after : Option (List ℕ)) (processes : List Process) (streams : Streams) (logs : List (StreamLog Kind)) (number : ℕ) (log : StreamLog Kind) → slice_get logs number ≡ Some log → Appends before between (streams_text processes streams (take number logs)) → Appends between after (found_text processes (slice_get streams number) log) → Appends before after (streams_text processes streams (take (number + 1) logs))
-one_more_written before between after processes streams logs number log is one other =
-    rw (one_more_at processes streams logs number log is) (appends_then before between after (streams_text processes streams (take number logs)) (found_text processes (slice_get streams number) log) one other)
+pub one_more_written : {K : Type 0} (spelling : KindSpelling K) (before between after : Option (List ℕ)) (processes : List (Process K)) (streams : Streams) (logs : List (StreamLog K)) (number : ℕ) (log : StreamLog K) → slice_get logs number ≡ Some log → Appends before between (streams_text spelling processes streams (take number logs)) → Appends between after (found_text spelling processes (slice_get streams number) log) → Appends before after (streams_text spelling processes streams (take (number + 1) logs))
+one_more_written spelling before between after processes streams logs number log is one other =
+    rw (one_more_at spelling processes streams logs number log is) (appends_then before between after (streams_text spelling processes streams (take number logs)) (found_text spelling processes (slice_get streams number) log) one other)
 
 -- with no log there is nothing to write
-pub none_written : (contents : Option (List ℕ)) (processes : List Process) (streams : Streams) → Appends contents contents (streams_text processes streams [])
-none_written None processes streams = tt
-none_written (Some xs) processes streams = rw (no_logs processes streams) (sym (append-nil xs))
+pub none_written : {K : Type 0} (spelling : KindSpelling K) (contents : Option (List ℕ)) (processes : List (Process K)) (streams : Streams) → Appends contents contents (streams_text spelling processes streams [])
+none_written spelling None processes streams = tt
+none_written spelling (Some xs) processes streams = rw (no_logs spelling processes streams) (sym (append-nil xs))

@@ -34,6 +34,13 @@ spaced fields = flat_map (λ field. 32 ∷ text_of field) fields
 
 -- ---- modules
 
+-- how kinds of module are printed
+pub record KindSpelling (K : Type 0) : Type 0 where
+  -- the word of a kind
+  pub word : K → List ℕ
+  -- what it has behind the marks
+  pub fields : K → List Field
+
 abbrev pub word_of_kind : Kind → KindWord
 word_of_kind Kind.Pass = KindWord.Pass
 word_of_kind (Kind.Table map) = KindWord.Table
@@ -57,12 +64,16 @@ changed table = filter (λ byte. not (slice_index table byte == byte)) all_bytes
 abbrev pub images : List ℕ → List ℕ
 images table = map (slice_index table) (changed table)
 
--- what a kind has behind the marks
+-- what a built-in kind has behind the marks
 abbrev pub own_fields : Kind → List Field
 own_fields (Kind.Table table) = Bytes (changed table) ∷ Bytes (images table) ∷ []
 own_fields (Kind.Band b) = Number b ∷ []
 own_fields (Kind.Split n) = Number n ∷ []
 own_fields kind = []
+
+-- the built-in kinds, by the words by which scripts name them
+abbrev pub builtin_spelling : KindSpelling Kind
+builtin_spelling = record { word = λ kind. kind_word (word_of_kind kind); fields = own_fields }
 
 -- the marks of a side, or `-` where the module has no queue there
 abbrev pub side_field : Option WaterMarks → Field
@@ -70,20 +81,20 @@ side_field None = Word (codes "-")
 side_field (Some marks) = Pair marks.hi marks.lo
 
 -- KIND NAME RD WR, and what the kind has
-abbrev pub push_fields : Shape Kind → List Field
-push_fields shape =
-    Word (kind_word (word_of_kind shape.kind)) ∷ Word shape.name.items ∷ side_field shape.rd ∷ side_field shape.wr ∷ own_fields shape.kind
+abbrev pub push_fields : {K : Type 0} → KindSpelling K → Shape K → List Field
+push_fields spelling shape =
+    Word (spelling.word shape.kind) ∷ Word shape.name.items ∷ side_field shape.rd ∷ side_field shape.wr ∷ spelling.fields shape.kind
 
 -- ---- calls
 
-abbrev pub verb_of : Asked → Verb
+abbrev pub verb_of : {K : Type 0} → Asked K → Verb
 verb_of (Told verb fields) = verb
 verb_of (Pushed shape) = Verb.Push
 
 -- the fields behind NAME:END
-abbrev pub fields_of : Asked → List Field
-fields_of (Told verb fields) = fields
-fields_of (Pushed shape) = push_fields shape
+abbrev pub fields_of : {K : Type 0} → KindSpelling K → Asked K → List Field
+fields_of spelling (Told verb fields) = fields
+fields_of spelling (Pushed shape) = push_fields spelling shape
 
 -- ---- messages that came in
 

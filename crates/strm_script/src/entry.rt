@@ -8,19 +8,19 @@ ghost use Rattle.strm_script.specs.Lines as text;
 
 use crate::field::put_word;
 use crate::message::put_message;
+use crate::module::PrintKind;
 use crate::reply::put_answer;
 use crate::request::{put_fields, verb_of};
 use std::io::{self, Write};
 use strm_call::Request;
 use strm_head::Event;
 use strm_history::{Entry, Kept, Who};
-use strm_module::Kind;
 use strm_msg::End;
 use strm_plan::ProcessDecl;
 use strm_verb::PushDecl;
 
-/// The word of an end.
-pub(crate) fn end_word(end: End) -> &'static [u8]
+/// The word of an end: `a` or `b`.
+pub fn end_word(end: End) -> &'static [u8]
     ensures { result.now ≡ text.end_word end }
 {
     match end {
@@ -30,7 +30,7 @@ pub(crate) fn end_word(end: End) -> &'static [u8]
 }
 
 /// The name of the process of this number; nothing where there is none.
-fn name_at(processes: &[ProcessDecl], number: u32) -> &[u8]
+fn name_at<K>(processes: &[ProcessDecl<K>], number: u32) -> &[u8]
     ensures { result.now ≡ text.name_at (map process_view processes.now) number }
 {
     match processes.get(number as usize) {
@@ -40,7 +40,7 @@ fn name_at(processes: &[ProcessDecl], number: u32) -> &[u8]
 }
 
 /// Writes who made a step: the name of a process, or `line`.
-fn put_who<W: Write>(w: &mut W, processes: &[ProcessDecl], who: Who) -> io::Result<()>
+fn put_who<W: Write, K>(w: &mut W, processes: &[ProcessDecl<K>], who: Who) -> io::Result<()>
     ensures { OnOk result (Appends (W.contents w.old) (W.contents w.new) (text.who_text (map process_view processes.now) who)) }
 {
     match who {
@@ -62,27 +62,29 @@ fn put_target<W: Write>(w: &mut W, stream: &[u8], end: End) -> io::Result<()>
 
 /// Writes a call: its word, NAME:END, and its fields.
 #[tactic(auto, using(strm_text::proofs::WriteLemmas::appends_then), unfolding(crate::specs::Lines::call_text))]
-fn put_call<W: Write>(
+fn put_call<W: Write, K: PrintKind + Drop>(
     w: &mut W,
     stream: &[u8],
     end: End,
-    request: &Request<PushDecl>,
+    request: &Request<PushDecl<K>>,
 ) -> io::Result<()>
-    ensures { OnOk result (Appends (W.contents w.old) (W.contents w.new) (text.call_text stream.now end request.now)) }
+    ensures { OnOk result (Appends (W.contents w.old) (W.contents w.new) (text.call_text K.spelling stream.now end request.now)) }
 {
     put_word(w, verb_of(request).word())?;
     put_target(w, stream, end)?;
     put_fields(w, request)
 }
 
-/// Writes what happened: a call, or the message that came in.
-fn put_event<W: Write>(
+/// Writes what happened, as a transcript has it: ` VERB NAME:END FIELDS` of a call, or ` MESSAGE` of what came in.
+///
+/// Refused where the writer is, and with its error.
+pub fn put_event<W: Write, K: PrintKind + Drop>(
     w: &mut W,
     stream: &[u8],
     end: End,
-    event: &Event<PushDecl>,
+    event: &Event<PushDecl<K>>,
 ) -> io::Result<()>
-    ensures { OnOk result (Appends (W.contents w.old) (W.contents w.new) (text.event_text stream.now end event.now)) }
+    ensures { OnOk result (Appends (W.contents w.old) (W.contents w.new) (text.event_text K.spelling stream.now end event.now)) }
 {
     match event {
         Event::Asked(request) => put_call(w, stream, end, request),
@@ -92,13 +94,13 @@ fn put_event<W: Write>(
 
 /// Writes the line of a step.
 #[tactic(auto, using(strm_text::proofs::WriteLemmas::appends_then), unfolding(crate::specs::Lines::entry_text))]
-fn put_entry<W: Write>(
+fn put_entry<W: Write, K: PrintKind + Drop>(
     w: &mut W,
-    processes: &[ProcessDecl],
+    processes: &[ProcessDecl<K>],
     stream: &[u8],
-    entry: &Entry<Kind>,
+    entry: &Entry<K>,
 ) -> io::Result<()>
-    ensures { OnOk result (Appends (W.contents w.old) (W.contents w.new) (text.entry_text (map process_view processes.now) stream.now entry.now)) }
+    ensures { OnOk result (Appends (W.contents w.old) (W.contents w.new) (text.entry_text K.spelling (map process_view processes.now) stream.now entry.now)) }
 {
     put_who(w, processes, entry.who)?;
     put_event(w, stream, entry.end, &entry.event)?;
@@ -107,13 +109,13 @@ fn put_entry<W: Write>(
 
 /// Writes the lines of steps, one after another.
 #[tactic(auto, using(strm_text::proofs::WriteLemmas::appends_then))]
-pub(crate) fn put_entries<W: Write>(
+pub(crate) fn put_entries<W: Write, K: PrintKind + Drop>(
     w: &mut W,
-    processes: &[ProcessDecl],
+    processes: &[ProcessDecl<K>],
     stream: &[u8],
-    entries: &[Kept<Kind>],
+    entries: &[Kept<K>],
 ) -> io::Result<()>
-    ensures { OnOk result (Appends (W.contents w.old) (W.contents w.new) (text.entries_text (map process_view processes.now) stream.now entries.now)) }
+    ensures { OnOk result (Appends (W.contents w.old) (W.contents w.new) (text.entries_text K.spelling (map process_view processes.now) stream.now entries.now)) }
 {
     for kept in entries {
         put_entry(w, processes, stream, kept.entry())?;

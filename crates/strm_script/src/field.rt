@@ -11,26 +11,26 @@ use strm_call::Name;
 use strm_msg::Bytes;
 use strm_text::write_part;
 
-/// Writes a word.
+/// Writes a word behind a space. Refused where the writer is, and with its error.
 #[tactic(auto, using(strm_text::proofs::WriteLemmas::appends_then))]
-pub(crate) fn put_word<W: Write>(w: &mut W, word: &[u8]) -> io::Result<()>
+pub fn put_word<W: Write>(w: &mut W, word: &[u8]) -> io::Result<()>
     ensures { OnOk result (Appends (W.contents w.old) (W.contents w.new) (spaced (says.Word word.now ∷ []))) }
 {
     w.write_all(b" ")?;
     w.write_all(word)
 }
 
-/// Writes bytes as a part.
+/// Writes bytes as a PART behind a space. Refused where the writer is, and with its error.
 #[tactic(auto, using(strm_text::proofs::WriteLemmas::appends_then))]
-pub(crate) fn put_part<W: Write>(w: &mut W, bytes: &[u8]) -> io::Result<()>
+pub fn put_part<W: Write>(w: &mut W, bytes: &[u8]) -> io::Result<()>
     ensures { OnOk result (Appends (W.contents w.old) (W.contents w.new) (spaced (says.Bytes bytes.now ∷ []))) }
 {
     w.write_all(b" ")?;
     write_part(w, bytes)
 }
 
-/// Writes a number.
-pub(crate) fn put_number<W: Write>(w: &mut W, n: u64) -> io::Result<()>
+/// Writes a number behind a space. Refused where the writer is, and with its error.
+pub fn put_number<W: Write>(w: &mut W, n: u64) -> io::Result<()>
     ensures { OnOk result (Appends (W.contents w.old) (W.contents w.new) (spaced (says.Number n ∷ []))) }
 {
     write!(w, " {n}")
@@ -51,6 +51,19 @@ pub(crate) fn put_part_or_none<W: Write>(w: &mut W, part: &Option<Bytes>) -> io:
         None => put_word(w, b"-"),
         Some(part) => put_part(w, part.as_slice()),
     }
+}
+
+/// Writes the control and the data of a message, each as a part, or `-` where there is none.
+#[tactic(auto, using(strm_text::proofs::WriteLemmas::appends_then))]
+pub(crate) fn put_parts<W: Write>(
+    w: &mut W,
+    ctl: &Option<Bytes>,
+    dat: &Option<Bytes>,
+) -> io::Result<()>
+    ensures { OnOk result (Appends (W.contents w.old) (W.contents w.new) (spaced (says.part_field ctl.now ∷ says.part_field dat.now ∷ []))) }
+{
+    put_part_or_none(w, ctl)?;
+    put_part_or_none(w, dat)
 }
 
 /// Writes a maximum, or `-1` where there is none.

@@ -1,4 +1,5 @@
-//! Scripts and transcripts: what a program needs to read a script, and to print what its run leaves.
+//! Scripts and transcripts: what a program needs to read a script, and to print what its run leaves; and the parts of the lines of a
+//! transcript, for those who print them otherwise.
 #![tactic(auto)]
 
 mod entry;
@@ -10,9 +11,14 @@ mod reply;
 mod request;
 mod stream;
 
-pub use field::fields_are_read_back;
+pub use entry::{end_word, put_event};
+pub use field::{fields_are_read_back, put_number, put_part, put_word};
+pub use module::PrintKind;
 pub use printing::print;
+pub use reply::put_answer;
+pub use stream::{put_end, put_far_end, put_feed, put_heading};
 pub use strm_plan::{
-    CallDecl, CallLine, Cause, FeedDecl, LoadFault, Name, Plan, ProcessDecl, PushDecl, ScriptFault,
-    load, parse,
+    CallDecl, CallLine, Cause, FeedDecl, LoadFault, Name, Plan, ProcessDecl, PushDecl, ReadKind,
+    ScriptFault, load, parse,
 };
+pub use strm_verb::{ReadError, byte_at, number_at, part_at, short_at, word_at};

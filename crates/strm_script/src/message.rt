@@ -8,7 +8,7 @@ ghost use Rattle.strm_verb.specs.declared.arrival.MessageWord.TheVariants as mes
 ghost use Rattle.strm_verb.specs.Words as words;
 ghost use Rattle.strm_script.specs.Fields as text;
 
-use crate::field::{put_number, put_pair, put_part_or_none, put_word};
+use crate::field::{put_number, put_pair, put_part_or_none, put_parts, put_word};
 use std::io::{self, Write};
 use strm_msg::{Errno, Message, MsgKind, Prot, ReadMode};
 use strm_verb::{MessageWord, Verb, flush_word, mode_word, prot_word};
@@ -133,13 +133,11 @@ pub(crate) fn put_message<W: Write>(w: &mut W, m: &Message) -> io::Result<()>
         MsgKind::MProto => {
             put_word(w, MessageWord::Proto.word())?;
             put_number(w, u64::from(m.band))?;
-            put_part_or_none(w, &m.ctl)?;
-            put_part_or_none(w, &m.dat)
+            put_parts(w, &m.ctl, &m.dat)
         }
         MsgKind::MPcproto => {
             put_word(w, MessageWord::Pcproto.word())?;
-            put_part_or_none(w, &m.ctl)?;
-            put_part_or_none(w, &m.dat)
+            put_parts(w, &m.ctl, &m.dat)
         }
         MsgKind::MSetopts { mode, prot, marks } => put_options(w, mode, prot, marks),
         MsgKind::MFlush { r, w: write, band } => put_flush(w, band, r, write),

@@ -10,7 +10,32 @@ use strm_module::{Kind, Shape};
 use strm_msg::Marks;
 use strm_verb::KindWord;
 
-/// The word of a kind.
+/// Kinds of module that a transcript can name: the built-in ones of `Kind`, or those of a program.
+///
+/// An implementation gives as `spelling` what the two functions say. For a kind that has no fields of its own, with the
+/// word `turn`:
+///
+/// ```
+/// ghost spelling = { record { word = λ kind. codes "turn"; fields = λ kind. [] } };
+/// ```
+pub trait PrintKind {
+    ghost use Rattle.strm_script.specs.Fields.{KindSpelling, spaced};
+
+    ghost spelling: { KindSpelling Self };
+
+    /// The word of the kind, by which a push names it.
+    fn word(&self) -> &'static [u8]
+        ensures { result.now ≡ spelling.word self.now };
+
+    /// Writes what a push of the kind has for itself, behind the marks: each field behind a space, as `put_number`,
+    /// `put_part` and `put_word` write them.
+    ///
+    /// Refused where the writer is, and with its error.
+    fn put_fields<W: Write>(&self, w: &mut W) -> io::Result<()>
+        ensures { OnOk result (Appends (W.contents w.old) (W.contents w.new) (spaced (spelling.fields self.now))) };
+}
+
+/// The word of a built-in kind.
 fn word_of(kind: &Kind) -> KindWord
     ensures { result ≡ text.word_of_kind kind.now }
 {
@@ -55,7 +80,7 @@ fn images(table: &[u8; 256]) -> ArrayVec<u8, 256>
     all
 }
 
-/// Writes what a kind has behind the marks.
+/// Writes what a built-in kind has behind the marks.
 #[tactic(auto, using(strm_text::proofs::WriteLemmas::appends_then))]
 fn put_own<W: Write>(w: &mut W, kind: &Kind) -> io::Result<()>
     ensures { OnOk result (Appends (W.contents w.old) (W.contents w.new) (text.spaced (text.own_fields kind.now))) }
@@ -72,6 +97,21 @@ fn put_own<W: Write>(w: &mut W, kind: &Kind) -> io::Result<()>
     }
 }
 
+/// The built-in kinds, by the words by which scripts name them.
+impl PrintKind for Kind {
+    ghost use Rattle.strm_script.specs.Fields.{builtin_spelling};
+
+    ghost spelling = { builtin_spelling };
+
+    fn word(&self) -> &'static [u8] {
+        word_of(self).word()
+    }
+
+    fn put_fields<W: Write>(&self, w: &mut W) -> io::Result<()> {
+        put_own(w, self)
+    }
+}
+
 /// Writes the marks of a side, or `-` where the module has no queue there.
 fn put_side<W: Write>(w: &mut W, side: Option<Marks>) -> io::Result<()>
     ensures { OnOk result (Appends (W.contents w.old) (W.contents w.new) (text.spaced (text.side_field side ∷ []))) }
@@ -84,12 +124,12 @@ fn put_side<W: Write>(w: &mut W, side: Option<Marks>) -> io::Result<()>
 
 /// Writes a module: its kind, its name, the marks of its sides, and what the kind has.
 #[tactic(auto, using(strm_text::proofs::WriteLemmas::appends_then))]
-pub(crate) fn put_module<W: Write>(w: &mut W, shape: &Shape) -> io::Result<()>
-    ensures { OnOk result (Appends (W.contents w.old) (W.contents w.new) (text.spaced (text.push_fields shape.now))) }
+pub(crate) fn put_module<W: Write, K: PrintKind>(w: &mut W, shape: &Shape<K>) -> io::Result<()>
+    ensures { OnOk result (Appends (W.contents w.old) (W.contents w.new) (text.spaced (text.push_fields K.spelling shape.now))) }
 {
-    put_word(w, word_of(&shape.kind).word())?;
+    put_word(w, shape.kind.word())?;
     put_word(w, shape.name.as_slice())?;
     put_side(w, shape.rd)?;
     put_side(w, shape.wr)?;
-    put_own(w, &shape.kind)
+    shape.kind.put_fields(w)
 }

@@ -4,20 +4,20 @@ ghost use Rattle.std.specs.Io.KnownBytes.{Appends};
 ghost use Rattle.strm_plan.specs.Plan.{plan_view, process_view, streams_view};
 ghost use Rattle.strm_script.specs.Lines.{numbered_text, transcript_text};
 
+use crate::module::PrintKind;
 use crate::stream::put_stream;
 use std::io::{self, Write};
 use strm_crew::{StreamLog, Transcript};
-use strm_module::Kind;
 use strm_plan::Plan;
 
 /// Writes the lines of the stream of this number; nothing where the plan has none.
-fn put_numbered<W: Write>(
+fn put_numbered<W: Write, K: PrintKind + Drop>(
     w: &mut W,
-    plan: &Plan,
+    plan: &Plan<K>,
     number: usize,
-    log: &StreamLog<Kind>,
+    log: &StreamLog<K>,
 ) -> io::Result<()>
-    ensures { OnOk result (Appends (W.contents w.old) (W.contents w.new) (numbered_text (plan_view plan.now) number log.now)) }
+    ensures { OnOk result (Appends (W.contents w.old) (W.contents w.new) (numbered_text K.spelling (plan_view plan.now) number log.now)) }
 {
     match plan.streams.get_index(number) {
         Some((name, setup)) => {
@@ -37,8 +37,12 @@ fn put_numbered<W: Write>(
 /// Refused where the writer is, and with its error, after what could be written; for nothing else. Takes
 /// no memory.
 #[tactic(auto, using(crate::proofs::LineLemmas::one_more_written, crate::proofs::LineLemmas::none_written))]
-pub fn print<W: Write>(transcript: &Transcript<Kind>, plan: &Plan, w: &mut W) -> io::Result<()>
-    ensures text { OnOk result (Appends (W.contents w.old) (W.contents w.new) (transcript_text (plan_view plan.now) transcript.now.streams.items)) }
+pub fn print<W: Write, K: PrintKind + Drop>(
+    transcript: &Transcript<K>,
+    plan: &Plan<K>,
+    w: &mut W,
+) -> io::Result<()>
+    ensures text { OnOk result (Appends (W.contents w.old) (W.contents w.new) (transcript_text K.spelling (plan_view plan.now) transcript.now.streams.items)) }
 {
     for (number, log) in transcript.streams.iter().enumerate() {
         put_numbered(w, plan, number, log)?;

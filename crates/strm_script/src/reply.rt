@@ -5,7 +5,7 @@ ghost use Rattle.strm_script.specs.Fields.{spaced};
 ghost use Rattle.strm_script.specs.Lines.{answer_text};
 ghost use Rattle.strm_script.specs.Replies as text;
 
-use crate::field::{put_names, put_number, put_part, put_part_or_none, put_word};
+use crate::field::{put_names, put_number, put_part, put_part_or_none, put_parts, put_word};
 use std::io::{self, Write};
 use strm_call::{Acknowledged, Answer, More, Peeked, Received, Reply};
 use strm_verb::{mode_word, priority_word, prot_word};
@@ -51,8 +51,7 @@ fn put_peeked<W: Write>(w: &mut W, found: &Option<Peeked>) -> io::Result<()>
     match found {
         None => put_word(w, b"none"),
         Some(seen) => {
-            put_part_or_none(w, &seen.ctl)?;
-            put_part_or_none(w, &seen.dat)?;
+            put_parts(w, &seen.ctl, &seen.dat)?;
             put_word(w, priority_word(seen.flag))
         }
     }
@@ -95,8 +94,7 @@ fn put_reply<W: Write>(w: &mut W, reply: &Reply) -> io::Result<()>
             flag,
             more,
         } => {
-            put_part_or_none(w, ctl)?;
-            put_part_or_none(w, dat)?;
+            put_parts(w, ctl, dat)?;
             put_word(w, priority_word(*flag))?;
             put_word(w, more_word(*more))
         }
@@ -106,8 +104,7 @@ fn put_reply<W: Write>(w: &mut W, reply: &Reply) -> io::Result<()>
             flag,
             more,
         } => {
-            put_part_or_none(w, ctl)?;
-            put_part_or_none(w, dat)?;
+            put_parts(w, ctl, dat)?;
             put_received(w, *flag)?;
             put_word(w, more_word(*more))
         }
@@ -155,9 +152,11 @@ fn put_said<W: Write>(w: &mut W, answer: &Answer) -> io::Result<()>
     }
 }
 
-/// Writes ` : `, an answer, and the end of the line.
+/// Writes what was answered, as a transcript has it: ` : REPLY`, and the end of the line.
+///
+/// Refused where the writer is, and with its error.
 #[tactic(auto, using(strm_text::proofs::WriteLemmas::appends_then), unfolding(crate::specs::Lines::answer_text))]
-pub(crate) fn put_answer<W: Write>(w: &mut W, answer: &Answer) -> io::Result<()>
+pub fn put_answer<W: Write>(w: &mut W, answer: &Answer) -> io::Result<()>
     ensures { OnOk result (Appends (W.contents w.old) (W.contents w.new) (answer_text answer.now)) }
 {
     put_word(w, b":")?;

@@ -4,8 +4,8 @@ ghost use Rattle.std.specs.Io.KnownBytes.{Appends};
 ghost use Rattle.strm_verb.specs.Table.{asked_of};
 ghost use Rattle.strm_script.specs.Fields as text;
 
-use crate::field::{put_maximum, put_number, put_part, put_part_or_none, put_word};
-use crate::module::put_module;
+use crate::field::{put_maximum, put_number, put_part, put_part_or_none, put_parts, put_word};
+use crate::module::{PrintKind, put_module};
 use std::io::{self, Write};
 use strm_call::Request;
 use strm_verb::{
@@ -13,7 +13,7 @@ use strm_verb::{
 };
 
 /// Which call a request is.
-pub(crate) fn verb_of(request: &Request<PushDecl>) -> Verb
+pub(crate) fn verb_of<K>(request: &Request<PushDecl<K>>) -> Verb
     ensures { result ≡ text.verb_of (asked_of request.now) }
 {
     match request {
@@ -44,13 +44,15 @@ pub(crate) fn verb_of(request: &Request<PushDecl>) -> Verb
 
 /// Writes the fields of a call behind NAME:END.
 #[tactic(auto, using(strm_text::proofs::WriteLemmas::appends_then))]
-pub(crate) fn put_fields<W: Write>(w: &mut W, request: &Request<PushDecl>) -> io::Result<()>
-    ensures { OnOk result (Appends (W.contents w.old) (W.contents w.new) (text.spaced (text.fields_of (asked_of request.now)))) }
+pub(crate) fn put_fields<W: Write, K: PrintKind + Drop>(
+    w: &mut W,
+    request: &Request<PushDecl<K>>,
+) -> io::Result<()>
+    ensures { OnOk result (Appends (W.contents w.old) (W.contents w.new) (text.spaced (text.fields_of K.spelling (asked_of request.now)))) }
 {
     match request {
         Request::Putmsg { ctl, dat, flag } => {
-            put_part_or_none(w, ctl)?;
-            put_part_or_none(w, dat)?;
+            put_parts(w, ctl, dat)?;
             put_word(w, priority_word(*flag))
         }
         Request::Putpmsg {
@@ -59,8 +61,7 @@ pub(crate) fn put_fields<W: Write>(w: &mut W, request: &Request<PushDecl>) -> io
             band,
             flag,
         } => {
-            put_part_or_none(w, ctl)?;
-            put_part_or_none(w, dat)?;
+            put_parts(w, ctl, dat)?;
             put_number(w, u64::from(*band))?;
             put_word(w, strm_verb::put_word(*flag))
         }

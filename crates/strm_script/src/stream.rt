@@ -8,19 +8,21 @@ ghost use Rattle.strm_script.specs.Lines as text;
 
 use crate::entry::{end_word, put_entries};
 use crate::field::{put_names, put_number, put_word};
+use crate::module::PrintKind;
 use arrayvec::ArrayVec;
 use std::io::{self, Write};
 use strm_call::Name;
 use strm_crew::StreamLog;
 use strm_head::{Driver, MOST_MODULES};
 use strm_history::Setup;
-use strm_module::Kind;
 use strm_msg::End;
 use strm_plan::ProcessDecl;
 
-/// Writes an end: open, with the names of its modules, topmost first, or closed.
+/// Writes the line of an end: open, with the names of its modules, topmost first, or closed.
+///
+/// Refused where the writer is, and with its error.
 #[tactic(auto, using(strm_text::proofs::WriteLemmas::appends_then), unfolding(crate::specs::Lines::end_text))]
-fn put_end<W: Write>(
+pub fn put_end<W: Write>(
     w: &mut W,
     end: End,
     names: &Option<ArrayVec<Name, MOST_MODULES>>,
@@ -42,8 +44,10 @@ fn put_end<W: Write>(
     }
 }
 
-/// Writes end B, which a loop alone has.
-fn put_far_end<W: Write>(
+/// Writes the line of end B, which a loop alone has; nothing for the other drivers.
+///
+/// Refused where the writer is, and with its error.
+pub fn put_far_end<W: Write>(
     w: &mut W,
     driver: Driver,
     names: &Option<ArrayVec<Name, MOST_MODULES>>,
@@ -67,7 +71,7 @@ fn put_count<W: Write>(w: &mut W, word: &[u8], n: u64) -> io::Result<()>
 
 /// Writes how many messages of a feed were accepted, came in, and were handed back.
 #[tactic(auto, using(strm_text::proofs::WriteLemmas::appends_then), unfolding(crate::specs::Lines::counts_text))]
-fn put_counts<W: Write>(w: &mut W, log: &StreamLog<Kind>) -> io::Result<()>
+fn put_counts<W: Write, K>(w: &mut W, log: &StreamLog<K>) -> io::Result<()>
     ensures { OnOk result (Appends (W.contents w.old) (W.contents w.new) (text.counts_text log.now)) }
 {
     put_count(w, b"accepted", log.accepted)?;
@@ -75,9 +79,11 @@ fn put_counts<W: Write>(w: &mut W, log: &StreamLog<Kind>) -> io::Result<()>
     put_count(w, b"overrun", log.overrun)
 }
 
-/// Writes what became of the messages of a feed, which a line alone has.
+/// Writes the line of what became of the messages of a feed, which a line alone has; nothing for the other drivers.
+///
+/// Refused where the writer is, and with its error.
 #[tactic(auto, using(strm_text::proofs::WriteLemmas::appends_then), unfolding(crate::specs::Lines::feed_text))]
-fn put_feed<W: Write>(w: &mut W, driver: Driver, log: &StreamLog<Kind>) -> io::Result<()>
+pub fn put_feed<W: Write, K>(w: &mut W, driver: Driver, log: &StreamLog<K>) -> io::Result<()>
     ensures { OnOk result (Appends (W.contents w.old) (W.contents w.new) (text.feed_text driver log.now)) }
 {
     match driver {
@@ -90,9 +96,11 @@ fn put_feed<W: Write>(w: &mut W, driver: Driver, log: &StreamLog<Kind>) -> io::R
     }
 }
 
-/// Writes the line with a stream's name.
+/// Writes the line with a stream's name, `stream NAME`.
+///
+/// Refused where the writer is, and with its error.
 #[tactic(auto, using(strm_text::proofs::WriteLemmas::appends_then))]
-fn put_heading<W: Write>(w: &mut W, name: &[u8]) -> io::Result<()>
+pub fn put_heading<W: Write>(w: &mut W, name: &[u8]) -> io::Result<()>
     ensures { OnOk result (Appends (W.contents w.old) (W.contents w.new) (codes "stream" ++ spaced (Word name.now ∷ []) ++ (10 ∷ []))) }
 {
     w.write_all(b"stream")?;
@@ -102,14 +110,14 @@ fn put_heading<W: Write>(w: &mut W, name: &[u8]) -> io::Result<()>
 
 /// Writes the lines of a stream: its name, its steps, its ends, and what became of its feed.
 #[tactic(auto, using(strm_text::proofs::WriteLemmas::appends_then), unfolding(crate::specs::Lines::stream_text))]
-pub(crate) fn put_stream<W: Write>(
+pub(crate) fn put_stream<W: Write, K: PrintKind + Drop>(
     w: &mut W,
-    processes: &[ProcessDecl],
+    processes: &[ProcessDecl<K>],
     name: &[u8],
     setup: &Setup,
-    log: &StreamLog<Kind>,
+    log: &StreamLog<K>,
 ) -> io::Result<()>
-    ensures { OnOk result (Appends (W.contents w.old) (W.contents w.new) (text.stream_text (map process_view processes.now) name.now setup.now log.now)) }
+    ensures { OnOk result (Appends (W.contents w.old) (W.contents w.new) (text.stream_text K.spelling (map process_view processes.now) name.now setup.now log.now)) }
 {
     put_heading(w, name)?;
     put_entries(w, processes, name, log.history.as_slice())?;

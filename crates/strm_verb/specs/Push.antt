@@ -1,15 +1,14 @@
--- A push: the kind of the module, and the fields that follow from it.
-use Rattle.std.specs.Prelude.{ℕ, ◌+◌, ◌==◌, ◌&&◌, Bool, true, not, List, [], ◌∷◌, length, map, get_or, Result, Ok, Err, Option, codes, if◌then◌else◌}
+-- The words of the built-in kinds, and the fields of each.
+use Rattle.std.specs.Prelude.{ℕ, ◌==◌, ◌&&◌, Bool, true, not, List, [], ◌∷◌, length, map, get_or, Result, Ok, Err, Option, codes, if◌then◌else◌}
 use Rattle.std.specs.Str.{bytes_eq}
+use Rattle.std.specs.Option.{option_map}
 use Rattle.std.specs.List.{list_any, find, position_or_len, range_with_len}
 use Rattle.strm_module.specs.declared.kind.Kind.{Kind}
-use Rattle.strm_module.specs.declared.shape.Shape.{Shape}
-use Rattle.strm_module.specs.declared.shape.TheConstants.{LONGEST_NAME}
 use Rattle.strm_module.specs.declared.kind.TheConstants.{MOST_SPLIT}
 use Rattle.strm_module.specs.Shape.{is_split}
-use Rattle.strm_text.specs.Text.{name_of}
 use Rattle.strm_verb.specs.Fault.{◌>>=◌, or_fault}
-use Rattle.strm_verb.specs.Field.{number_at, part_at, side_at}
+use Rattle.strm_verb.specs.Field.{number_at, part_at}
+use Rattle.strm_verb.specs.Naming.{KindWords}
 use Rattle.strm_verb.specs.declared.fault.Cause.{Cause}
 use Rattle.strm_verb.specs.declared.fault.Cause.TheVariants as causes
 use Rattle.strm_verb.specs.declared.field.TheConstants.{MOST_BAND}
@@ -41,11 +40,6 @@ own_fields words.Table = 2
 own_fields words.Band = 1
 own_fields words.Split = 1
 own_fields word = 0
-
--- how many fields follow NAME:END in a push: KIND, NAME, RD, WR, and those of the kind
-abbrev pub push_arity : List (List ℕ) → Result ℕ Cause
-push_arity [] = Err causes.Fields
-push_arity (kind ∷ texts) = or_fault causes.UnknownWord (kind_named kind) >>= λ word. Ok (own_fields word + 4)
 
 -- each byte stands there once
 abbrev pub are_distinct : List ℕ → Bool
@@ -99,13 +93,9 @@ kind_at words.Tee texts = alone Kind.Tee texts
 kind_at words.Mute texts = alone Kind.Mute texts
 kind_at words.Split texts = size_at texts
 
--- the module that KIND NAME RD WR and the kind's own fields say, with this serial
-abbrev pub shape_at : ℕ → List (List ℕ) → Result (Shape Kind) Cause
-shape_at serial (kind ∷ name ∷ rd ∷ wr ∷ texts) = do
-  word ← or_fault causes.UnknownWord (kind_named kind)
-  chosen ← or_fault causes.Name (name_of LONGEST_NAME name)
-  read ← side_at rd
-  write ← side_at wr
-  begins ← kind_at word texts
-  Ok (record { serial = serial; name = record { items = chosen }; rd = read; wr = write; kind = begins })
-shape_at serial texts = Err causes.Fields
+-- the built-in kinds, as scripts name them
+abbrev pub builtin_words : KindWords Kind
+builtin_words = record {
+  fields = λ text. option_map own_fields (kind_named text);
+  begins = λ text texts. or_fault causes.UnknownWord (kind_named text) >>= λ word. kind_at word texts;
+}

@@ -2,13 +2,12 @@
 use Rattle.std.specs.Prelude.{ℕ, Bool, true, false, List, [], ◌∷◌, length, Option, Result, Ok, codes, if◌then◌else◌}
 use Rattle.std.specs.Str.{bytes_eq}
 use Rattle.std.specs.List.{find}
-use Rattle.strm_module.specs.declared.kind.Kind.{Kind}
 use Rattle.strm_module.specs.declared.shape.Shape.{Shape}
 use Rattle.strm_call.specs.declared.request.Request.{Request}
 use Rattle.strm_verb.specs.Fault.{◌>>=◌}
 use Rattle.strm_verb.specs.Words.{priority_word, priority_words, put_word, put_words, wanted_word, wanted_words, get_word, get_words, mode_word, mode_words, prot_word, prot_words, flush_word, flush_words}
 use Rattle.strm_verb.specs.Field.{Form, Whole, Optional, Maximum, Upto, Choice, Field, Bytes, Number, Word, part_field, maximum_field, fields_at}
-use Rattle.strm_verb.specs.Push.{push_arity, shape_at}
+use Rattle.strm_verb.specs.Naming.{KindWords, push_arity, shape_at}
 use Rattle.strm_verb.specs.declared.fault.Cause.{Cause}
 use Rattle.strm_verb.specs.declared.field.TheConstants.{MOST_ASKED, MOST_BAND, MOST_WORD}
 use Rattle.strm_verb.specs.declared.verb.Verb.{Verb}
@@ -68,11 +67,11 @@ is_push Verb.Push = true
 is_push verb = false
 
 -- what a call asks for: a verb with what its fields say, or a module to be pushed
-pub data Asked : Type 0 where
-  Told : (verb : Verb) → (fields : List Field) → Asked
-  Pushed : (shape : Shape Kind) → Asked
+pub data Asked (K : Type 0) : Type 0 where
+  Told : (verb : Verb) → (fields : List Field) → Asked K
+  Pushed : (shape : Shape K) → Asked K
 
-abbrev pub asked_of : Request (Shape Kind) → Asked
+abbrev pub asked_of : {K : Type 0} → Request (Shape K) → Asked K
 asked_of (Request.Putmsg ctl dat flag) = Told Verb.Putmsg (part_field ctl ∷ part_field dat ∷ Word (priority_word flag) ∷ [])
 asked_of (Request.Putpmsg ctl dat band flag) = Told Verb.Putpmsg (part_field ctl ∷ part_field dat ∷ Number band ∷ Word (put_word flag) ∷ [])
 asked_of (Request.Getmsg maxctl maxdat flag) = Told Verb.Getmsg (maximum_field maxctl ∷ maximum_field maxdat ∷ Word (wanted_word flag) ∷ [])
@@ -97,15 +96,15 @@ asked_of Request.Getband = Told Verb.Getband []
 asked_of Request.Close = Told Verb.Close []
 
 -- what a call asks for that has no fields
-abbrev pub plain_at : Asked → List (List ℕ) → Result Asked Cause
+abbrev pub plain_at : {K : Type 0} → Asked K → List (List ℕ) → Result (Asked K) Cause
 plain_at asked texts = fields_at [] texts >>= λ fields. Ok asked
 
 -- how many fields follow NAME:END
-abbrev pub arity_at : Verb → List (List ℕ) → Result ℕ Cause
-arity_at verb texts = if is_push verb then push_arity texts else Ok (length (forms_of verb))
+abbrev pub arity_at : {K : Type 0} → KindWords K → Verb → List (List ℕ) → Result ℕ Cause
+arity_at words verb texts = if is_push verb then push_arity words texts else Ok (length (forms_of verb))
 
 -- what a call of this verb with these fields asks for; the module of a push gets this serial
-abbrev pub request_at : ℕ → Verb → List (List ℕ) → Result Asked Cause
-request_at serial verb texts =
-    if is_push verb then (shape_at serial texts >>= λ shape. Ok (Pushed shape))
+abbrev pub request_at : {K : Type 0} → KindWords K → ℕ → Verb → List (List ℕ) → Result (Asked K) Cause
+request_at words serial verb texts =
+    if is_push verb then (shape_at words serial texts >>= λ shape. Ok (Pushed shape))
     else (fields_at (forms_of verb) texts >>= λ fields. Ok (Told verb fields))

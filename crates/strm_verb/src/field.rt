@@ -37,7 +37,7 @@ pub fn number_at(text: &[u8], most: u64) -> Result<u64, ReadError>
 }
 
 /// A number up to `MOST_BAND`. Refused where the text is none.
-pub(crate) fn byte_at(text: &[u8]) -> Result<u8, ReadError>
+pub fn byte_at(text: &[u8]) -> Result<u8, ReadError>
     ensures { Gives (λ n. n) result (fields.number_at MOST_BAND text.now) }
 {
     match limited(text, MOST_BAND) {
@@ -47,7 +47,7 @@ pub(crate) fn byte_at(text: &[u8]) -> Result<u8, ReadError>
 }
 
 /// A number up to `MOST_ASKED`. Refused where the text is none.
-pub(crate) fn short_at(text: &[u8]) -> Result<u16, ReadError>
+pub fn short_at(text: &[u8]) -> Result<u16, ReadError>
     ensures { Gives (λ n. n) result (fields.number_at MOST_ASKED text.now) }
 {
     match limited(text, MOST_ASKED) {
@@ -57,7 +57,7 @@ pub(crate) fn short_at(text: &[u8]) -> Result<u16, ReadError>
 }
 
 /// A number up to `MOST_WORD`. Refused where the text is none.
-pub(crate) fn word_at(text: &[u8]) -> Result<u32, ReadError>
+pub fn word_at(text: &[u8]) -> Result<u32, ReadError>
     ensures { Gives (λ n. n) result (fields.number_at MOST_WORD text.now) }
 {
     match limited(text, MOST_WORD) {
@@ -67,7 +67,7 @@ pub(crate) fn word_at(text: &[u8]) -> Result<u32, ReadError>
 }
 
 /// The bytes of a part. Refused where the text is none, or for want of memory.
-pub(crate) fn part_at(alloc: Global, text: &[u8]) -> Result<Bytes, ReadError>
+pub fn part_at(alloc: Global, text: &[u8]) -> Result<Bytes, ReadError>
     ensures { Gives (λ bytes. bytes) result (fields.part_at text.now) }
 {
     match part(alloc, text)? {

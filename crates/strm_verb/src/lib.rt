@@ -4,6 +4,7 @@
 mod arrival;
 mod fault;
 mod field;
+mod kinds;
 mod push;
 mod request;
 mod verb;
@@ -11,8 +12,11 @@ mod words;
 
 pub use arrival::{MessageWord, message_at};
 pub use fault::{Cause, ReadError};
-pub use field::{MOST_ASKED, MOST_BAND, MOST_WORD, marks_at, number_at};
-pub use push::{KindWord, PushDecl};
+pub use field::{
+    MOST_ASKED, MOST_BAND, MOST_WORD, byte_at, marks_at, number_at, part_at, short_at, word_at,
+};
+pub use kinds::{PushDecl, ReadKind};
+pub use push::KindWord;
 pub use request::request_at;
 pub use verb::Verb;
 pub use words::{flush_word, get_word, mode_word, priority_word, prot_word, put_word, wanted_word};

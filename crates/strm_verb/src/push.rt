@@ -1,23 +1,17 @@
-//! What a push says of its module.
+//! The words of the built-in kinds.
 ghost use Rattle.std.specs.Prelude.{◌≡◌, ◌==◌, map};
 ghost use Rattle.std.specs.List.{list_any, position_or_len};
-ghost use Rattle.strm_text.specs.Text.{name_of};
-ghost use Rattle.strm_verb.specs.Fault.{Gives, or_fault};
+ghost use Rattle.strm_verb.specs.Fault.{Gives};
 ghost use Rattle.strm_verb.specs.Push as pushes;
 
 use crate::fault::{Cause, ReadError};
-use crate::field::{byte_at, number_at, part_at, side_at};
-use arrayvec::ArrayVec;
+use crate::field::{byte_at, number_at, part_at};
+use crate::kinds::ReadKind;
 use std::alloc::Global;
-use strm_module::{BoxedShape, Kind, LONGEST_NAME, MOST_SPLIT, Shape};
+use strm_module::{Kind, MOST_SPLIT};
 use strm_msg::Bytes;
-use strm_text::name;
 
-/// The module that a push line declares: its serial, its name, its marks, and the kind with which
-/// it begins.
-pub type PushDecl = BoxedShape;
-
-/// The kind of a module, by its word alone.
+/// A built-in kind of module, by its word alone.
 #[derive(Clone, Copy, Debug, PartialEq, Eq)]
 pub enum KindWord {
     /// Passes each message on.
@@ -84,7 +78,7 @@ impl KindWord {
     }
 
     /// How many fields the kind has for itself, behind KIND NAME RD WR.
-    pub fn own_fields(self) -> usize
+    pub fn own_fields(self) -> u8
         ensures { result ≡ pushes.own_fields self }
     {
         match self {
@@ -97,20 +91,6 @@ impl KindWord {
             | KindWord::Tee
             | KindWord::Mute => 0,
         }
-    }
-}
-
-/// How many fields a push has behind NAME:END. Refused where the first is missing, and where it
-/// names no kind.
-pub(crate) fn push_arity(texts: &[&[u8]]) -> Result<usize, ReadError>
-    ensures { Gives (λ n. n) result (pushes.push_arity (map (λ text. text.now) texts.now)) }
-{
-    let [kind, ..] = texts else {
-        return Err(ReadError::Fault(Cause::Fields));
-    };
-    match KindWord::named(kind) {
-        Some(word) => Ok(word.own_fields() + 4),
-        None => Err(ReadError::Fault(Cause::UnknownWord)),
     }
 }
 
@@ -247,36 +227,21 @@ fn kind_at(alloc: Global, word: KindWord, texts: &[&[u8]]) -> Result<Kind, ReadE
     }
 }
 
-/// The name of a module. Refused where the text is none.
-fn name_at(text: &[u8]) -> Result<ArrayVec<u8, LONGEST_NAME>, ReadError>
-    ensures { Gives (λ name. name.items) result (or_fault Cause.Name (name_of LONGEST_NAME text.now)) }
-{
-    match name(text) {
-        Some(chosen) => Ok(chosen),
-        None => Err(ReadError::Fault(Cause::Name)),
-    }
-}
+/// The built-in kinds, by their words.
+impl ReadKind for Kind {
+    ghost use Rattle.strm_verb.specs.Push.{builtin_words};
 
-/// The module of KIND NAME RD WR and the fields of its kind. Refused, from left to right, for the
-/// first field that does not say what it should.
-pub(crate) fn shape_at(alloc: Global, serial: u64, texts: &[&[u8]]) -> Result<Shape, ReadError>
-    ensures { Gives (λ shape. shape) result (pushes.shape_at serial (map (λ text. text.now) texts.now)) }
-{
-    let [kind, chosen, rd, wr, own @ ..] = texts else {
-        return Err(ReadError::Fault(Cause::Fields));
-    };
-    let Some(word) = KindWord::named(kind) else {
-        return Err(ReadError::Fault(Cause::UnknownWord));
-    };
-    let name = name_at(chosen)?;
-    let rd = side_at(rd)?;
-    let wr = side_at(wr)?;
-    let kind = kind_at(alloc, word, own)?;
-    Ok(Shape {
-        serial,
-        name,
-        rd,
-        wr,
-        kind,
-    })
+    ghost words = { builtin_words };
+
+    fn fields(word: &[u8]) -> Option<u8> {
+        let word = KindWord::named(word)?;
+        Some(word.own_fields())
+    }
+
+    fn begins(alloc: Global, word: &[u8], texts: &[&[u8]]) -> Result<Kind, ReadError> {
+        match KindWord::named(word) {
+            Some(word) => kind_at(alloc, word, texts),
+            None => Err(ReadError::Fault(Cause::UnknownWord)),
+        }
+    }
 }

@@ -5,15 +5,15 @@ ghost use Rattle.strm_verb.specs.Table as table;
 
 use crate::fault::{Cause, ReadError};
 use crate::field::{byte_at, maximum_at, optional_at, part_at, short_at, word_at};
-use crate::push::{PushDecl, shape_at};
+use crate::kinds::{PushDecl, ReadKind, shape_at};
 use crate::verb::Verb;
 use crate::words::{flush_at, get_at, mode_at, priority_at, prot_at, put_at, wanted_at};
 use std::alloc::Global;
 use strm_call::Request;
 
 /// `putmsg CTL DAT FLAG`.
-fn putmsg(alloc: Global, texts: &[&[u8]]) -> Result<Request<PushDecl>, ReadError>
-    ensures { Gives table.asked_of result (table.request_at 0 Verb.Putmsg (map (λ text. text.now) texts.now)) }
+fn putmsg<K: ReadKind>(alloc: Global, texts: &[&[u8]]) -> Result<Request<PushDecl<K>>, ReadError>
+    ensures { Gives table.asked_of result (table.request_at K.words 0 Verb.Putmsg (map (λ text. text.now) texts.now)) }
 {
     let [ctl, dat, flag] = texts else {
         return Err(ReadError::Fault(Cause::Fields));
@@ -25,8 +25,8 @@ fn putmsg(alloc: Global, texts: &[&[u8]]) -> Result<Request<PushDecl>, ReadError
 }
 
 /// `putpmsg CTL DAT BAND FLAG`.
-fn putpmsg(alloc: Global, texts: &[&[u8]]) -> Result<Request<PushDecl>, ReadError>
-    ensures { Gives table.asked_of result (table.request_at 0 Verb.Putpmsg (map (λ text. text.now) texts.now)) }
+fn putpmsg<K: ReadKind>(alloc: Global, texts: &[&[u8]]) -> Result<Request<PushDecl<K>>, ReadError>
+    ensures { Gives table.asked_of result (table.request_at K.words 0 Verb.Putpmsg (map (λ text. text.now) texts.now)) }
 {
     let [ctl, dat, band, flag] = texts else {
         return Err(ReadError::Fault(Cause::Fields));
@@ -44,8 +44,8 @@ fn putpmsg(alloc: Global, texts: &[&[u8]]) -> Result<Request<PushDecl>, ReadErro
 }
 
 /// `getmsg MAXCTL MAXDAT FLAG`.
-fn getmsg(texts: &[&[u8]]) -> Result<Request<PushDecl>, ReadError>
-    ensures { Gives table.asked_of result (table.request_at 0 Verb.Getmsg (map (λ text. text.now) texts.now)) }
+fn getmsg<K: ReadKind>(texts: &[&[u8]]) -> Result<Request<PushDecl<K>>, ReadError>
+    ensures { Gives table.asked_of result (table.request_at K.words 0 Verb.Getmsg (map (λ text. text.now) texts.now)) }
 {
     let [maxctl, maxdat, flag] = texts else {
         return Err(ReadError::Fault(Cause::Fields));
@@ -61,8 +61,8 @@ fn getmsg(texts: &[&[u8]]) -> Result<Request<PushDecl>, ReadError>
 }
 
 /// `getpmsg MAXCTL MAXDAT BAND FLAG`.
-fn getpmsg(texts: &[&[u8]]) -> Result<Request<PushDecl>, ReadError>
-    ensures { Gives table.asked_of result (table.request_at 0 Verb.Getpmsg (map (λ text. text.now) texts.now)) }
+fn getpmsg<K: ReadKind>(texts: &[&[u8]]) -> Result<Request<PushDecl<K>>, ReadError>
+    ensures { Gives table.asked_of result (table.request_at K.words 0 Verb.Getpmsg (map (λ text. text.now) texts.now)) }
 {
     let [maxctl, maxdat, band, flag] = texts else {
         return Err(ReadError::Fault(Cause::Fields));
@@ -80,8 +80,8 @@ fn getpmsg(texts: &[&[u8]]) -> Result<Request<PushDecl>, ReadError>
 }
 
 /// `read MAX`.
-fn read(texts: &[&[u8]]) -> Result<Request<PushDecl>, ReadError>
-    ensures { Gives table.asked_of result (table.request_at 0 Verb.Read (map (λ text. text.now) texts.now)) }
+fn read<K: ReadKind>(texts: &[&[u8]]) -> Result<Request<PushDecl<K>>, ReadError>
+    ensures { Gives table.asked_of result (table.request_at K.words 0 Verb.Read (map (λ text. text.now) texts.now)) }
 {
     let [max] = texts else {
         return Err(ReadError::Fault(Cause::Fields));
@@ -91,8 +91,8 @@ fn read(texts: &[&[u8]]) -> Result<Request<PushDecl>, ReadError>
 }
 
 /// `write DAT`.
-fn write(alloc: Global, texts: &[&[u8]]) -> Result<Request<PushDecl>, ReadError>
-    ensures { Gives table.asked_of result (table.request_at 0 Verb.Write (map (λ text. text.now) texts.now)) }
+fn write<K: ReadKind>(alloc: Global, texts: &[&[u8]]) -> Result<Request<PushDecl<K>>, ReadError>
+    ensures { Gives table.asked_of result (table.request_at K.words 0 Verb.Write (map (λ text. text.now) texts.now)) }
 {
     let [dat] = texts else {
         return Err(ReadError::Fault(Cause::Fields));
@@ -102,8 +102,8 @@ fn write(alloc: Global, texts: &[&[u8]]) -> Result<Request<PushDecl>, ReadError>
 }
 
 /// `find NAME`.
-fn find(alloc: Global, texts: &[&[u8]]) -> Result<Request<PushDecl>, ReadError>
-    ensures { Gives table.asked_of result (table.request_at 0 Verb.Find (map (λ text. text.now) texts.now)) }
+fn find<K: ReadKind>(alloc: Global, texts: &[&[u8]]) -> Result<Request<PushDecl<K>>, ReadError>
+    ensures { Gives table.asked_of result (table.request_at K.words 0 Verb.Find (map (λ text. text.now) texts.now)) }
 {
     let [name] = texts else {
         return Err(ReadError::Fault(Cause::Fields));
@@ -113,8 +113,8 @@ fn find(alloc: Global, texts: &[&[u8]]) -> Result<Request<PushDecl>, ReadError>
 }
 
 /// `str CMD DAT`.
-fn str(alloc: Global, texts: &[&[u8]]) -> Result<Request<PushDecl>, ReadError>
-    ensures { Gives table.asked_of result (table.request_at 0 Verb.Str (map (λ text. text.now) texts.now)) }
+fn str<K: ReadKind>(alloc: Global, texts: &[&[u8]]) -> Result<Request<PushDecl<K>>, ReadError>
+    ensures { Gives table.asked_of result (table.request_at K.words 0 Verb.Str (map (λ text. text.now) texts.now)) }
 {
     let [cmd, dat] = texts else {
         return Err(ReadError::Fault(Cause::Fields));
@@ -125,8 +125,8 @@ fn str(alloc: Global, texts: &[&[u8]]) -> Result<Request<PushDecl>, ReadError>
 }
 
 /// `flush SIDES`.
-fn flush(texts: &[&[u8]]) -> Result<Request<PushDecl>, ReadError>
-    ensures { Gives table.asked_of result (table.request_at 0 Verb.Flush (map (λ text. text.now) texts.now)) }
+fn flush<K: ReadKind>(texts: &[&[u8]]) -> Result<Request<PushDecl<K>>, ReadError>
+    ensures { Gives table.asked_of result (table.request_at K.words 0 Verb.Flush (map (λ text. text.now) texts.now)) }
 {
     let [sides] = texts else {
         return Err(ReadError::Fault(Cause::Fields));
@@ -136,8 +136,8 @@ fn flush(texts: &[&[u8]]) -> Result<Request<PushDecl>, ReadError>
 }
 
 /// `flushband BAND SIDES`.
-fn flush_band(texts: &[&[u8]]) -> Result<Request<PushDecl>, ReadError>
-    ensures { Gives table.asked_of result (table.request_at 0 Verb.FlushBand (map (λ text. text.now) texts.now)) }
+fn flush_band<K: ReadKind>(texts: &[&[u8]]) -> Result<Request<PushDecl<K>>, ReadError>
+    ensures { Gives table.asked_of result (table.request_at K.words 0 Verb.FlushBand (map (λ text. text.now) texts.now)) }
 {
     let [band, sides] = texts else {
         return Err(ReadError::Fault(Cause::Fields));
@@ -148,8 +148,8 @@ fn flush_band(texts: &[&[u8]]) -> Result<Request<PushDecl>, ReadError>
 }
 
 /// `peek MAXCTL MAXDAT FLAG`.
-fn peek(texts: &[&[u8]]) -> Result<Request<PushDecl>, ReadError>
-    ensures { Gives table.asked_of result (table.request_at 0 Verb.Peek (map (λ text. text.now) texts.now)) }
+fn peek<K: ReadKind>(texts: &[&[u8]]) -> Result<Request<PushDecl<K>>, ReadError>
+    ensures { Gives table.asked_of result (table.request_at K.words 0 Verb.Peek (map (λ text. text.now) texts.now)) }
 {
     let [maxctl, maxdat, flag] = texts else {
         return Err(ReadError::Fault(Cause::Fields));
@@ -165,8 +165,8 @@ fn peek(texts: &[&[u8]]) -> Result<Request<PushDecl>, ReadError>
 }
 
 /// `setread MODE PROT`.
-fn set_read(texts: &[&[u8]]) -> Result<Request<PushDecl>, ReadError>
-    ensures { Gives table.asked_of result (table.request_at 0 Verb.SetRead (map (λ text. text.now) texts.now)) }
+fn set_read<K: ReadKind>(texts: &[&[u8]]) -> Result<Request<PushDecl<K>>, ReadError>
+    ensures { Gives table.asked_of result (table.request_at K.words 0 Verb.SetRead (map (λ text. text.now) texts.now)) }
 {
     let [mode, prot] = texts else {
         return Err(ReadError::Fault(Cause::Fields));
@@ -177,8 +177,8 @@ fn set_read(texts: &[&[u8]]) -> Result<Request<PushDecl>, ReadError>
 }
 
 /// `canput BAND`.
-fn canput(texts: &[&[u8]]) -> Result<Request<PushDecl>, ReadError>
-    ensures { Gives table.asked_of result (table.request_at 0 Verb.Canput (map (λ text. text.now) texts.now)) }
+fn canput<K: ReadKind>(texts: &[&[u8]]) -> Result<Request<PushDecl<K>>, ReadError>
+    ensures { Gives table.asked_of result (table.request_at K.words 0 Verb.Canput (map (λ text. text.now) texts.now)) }
 {
     let [band] = texts else {
         return Err(ReadError::Fault(Cause::Fields));
@@ -188,8 +188,8 @@ fn canput(texts: &[&[u8]]) -> Result<Request<PushDecl>, ReadError>
 }
 
 /// `ckband BAND`.
-fn ckband(texts: &[&[u8]]) -> Result<Request<PushDecl>, ReadError>
-    ensures { Gives table.asked_of result (table.request_at 0 Verb.Ckband (map (λ text. text.now) texts.now)) }
+fn ckband<K: ReadKind>(texts: &[&[u8]]) -> Result<Request<PushDecl<K>>, ReadError>
+    ensures { Gives table.asked_of result (table.request_at K.words 0 Verb.Ckband (map (λ text. text.now) texts.now)) }
 {
     let [band] = texts else {
         return Err(ReadError::Fault(Cause::Fields));
@@ -199,15 +199,22 @@ fn ckband(texts: &[&[u8]]) -> Result<Request<PushDecl>, ReadError>
 }
 
 /// `push KIND NAME RD WR` and the fields of the kind.
-fn push(alloc: Global, serial: u64, texts: &[&[u8]]) -> Result<Request<PushDecl>, ReadError>
-    ensures { Gives table.asked_of result (table.request_at serial Verb.Push (map (λ text. text.now) texts.now)) }
+fn push<K: ReadKind>(
+    alloc: Global,
+    serial: u64,
+    texts: &[&[u8]],
+) -> Result<Request<PushDecl<K>>, ReadError>
+    ensures { Gives table.asked_of result (table.request_at K.words serial Verb.Push (map (λ text. text.now) texts.now)) }
 {
     let instance = PushDecl::new(alloc, shape_at(alloc, serial, texts)?)?;
     Ok(Request::Push { instance })
 }
 
 /// A call without fields. Refused where there is one.
-fn plain(texts: &[&[u8]], request: Request<PushDecl>) -> Result<Request<PushDecl>, ReadError>
+fn plain<K: ReadKind>(
+    texts: &[&[u8]],
+    request: Request<PushDecl<K>>,
+) -> Result<Request<PushDecl<K>>, ReadError>
     ensures { Gives table.asked_of result (table.plain_at (table.asked_of request) (map (λ text. text.now) texts.now)) }
 {
     match texts {
@@ -219,13 +226,13 @@ fn plain(texts: &[&[u8]], request: Request<PushDecl>) -> Result<Request<PushDecl
 /// What a call asks for, by its fields behind NAME:END; the module of a push gets the serial.
 /// Refused where there are others than it has, and then for the first that does not say what it
 /// should.
-pub fn request_at(
+pub fn request_at<K: ReadKind>(
     alloc: Global,
     serial: u64,
     verb: Verb,
     texts: &[&[u8]],
-) -> Result<Request<PushDecl>, ReadError>
-    ensures { Gives table.asked_of result (table.request_at serial verb (map (λ text. text.now) texts.now)) }
+) -> Result<Request<PushDecl<K>>, ReadError>
+    ensures { Gives table.asked_of result (table.request_at K.words serial verb (map (λ text. text.now) texts.now)) }
 {
     match verb {
         Verb::Putmsg => putmsg(alloc, texts),

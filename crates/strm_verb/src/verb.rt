@@ -4,7 +4,7 @@ ghost use Rattle.strm_verb.specs.Fault.{Gives};
 ghost use Rattle.strm_verb.specs.Table as table;
 
 use crate::fault::ReadError;
-use crate::push::push_arity;
+use crate::kinds::{ReadKind, push_arity};
 
 /// A call on an end of a stream.
 #[derive(Clone, Copy, Debug, PartialEq, Eq)]
@@ -146,11 +146,11 @@ impl Verb {
 
     /// How many fields the call has behind NAME:END; for a push that hangs on the first of them,
     /// which is refused where it is missing or names no kind of module.
-    pub fn arity(self, texts: &[&[u8]]) -> Result<usize, ReadError>
-        ensures { Gives (λ n. n) result (table.arity_at self (map (λ text. text.now) texts.now)) }
+    pub fn arity<K: ReadKind>(self, texts: &[&[u8]]) -> Result<usize, ReadError>
+        ensures { Gives (λ n. n) result (table.arity_at K.words self (map (λ text. text.now) texts.now)) }
     {
         if matches!(self, Verb::Push) {
-            return push_arity(texts);
+            return push_arity::<K>(texts);
         }
         Ok(self.count())
     }

@@ -2,6 +2,7 @@
 ghost use Rattle.std.specs.Prelude.{OnOk};
 ghost use Rattle.std.specs.Io.KnownBytes.{Appends};
 ghost use Rattle.strm_plan.specs.Plan.{plan_view};
+ghost use Rattle.strm_script.specs.Fields.{builtin_spelling};
 ghost use Rattle.strm_script.specs.Lines.{transcript_text};
 
 use crate::fault::Fault;
@@ -12,6 +13,7 @@ use std::io::{self, BufWriter, Write};
 use std::rt::Files;
 use std::sync::Wait;
 use std::thread::Threads;
+use strm_module::Plain;
 use strm_play::{Outcome, play};
 use strm_script::{LoadFault, load, print};
 
@@ -25,7 +27,7 @@ fn script<R: Files>(rt: &R, alloc: Global, path: &str) -> Result<Vec<u8>, LoadFa
 /// Refused where the writer is, and with its error.
 pub fn put<W: Write>(outcome: &Outcome, w: &mut W) -> io::Result<()>
     ensures text { OnOk result (Appends (W.contents w.old) (W.contents w.new)
-        (transcript_text (plan_view outcome.now.plan) outcome.now.transcript.streams.items)) }
+        (transcript_text builtin_spelling (plan_view outcome.now.plan) outcome.now.transcript.streams.items)) }
 {
     print(&outcome.transcript, &outcome.plan, w)?;
     w.flush()
@@ -50,6 +52,6 @@ pub fn serve<R: Files + Print + Threads + Wait + AllocGlobal + Sync>(
     let alloc = rt.alloc();
     let options = Options::read(alloc, words)?;
     let bytes = script(rt, alloc, options.path)?;
-    let outcome = play(rt, alloc, bytes.as_slice(), options.workers)?;
+    let outcome = play::<Plain, R>(rt, alloc, bytes.as_slice(), options.workers)?;
     put_out(rt, alloc, &outcome)
 }

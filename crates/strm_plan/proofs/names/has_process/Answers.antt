@@ -7,6 +7,6 @@ use Rattle.strm_plan.proofs.StreamLemmas.{any_name}
 use Rattle.strm_plan.proofs.names.has_process.Goals as goal
 
 pub returns : goal.returns
-returns c =
-    any_from_yields_List (λ (process : ProcessDecl). bytes_eq c.args.chosen.now.items process.name.items) _ _ _ c.any.ensures.ran (YieldsList-from_slice c.args.processes.now cc) (λ x b q k. search (rules, tests))
+returns g c =
+    any_from_yields_List (λ (process : ProcessDecl g.row.K.Denot). bytes_eq c.args.chosen.now.items process.name.items) _ _ _ c.any.ensures.ran (YieldsList-from_slice c.args.processes.now cc) (λ x b q k. search (rules, tests))
     ∙ any_name c.args.chosen.now.items c.args.processes.now

@@ -4,7 +4,7 @@ use Rattle.strm_play.proofs.MoreLemmas.{rest_shorter, one_made}
 use Rattle.strm_play.proofs.handing.script.Goals as goal
 
 pub loop-line-preserved : goal.loop-line-preserved
-loop-line-preserved c =
+loop-line-preserved g c =
     let was = c.loop-line.invariant in
     let next = c.in-Some.ensures.steps.0 in
     record {

@@ -5,7 +5,7 @@ use Rattle.strm_play.proofs.handing.script.Given as goal
 
 -- the calls so far are those that were declared
 abbrev pub invariant-loop-line : goal.invariant-loop-line
-invariant-loop-line l = record {
+invariant-loop-line g l = record {
   left : into_iter_len l.line-iterator ≡ length (into_iter_items l.line-iterator);
   rest : l.yielded ++ into_iter_items l.line-iterator ≡ l.fn.lines.items;
   made : l.calls.items ≡ map played_line l.yielded;

@@ -4,7 +4,7 @@ use Rattle.strm_play.proofs.MoreLemmas.{rest_shorter, one_more}
 use Rattle.strm_play.proofs.handing.scripts.Goals as goal
 
 pub loop-process-preserved : goal.loop-process-preserved
-loop-process-preserved c =
+loop-process-preserved g c =
     let was = c.loop-process.invariant in
     let next = c.in-Some.ensures.steps.0 in
     record {

@@ -5,7 +5,7 @@ use Rattle.strm_play.proofs.handing.scripts.Given as goal
 
 -- the scripts and the names so far are those of the processes
 abbrev pub invariant-loop-process : goal.invariant-loop-process
-invariant-loop-process l = record {
+invariant-loop-process g l = record {
   left : into_iter_len l.process-iterator ≡ length (into_iter_items l.process-iterator);
   rest : l.yielded ++ into_iter_items l.process-iterator ≡ l.fn.processes.items;
   names : names_of l.named.items ≡ names_of l.yielded;

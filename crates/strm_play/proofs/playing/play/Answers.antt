@@ -9,7 +9,7 @@ use Rattle.strm_play.proofs.playing.play.Goals as goal
 
 pub returns-in_err-plan-2-clause-fault : goal.returns-in_err-plan-2-clause-fault
 returns-in_err-plan-2-clause-fault g c =
-    let told : IsFaultOfRun c.args.bytes.now c.args.workers runs.NoMem = record { plan = c.in_ok-plan.plan; spells = c.in_ok-plan.ensures.spells; may = refl } in
+    let told : IsFaultOfRun g.M.Kind.ReadKind.words c.args.bytes.now c.args.workers runs.NoMem = record { plan = c.in_ok-plan.plan; spells = c.in_ok-plan.ensures.spells; may = refl } in
     search rules
 
 pub run-requires-clause-few : goal.run-requires-clause-few
@@ -32,7 +32,7 @@ returns-in_err-transcript-clause-fault g c =
     let sound = c.in_ok-plan.ensures.sound in
     let there = all_there c.in_ok-plan.plan.streams.entries _ c.in_ok-plan.plan.processes.items _ c.in_ok-plan.plan.feeds.items handed.scripts handed.feeds sound.calls sound.lines sound.once in
     let ran = c.in_err-transcript.ensures in
-    let told : IsFaultOfRun c.args.bytes.now c.args.workers c.in_err-transcript.field-0.0 = record {
+    let told : IsFaultOfRun g.M.Kind.ReadKind.words c.args.bytes.now c.args.workers c.in_err-transcript.field-0.0 = record {
       plan = c.in_ok-plan.plan;
       spells = c.in_ok-plan.ensures.spells;
       may = may_be c.args.workers c.in_err-transcript.field-0.0 _ refl ran.workers ran.no_such (rw handed.setups there);

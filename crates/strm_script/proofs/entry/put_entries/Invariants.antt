@@ -6,4 +6,4 @@ use Rattle.strm_script.proofs.entry.put_entries.Given as goal
 
 -- the steps so far are written
 abbrev pub invariant-loop-kept : goal.invariant-loop-kept
-invariant-loop-kept g l = Appends (g.W.Write.contents l.fn.w) (g.W.Write.contents l.w) (entries_text (map process_view l.processes) l.stream (take l.kept-index l.entries))
+invariant-loop-kept g l = Appends (g.W.Write.contents l.fn.w) (g.W.Write.contents l.w) (entries_text g.K.PrintKind.spelling (map process_view l.processes) l.stream (take l.kept-index l.entries))

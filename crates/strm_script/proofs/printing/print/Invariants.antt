@@ -7,4 +7,4 @@ use Rattle.strm_script.proofs.printing.print.Given as goal
 -- the logs so far are written
 abbrev pub invariant-loop-number : goal.invariant-loop-number
 invariant-loop-number g l =
-    Appends (g.W.Write.contents l.fn.w) (g.W.Write.contents l.w) (streams_text (map process_view l.plan.processes.items) (streams_view l.plan.streams.entries) (take l.number l.transcript.streams.items))
+    Appends (g.W.Write.contents l.fn.w) (g.W.Write.contents l.w) (streams_text g.K.PrintKind.spelling (map process_view l.plan.processes.items) (streams_view l.plan.streams.entries) (take l.number l.transcript.streams.items))

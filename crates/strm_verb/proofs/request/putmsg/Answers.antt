@@ -6,24 +6,24 @@ use Rattle.strm_verb.proofs.RequestLemmas.{at, optional, optional_fails, choice,
 use Rattle.strm_verb.proofs.request.putmsg.Goals as goal
 
 pub returns : goal.returns
-returns c =
+returns g c =
     let texts = c.args.texts.now in
-    of_three Verb.Putmsg texts Optional Optional (Choice priority_words) (part_field c.in_ok-ctl.ctl) (part_field c.in_ok-dat.dat) (Word (priority_word c.in_ok-flag.flag)) c.in-len3.len_at_least c.in-len3.len_below (optional (at texts 0) c.in_ok-ctl.ctl c.in_ok-ctl.ensures) (optional (at texts 1) c.in_ok-dat.dat c.in_ok-dat.ensures) (choice priority_words (at texts 2) (priority_word c.in_ok-flag.flag) c.in_ok-flag.ensures)
+    of_three g.row.K.Denot Verb.Putmsg texts Optional Optional (Choice priority_words) (part_field c.in_ok-ctl.ctl) (part_field c.in_ok-dat.dat) (Word (priority_word c.in_ok-flag.flag)) c.in-len3.len_at_least c.in-len3.len_below (optional (at texts 0) c.in_ok-ctl.ctl c.in_ok-ctl.ensures) (optional (at texts 1) c.in_ok-dat.dat c.in_ok-dat.ensures) (choice priority_words (at texts 2) (priority_word c.in_ok-flag.flag) c.in_ok-flag.ensures)
 
 pub returns-in_err-ctl : goal.returns-in_err-ctl
-returns-in_err-ctl c =
+returns-in_err-ctl g c =
     let texts = c.args.texts.now in
-    let fails = three_fails_0 Verb.Putmsg texts c.in_err-ctl.field-0.0 Optional Optional (Choice priority_words) c.in-len3.len_at_least c.in-len3.len_below (optional_fails c.in_err-ctl.field-0.0 (at texts 0) c.in_err-ctl.ensures) in
+    let fails = three_fails_0 g.row.K.Denot Verb.Putmsg texts c.in_err-ctl.field-0.0 Optional Optional (Choice priority_words) c.in-len3.len_at_least c.in-len3.len_below (optional_fails c.in_err-ctl.field-0.0 (at texts 0) c.in_err-ctl.ensures) in
     search rules
 
 pub returns-in_err-dat : goal.returns-in_err-dat
-returns-in_err-dat c =
+returns-in_err-dat g c =
     let texts = c.args.texts.now in
-    let fails = three_fails_1 Verb.Putmsg texts c.in_err-dat.field-0.0 Optional Optional (Choice priority_words) (part_field c.in_ok-ctl.ctl) c.in-len3.len_at_least c.in-len3.len_below (optional (at texts 0) c.in_ok-ctl.ctl c.in_ok-ctl.ensures) (optional_fails c.in_err-dat.field-0.0 (at texts 1) c.in_err-dat.ensures) in
+    let fails = three_fails_1 g.row.K.Denot Verb.Putmsg texts c.in_err-dat.field-0.0 Optional Optional (Choice priority_words) (part_field c.in_ok-ctl.ctl) c.in-len3.len_at_least c.in-len3.len_below (optional (at texts 0) c.in_ok-ctl.ctl c.in_ok-ctl.ensures) (optional_fails c.in_err-dat.field-0.0 (at texts 1) c.in_err-dat.ensures) in
     search rules
 
 pub returns-in_err-flag : goal.returns-in_err-flag
-returns-in_err-flag c =
+returns-in_err-flag g c =
     let texts = c.args.texts.now in
-    let fails = three_fails_2 Verb.Putmsg texts c.in_err-flag.field-0.0 Optional Optional (Choice priority_words) (part_field c.in_ok-ctl.ctl) (part_field c.in_ok-dat.dat) c.in-len3.len_at_least c.in-len3.len_below (optional (at texts 0) c.in_ok-ctl.ctl c.in_ok-ctl.ensures) (optional (at texts 1) c.in_ok-dat.dat c.in_ok-dat.ensures) (choice_fails c.in_err-flag.field-0.0 priority_words (at texts 2) c.in_err-flag.ensures) in
+    let fails = three_fails_2 g.row.K.Denot Verb.Putmsg texts c.in_err-flag.field-0.0 Optional Optional (Choice priority_words) (part_field c.in_ok-ctl.ctl) (part_field c.in_ok-dat.dat) c.in-len3.len_at_least c.in-len3.len_below (optional (at texts 0) c.in_ok-ctl.ctl c.in_ok-ctl.ensures) (optional (at texts 1) c.in_ok-dat.dat c.in_ok-dat.ensures) (choice_fails c.in_err-flag.field-0.0 priority_words (at texts 2) c.in_err-flag.ensures) in
     search rules

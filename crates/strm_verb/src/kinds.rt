@@ -1,0 +1,98 @@
+//! The kinds of module that a script can name, and the module that a push declares.
+ghost use Rattle.std.specs.Prelude.{◌≡◌, map};
+ghost use Rattle.strm_text.specs.Text.{name_of};
+ghost use Rattle.strm_verb.specs.Fault.{Gives, or_fault};
+ghost use Rattle.strm_verb.specs.Naming as naming;
+
+use crate::fault::{Cause, ReadError};
+use crate::field::side_at;
+use arrayvec::ArrayVec;
+use std::alloc::Global;
+use strm_module::{BoxedShape, Kind, LONGEST_NAME, Shape};
+use strm_text::name;
+
+/// The module that a push line declares: its serial, its name, its marks, and the kind with which
+/// it begins.
+pub type PushDecl<K = Kind> = BoxedShape<K>;
+
+/// Kinds of module that a script can name, each by a word: the built-in ones of `Kind`, or those of a program.
+///
+/// An implementation gives as `words` what the two functions answer. For a vocabulary of one kind
+/// that has no fields of its own, with the word `turn`:
+///
+/// ```
+/// ghost words = { record {
+///     fields = λ word. if bytes_eq word (codes "turn") then Some 0 else None;
+///     begins = λ word texts. if bytes_eq word (codes "turn") then Ok turn else Err Cause.UnknownWord;
+/// } };
+/// ```
+pub trait ReadKind: Drop {
+    ghost use Rattle.strm_verb.specs.Naming.{KindWords};
+
+    ghost words: { KindWords Self };
+
+    /// How many fields the kind of this word has for itself in a push, behind KIND NAME RD WR; nothing where no
+    /// kind has the word.
+    fn fields(word: &[u8]) -> Option<u8>
+        ensures { result ≡ words.fields word.now };
+
+    /// The kind with which a module begins, by its word and those fields. A script is read only where there are as
+    /// many of them as `fields` says.
+    ///
+    /// Refused where no kind has the word, and for the first field that does not say what it should; and for
+    /// want of memory, which says nothing of the text.
+    fn begins(alloc: Global, word: &[u8], texts: &[&[u8]]) -> Result<Self, ReadError>
+        ensures { Gives (λ kind. kind) result (words.begins word.now (map (λ text. text.now) texts.now)) };
+}
+
+/// How many fields a push has behind NAME:END. Refused where the first is missing, and where it
+/// names no kind.
+pub(crate) fn push_arity<K: ReadKind>(texts: &[&[u8]]) -> Result<usize, ReadError>
+    ensures { Gives (λ n. n) result (naming.push_arity K.words (map (λ text. text.now) texts.now)) }
+{
+    let [kind, ..] = texts else {
+        return Err(ReadError::Fault(Cause::Fields));
+    };
+    match K::fields(kind) {
+        Some(own) => Ok(usize::from(own) + 4),
+        None => Err(ReadError::Fault(Cause::UnknownWord)),
+    }
+}
+
+/// The name of a module. Refused where the text is none.
+fn name_at(text: &[u8]) -> Result<ArrayVec<u8, LONGEST_NAME>, ReadError>
+    ensures { Gives (λ name. name.items) result (or_fault Cause.Name (name_of LONGEST_NAME text.now)) }
+{
+    match name(text) {
+        Some(chosen) => Ok(chosen),
+        None => Err(ReadError::Fault(Cause::Name)),
+    }
+}
+
+/// The module of KIND NAME RD WR and the fields of its kind. Refused, from left to right, for the
+/// first field that does not say what it should.
+pub(crate) fn shape_at<K: ReadKind>(
+    alloc: Global,
+    serial: u64,
+    texts: &[&[u8]],
+) -> Result<Shape<K>, ReadError>
+    ensures { Gives (λ shape. shape) result (naming.shape_at K.words serial (map (λ text. text.now) texts.now)) }
+{
+    let [kind, chosen, rd, wr, own @ ..] = texts else {
+        return Err(ReadError::Fault(Cause::Fields));
+    };
+    if K::fields(kind).is_none() {
+        return Err(ReadError::Fault(Cause::UnknownWord));
+    }
+    let name = name_at(chosen)?;
+    let rd = side_at(rd)?;
+    let wr = side_at(wr)?;
+    let kind = K::begins(alloc, kind, own)?;
+    Ok(Shape {
+        serial,
+        name,
+        rd,
+        wr,
+        kind,
+    })
+}

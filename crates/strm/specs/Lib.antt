@@ -23,5 +23,7 @@ pub use Rattle.strm_verb.specs.Fault
 pub use Rattle.strm_verb.specs.Field
 pub use Rattle.strm_verb.specs.Naming
 pub use Rattle.strm_script.specs.Fields
+pub use Rattle.strm_script.specs.Lines
+pub use Rattle.strm_chart.specs.Chart
 pub use Rattle.strm_play.specs.Playing
 pub use Rattle.strm_play.specs.Played

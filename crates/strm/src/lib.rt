@@ -1,11 +1,12 @@
 //! STREAMS in user space: one crate for a program to list, with all that it needs as modules.
 //!
 //! Messages are in `msg`, modules in `module`, a stream in `head`, one that keeps its history in `history`, one that callers share in
-//! `shared`, runs in `run`, scripts in `play` and `script`, and a chain below the heads in `chain`. The definitions that a
+//! `shared`, runs in `run`, scripts in `play` and `script`, charts in `chart`, and a chain below the heads in `chain`. The definitions that a
 //! contract cites are passed on by this crate's own `specs/Lib.antt`.
 #![tactic(auto)]
 
 pub use strm_chain as chain;
+pub use strm_chart as chart;
 pub use strm_head as head;
 pub use strm_history as history;
 pub use strm_module as module;

@@ -1,13 +1,23 @@
 -- The lines of streams, log by log.
-use Rattle.std.proofs.Common.{◌≡◌, ℕ, suc, zero, ◌+◌, List, [], ◌∷◌, ◌++◌, take, slice_get, Option, Some, None, refl, sym, ap, ◌∙◌, append_assoc}
+use Rattle.std.proofs.Common.{◌≡◌, ℕ, suc, zero, ◌+◌, List, [], ◌∷◌, ◌++◌, take, slice_get, option_map, Option, Some, None, refl, sym, ap, ◌∙◌, append_assoc}
 use Rattle.std.specs.Io.KnownBytes.{Appends}
 use Rattle.std.proofs.lemmas.List.{append-nil}
+use Rattle.std.proofs.lemmas.Option.{slice_get-map}
+use Rattle.arrayvec.specs.ArrayVec.{ArrayVec}
+use Rattle.strm_history.specs.declared.setup.Setup.{Setup}
 use native.Mathlib.Numerals.{unary_clauses}
 use Rattle.strm_text.proofs.WriteLemmas.{appends_then}
 use Rattle.strm_script.specs.Fields.{KindSpelling}
 use Rattle.strm_crew.specs.declared.transcript.StreamLog.{StreamLog}
-use Rattle.strm_plan.specs.Plan.{Streams, Process}
+use Rattle.strm_plan.specs.Plan.{Streams, Process, streams_view}
 use Rattle.strm_script.specs.Lines.{stream_text, streams_text, found_text}
+
+abbrev seen : ArrayVec ℕ × Setup → List ℕ × Setup
+seen entry = (entry.0.items, entry.1)
+
+-- the stream of a number, as a plan is seen
+pub seen_at : (entries : List (ArrayVec ℕ × Setup)) (number : ℕ) (found : Option (ArrayVec ℕ × Setup)) → found ≡ slice_get entries number → slice_get (streams_view entries) number ≡ option_map seen found
+seen_at entries number found is = slice_get-map seen entries number ∙ ap (option_map seen) (sym is)
 
 -- without logs there are no lines
 no_logs : {K : Type 0} (spelling : KindSpelling K) (processes : List (Process K)) (streams : Streams) → streams_text spelling processes streams [] ≡ []

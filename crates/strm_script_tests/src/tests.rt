@@ -4,6 +4,7 @@ use std::alloc::Global;
 use std::process::Abort;
 use strm_plan::{Plan, parse};
 
+mod charting;
 mod loading;
 mod printing;
 

@@ -18,7 +18,7 @@ use Rattle.clap.specs.declared.parser.matches.MatchedArg.{MatchedArg}
 use Rattle.clap.proofs.CallerLemmas.{entry_by_id, same_rules_by_id}
 use Rattle.clap.proofs.CallerReads.{signed_reads}
 use Rattle.strm_run.specs.declared.judge.TheConstants.{MOST_WORKERS}
-use Rattle.strsh.specs.CommandLine.{HasBoth}
+use Rattle.strsh.specs.CommandLine.{HasThree}
 
 abbrev numbers : ValueParser
 numbers = parsers.Signed (pos 1) (pos MOST_WORKERS)
@@ -26,25 +26,29 @@ numbers = parsers.Signed (pos 1) (pos MOST_WORKERS)
 abbrev id : List ℕ
 id = codes "workers"
 
-module _ (old : Command) (line : HasBoth old) (m : ArgMatches) (p : IsParsedFrom old m) where
+module _ (old : Command) (line : HasThree old) (m : ArgMatches) (p : IsParsedFrom old m) where
   first_is : slice_index_or (args_of old) 0 line.workers ≡ line.workers
-  first_is = ap (λ l. slice_index_or l 0 line.workers) line.both
+  first_is = ap (λ l. slice_index_or l 0 line.workers) line.three
 
   id_is : (slice_index_or (args_of old) 0 line.workers).id.now ≡ id
   id_is = ap (λ (a : Arg). a.id.now) first_is ∙ line.workers_id
 
   some : 0 < length (args_of old)
-  some = subst (λ l. 0 < length l) (sym line.both) (omega arith)
+  some = subst (λ l. 0 < length l) (sym line.three) (omega arith)
 
   unique : (j : ℕ) (e : Arg) → j < length (args_of old) → bytes_eq (slice_index_or (args_of old) j e).id.now (slice_index_or (args_of old) 0 line.workers).id.now ≡ true → j ≡ 0
   unique zero e under same = refl
   unique (suc zero) e under same =
-      let second : (slice_index_or (args_of old) 1 e).id.now ≡ codes "FILE" = ap (λ l. (slice_index_or l 1 e).id.now) line.both ∙ line.file_id in
+      let second : (slice_index_or (args_of old) 1 e).id.now ≡ codes "chart" = ap (λ l. (slice_index_or l 1 e).id.now) line.three ∙ line.chart_id in
       let differ : false ≡ true = sym (ap₂ bytes_eq second id_is) ∙ same in
       absurd cc
-  unique (suc (suc j)) e under same =
-      let two : length (args_of old) ≡ 2 = ap (λ l. length l) line.both in
-      absurd (omega (arith, two, under))
+  unique (suc (suc zero)) e under same =
+      let third : (slice_index_or (args_of old) 2 e).id.now ≡ codes "FILE" = ap (λ l. (slice_index_or l 2 e).id.now) line.three ∙ line.file_id in
+      let differ : false ≡ true = sym (ap₂ bytes_eq third id_is) ∙ same in
+      absurd cc
+  unique (suc (suc (suc j))) e under same =
+      let three : length (args_of old) ≡ 3 = ap (λ l. length l) line.three in
+      absurd (omega (arith, three, under))
 
   own : IsAuto (slice_index_or (args_of old) 0 line.workers) → ⊥
   own auto = elim auto [

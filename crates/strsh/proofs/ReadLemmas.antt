@@ -1,5 +1,5 @@
 -- What is read of the words of a command line.
-use Rattle.std.proofs.Common.{◌≡◌, ℕ, ◌≤◌, true, arith, List, [], Option, Some, None, Result, Ok, Err, unwrap_or, Bor, IsErrAnd, option_map, refl, ap, sym, subst, ◌∙◌}
+use Rattle.std.proofs.Common.{◌≡◌, ℕ, ◌≤◌, Bool, true, false, codes, arith, List, [], Option, Some, None, Result, Ok, Err, unwrap_or, Bor, IsErrAnd, option_map, refl, ap, sym, subst, ◌∙◌}
 use Rattle.std.specs.Option.{UnwrapsOrElse}
 use Rattle.std.specs.Str.Parse.{ParsesUnsigned}
 use Rattle.clap.specs.Words.{FailsBy, HasKind, Kinds, ReadsOne, Text, is_simple}
@@ -7,7 +7,7 @@ use Rattle.clap.specs.declared.error.Error.{Error}
 use Rattle.clap.specs.Faults.{is_simple_and_free}
 use Rattle.strm_run.specs.declared.judge.TheConstants.{MOST_WORKERS}
 use Rattle.strsh.specs.declared.options.TheConstants.{DEFAULT_WORKERS}
-use Rattle.strsh.specs.CommandLine.{AsksFor, command_line}
+use Rattle.strsh.specs.CommandLine.{AsksFor, AsksForChart, command_line}
 
 pub is_simple_line : is_simple command_line ≡ true
 is_simple_line = refl
@@ -20,6 +20,11 @@ pub asked : {E : Type 0} (G : List ℕ → Result ℕ E → Type 0) (text : Opti
 asked G None read none some parses = let nothing : read ≡ None = none refl in rw nothing refl
 asked G (Some t) (Some n) none some parses = λ numeral fits. (parses t (Ok n) (some t refl)).1
 asked G (Some t) None none some parses = λ numeral fits. let failed = some t refl in absurd (parses t (Err failed.0) failed.1 (numeral, fits))
+
+-- a flag that is read of the word
+pub chart_asked : (word : Option Text) (chart : Bool) → (word ≡ None → chart ≡ false) → (word ≡ Some (codes "true") → chart ≡ true) → (word ≡ Some (codes "false") → chart ≡ false) → AsksForChart word chart
+chart_asked None chart none given other = none refl
+chart_asked (Some text) chart none given other = (λ is. given (ap Some is), λ is. other (ap Some is))
 
 -- a text that is found, or none
 pub path_asked : (found : Option (Bor (List ℕ))) (path : Bor (List ℕ)) (text : Option Text) → UnwrapsOrElse found (λ x. x.now ≡ []) path → option_map (λ s. s.now) found ≡ text → path.now ≡ unwrap_or text []

@@ -1,6 +1,7 @@
 -- The command line that is understood, and what its words ask for.
-use Rattle.std.specs.Prelude.{◌≡◌, ◌<◌, ◌^◌, ℕ, pos, true, false, List, [], ◌∷◌, Option, Some, None, codes, unwrap_or}
+use Rattle.std.specs.Prelude.{◌≡◌, ◌<◌, ◌^◌, ℕ, pos, Bool, true, false, List, [], ◌∷◌, Option, Some, None, codes, unwrap_or}
 use Rattle.std.specs.Str.Parse.{IsNumeral, digits_value, without_leading_plus}
+use Rattle.clap.specs.declared.builder.action.ArgAction.TheVariants.{SetTrue}
 use Rattle.clap.specs.declared.builder.arg.Arg.{Arg}
 use Rattle.clap.specs.declared.builder.command.Command.{Command}
 use Rattle.clap.specs.declared.builder.command.Command.TheViews.{out-Command as fields_of}
@@ -18,17 +19,25 @@ workers_rule = record (new_rule (codes "workers")) {
   defaults = codes "4" ∷ [];
 }
 
+-- `--chart`, which is true where it is given and false where it is not
+abbrev pub chart_rule : Rule
+chart_rule = record (new_rule (codes "chart")) { long = Some (codes "chart"); action = Some SetTrue }
+
 -- FILE, which is required
 abbrev pub file_rule : Rule
 file_rule = record (new_rule (codes "FILE")) { required = true }
 
--- `strsh [--workers N] FILE`
+-- `strsh [--workers N] [--chart] FILE`
 abbrev pub command_line : App
-command_line = with_rule (with_rule (new_app (codes "strsh")) workers_rule) file_rule
+command_line = with_rule (with_rule (with_rule (new_app (codes "strsh")) workers_rule) chart_rule) file_rule
 
 -- the text behind `--workers`
 abbrev pub workers_text : List Text → Option Text
 workers_text words = one_of (codes "workers") (matches_of command_line words)
+
+-- what `--chart` is
+abbrev pub chart_word : List Text → Option Text
+chart_word words = one_of (codes "chart") (matches_of command_line words)
 
 -- the path of the script
 abbrev pub file_text : List Text → Text
@@ -40,12 +49,19 @@ AsksFor None workers = workers ≡ DEFAULT_WORKERS
 AsksFor (Some text) workers =
     IsNumeral 10 (without_leading_plus text) → digits_value 10 (without_leading_plus text) < 2 ^ 32 → workers ≡ digits_value 10 (without_leading_plus text)
 
--- a command has the two arguments, of which the first takes these numbers, and nothing excludes anything
-pub record HasBoth (command : Command) : Type 0 where
+-- a word asks for a chart where it is `true`, and for none where it is `false` or is not there
+abbrev pub AsksForChart : Option Text → Bool → Type 0
+AsksForChart None chart = chart ≡ false
+AsksForChart (Some word) chart = (word ≡ codes "true" → chart ≡ true) × (word ≡ codes "false" → chart ≡ false)
+
+-- a command has the three arguments, of which the first takes these numbers, and nothing excludes anything
+pub record HasThree (command : Command) : Type 0 where
   pub workers : Arg
+  pub chart : Arg
   pub file : Arg
-  pub both : args_of command ≡ workers ∷ file ∷ []
+  pub three : args_of command ≡ workers ∷ chart ∷ file ∷ []
   pub workers_id : workers.id.now ≡ codes "workers"
+  pub chart_id : chart.id.now ≡ codes "chart"
   pub file_id : file.id.now ≡ codes "FILE"
   pub numbers : workers.value_parser ≡ Some (parsers.Signed (pos 1) (pos MOST_WORKERS))
   pub plain : IsPlain command

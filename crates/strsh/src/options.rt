@@ -3,9 +3,9 @@ ghost use Rattle.std.specs.Prelude.{◌≡◌, ◌≤◌, map, string_bytes, IfO
 ghost use Rattle.clap.specs.Words.{FailsBy, app_of, fault_of, kind_of};
 ghost use Rattle.clap.specs.declared.error.kind.ErrorKind.TheVariants.{OutOfMemory};
 ghost use Rattle.strm_run.specs.declared.judge.TheConstants.{MOST_WORKERS};
-ghost use Rattle.strsh.specs.CommandLine.{AsksFor, HasBoth, command_line, file_text, workers_text};
+ghost use Rattle.strsh.specs.CommandLine.{AsksFor, AsksForChart, HasThree, chart_word, command_line, file_text, workers_text};
 
-use clap::{Arg, Command, Error, value_parser};
+use clap::{Arg, ArgAction, Command, Error, value_parser};
 use std::alloc::Global;
 use strm_run::MOST_WORKERS;
 
@@ -30,14 +30,16 @@ down an echo stream and takes it at the head:
 pub struct Options<'a> {
     /// How many worker threads make the calls, 1 to `MOST_WORKERS`.
     pub workers: u32,
+    /// Whether what is left is drawn as a chart, and not printed as a transcript.
+    pub chart: bool,
     /// The path of the script.
     pub path: &'a str,
 }
 
-/// The command line that is understood: `strsh [--workers N] FILE`. Refused for want of memory alone.
+/// The command line that is understood: `strsh [--workers N] [--chart] FILE`. Refused for want of memory alone.
 fn command<'a>(alloc: Global) -> Result<Command<'a>, Error>
     ensures line { IfOk result (λ command. app_of command ≡ command_line) }
-    ensures both { IfOk result HasBoth }
+    ensures three { IfOk result HasThree }
     ensures memory { IfErr result (λ error. kind_of error ≡ OutOfMemory) }
 {
     let workers = Arg::new(alloc, "workers")
@@ -46,6 +48,10 @@ fn command<'a>(alloc: Global) -> Result<Command<'a>, Error>
         .value_parser(value_parser!(u32).range(1..=i64::from(MOST_WORKERS)))
         .default_value("4")
         .help("How many worker threads make the calls, 1 to 64");
+    let chart = Arg::new(alloc, "chart")
+        .long("chart")
+        .action(ArgAction::SetTrue)
+        .help("Draws a sequence chart of each stream, in place of a transcript");
     let file = Arg::new(alloc, "FILE").required(true).help("The script");
     Ok(
         Command::new(alloc, "strsh")
@@ -53,6 +59,7 @@ fn command<'a>(alloc: Global) -> Result<Command<'a>, Error>
             .about(ABOUT)
             .after_help(EXAMPLE)
             .arg(workers)?
+            .arg(chart)?
             .arg(file)?,
     )
 }
@@ -65,12 +72,14 @@ impl<'a> Options<'a> {
         ensures path { IfOk result (λ options. options.path.now ≡ file_text (map (λ word. string_bytes word) words.entry.now)) }
         ensures workers { IfOk result (λ options. AsksFor (workers_text (map (λ word. string_bytes word) words.entry.now)) options.workers) }
         ensures range { IfOk result (λ options. (1 ≤ options.workers) × (options.workers ≤ MOST_WORKERS)) }
+        ensures chart { IfOk result (λ options. AsksForChart (chart_word (map (λ word. string_bytes word) words.entry.now)) options.chart) }
         ensures kinds { FailsBy (fault_of command_line (map (λ word. string_bytes word) words.entry.now)) result }
     {
         let matches = command(alloc)?.try_get_matches_from(words)?;
         let workers = matches.get_one::<u32>("workers");
         Ok(Options {
             workers: workers.unwrap_or(DEFAULT_WORKERS),
+            chart: matches.get_flag("chart"),
             path: matches.get_str("FILE").unwrap_or_default(),
         })
     }

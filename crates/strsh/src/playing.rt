@@ -1,9 +1,10 @@
-//! A script is played, and its transcript printed.
-ghost use Rattle.std.specs.Prelude.{OnOk};
+//! A script is played, and its transcript or chart printed.
+ghost use Rattle.std.specs.Prelude.{if◌then◌else◌, OnOk};
 ghost use Rattle.std.specs.Io.KnownBytes.{Appends};
 ghost use Rattle.strm_plan.specs.Plan.{plan_view};
 ghost use Rattle.strm_script.specs.Fields.{builtin_spelling};
 ghost use Rattle.strm_script.specs.Lines.{transcript_text};
+ghost use Rattle.strm_chart.specs.Chart.{chart_text};
 
 use crate::fault::Fault;
 use crate::options::Options;
@@ -13,6 +14,7 @@ use std::io::{self, BufWriter, Write};
 use std::rt::Files;
 use std::sync::Wait;
 use std::thread::Threads;
+use strm_chart::chart;
 use strm_module::Plain;
 use strm_play::{Outcome, play};
 use strm_script::{LoadFault, load, print};
@@ -22,29 +24,48 @@ fn script<R: Files>(rt: &R, alloc: Global, path: &str) -> Result<Vec<u8>, LoadFa
     load(alloc, fs::open(rt, path)?)
 }
 
-/// Writes what is left of a script that was played, to the last byte.
+/// Writes what is left of a script that was played: as a chart where one is asked for, and else as a transcript.
+fn put_text<W: Write>(outcome: &Outcome, as_chart: bool, w: &mut W) -> io::Result<()>
+    ensures { OnOk result (Appends (W.contents w.old) (W.contents w.new)
+        (if as_chart then chart_text builtin_spelling (plan_view outcome.now.plan) outcome.now.transcript.streams.items
+        else transcript_text builtin_spelling (plan_view outcome.now.plan) outcome.now.transcript.streams.items)) }
+{
+    if as_chart {
+        chart(&outcome.transcript, &outcome.plan, w)
+    } else {
+        print(&outcome.transcript, &outcome.plan, w)
+    }
+}
+
+/// Writes what is left of a script that was played, as a chart or as a transcript, to the last byte.
 ///
 /// Refused where the writer is, and with its error.
-pub fn put<W: Write>(outcome: &Outcome, w: &mut W) -> io::Result<()>
+pub fn put<W: Write>(outcome: &Outcome, as_chart: bool, w: &mut W) -> io::Result<()>
     ensures text { OnOk result (Appends (W.contents w.old) (W.contents w.new)
-        (transcript_text builtin_spelling (plan_view outcome.now.plan) outcome.now.transcript.streams.items)) }
+        (if as_chart then chart_text builtin_spelling (plan_view outcome.now.plan) outcome.now.transcript.streams.items
+        else transcript_text builtin_spelling (plan_view outcome.now.plan) outcome.now.transcript.streams.items)) }
 {
-    print(&outcome.transcript, &outcome.plan, w)?;
+    put_text(outcome, as_chart, w)?;
     w.flush()
 }
 
 /// Prints what is left of a script that was played.
-fn put_out<R: Print>(rt: &R, alloc: Global, outcome: &Outcome) -> Result<(), Fault> {
+fn put_out<R: Print>(
+    rt: &R,
+    alloc: Global,
+    outcome: &Outcome,
+    as_chart: bool,
+) -> Result<(), Fault> {
     let Ok(mut out) = BufWriter::new(alloc, io::writer(rt)) else {
         return Err(Fault::no_memory());
     };
-    put(outcome, &mut out).map_err(|_| Fault::Write)
+    put(outcome, as_chart, &mut out).map_err(|_| Fault::Write)
 }
 
-/// Plays the script that a command line names, and prints its transcript.
+/// Plays the script that a command line names, and prints its transcript, or its chart where that is asked for.
 ///
 /// Refused where the command line is no good, the script cannot be read, it is no script, it does
-/// not run or its transcript cannot be printed, in this order.
+/// not run or what it leaves cannot be printed, in this order.
 pub fn serve<R: Files + Print + Threads + Wait + AllocGlobal + Sync>(
     rt: &R,
     words: &[String],
@@ -53,5 +74,5 @@ pub fn serve<R: Files + Print + Threads + Wait + AllocGlobal + Sync>(
     let options = Options::read(alloc, words)?;
     let bytes = script(rt, alloc, options.path)?;
     let outcome = play::<Plain, R>(rt, alloc, bytes.as_slice(), options.workers)?;
-    put_out(rt, alloc, &outcome)
+    put_out(rt, alloc, &outcome, options.chart)
 }

@@ -225,7 +225,7 @@ fn names(rt: &impl Abort, names: &[&[u8]]) -> Option<ArrayVec<Name, MOST_MODULES
 
 /// What is left of a stream with end A open under these names, end B open without any, and 3, 2 and 1
 /// messages of its feed accepted, come in and handed back.
-fn log(rt: &impl Abort, alloc: Global, on_a: &[&[u8]]) -> StreamLog<Kind> {
+pub(super) fn log(rt: &impl Abort, alloc: Global, on_a: &[&[u8]]) -> StreamLog<Kind> {
     StreamLog {
         history: Vec::new(alloc),
         a: names(rt, on_a),

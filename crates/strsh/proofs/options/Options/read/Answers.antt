@@ -4,7 +4,7 @@ use Rattle.clap.specs.Words.{HasKind, fault_of, first_of, found_of, is_simple, m
 use Rattle.clap.specs.Faults.{is_simple_and_free}
 use Rattle.clap.proofs.WalkLemmas.{first_value-rows, one_text-rows}
 use Rattle.strsh.specs.CommandLine.{command_line}
-use Rattle.strsh.proofs.ReadLemmas.{asked, passed_on, within, path_asked, is_simple_line, is_free_line}
+use Rattle.strsh.proofs.ReadLemmas.{asked, chart_asked, passed_on, within, path_asked, is_simple_line, is_free_line}
 use Rattle.strsh.proofs.CrewLemmas.{in_range}
 use Rattle.strsh.proofs.options.Options.read.Goals as goal
 
@@ -26,6 +26,15 @@ returns-clause-workers c =
     rw c.unwrap_or.ensures (asked (λ bs r. ParsesUnsigned 32 10 bs r × ExplainsUnsignedError 10 bs r × HasUnsignedDigitsIfOk bs r) (one_of (codes "workers") (matches_of command_line words)) c.get_one-workers.result
     (λ none. got.none (same ∙ none)) (λ t some. got.value t (same ∙ some)) (λ t r gives. gives.0))
 
+pub returns-clause-chart : goal.returns-clause-chart
+returns-clause-chart c =
+    let words : List (List ℕ) = map (λ word. string_bytes word) c.args.words.now in
+    let line = c.in_ok-command.ensures.line in
+    let rows : rows_of (found_of c.in_ok-matches.matches) ≡ matches_of command_line words = (c.in_ok-matches.ensures.matches (ap is_simple line ∙ is_simple_line)).0 ∙ ap (λ a. matches_of a words) line in
+    let same = one_text-rows (found_of c.in_ok-matches.matches) (codes "chart") ∙ ap (one_of (codes "chart")) rows in
+    let got = c.get_flag.ensures in
+    chart_asked (one_of (codes "chart") (matches_of command_line words)) c.get_flag.result (λ none. got.none (same ∙ none)) (λ given. got.value (same ∙ given)) (λ other. got.other (same ∙ other))
+
 pub returns-clause-kinds : goal.returns-clause-kinds
 returns-clause-kinds c =
     let words : List (List ℕ) = map (λ word. string_bytes word) c.args.words.now in
@@ -36,7 +45,7 @@ returns-clause-kinds c =
 pub returns-clause-range : goal.returns-clause-range
 returns-clause-range c =
     let got = c.get_one-workers.ensures in
-    let in_it = in_range c.in_ok-command.field-0 c.in_ok-command.ensures.both c.in_ok-matches.matches c.in_ok-matches.ensures.parsed _ (λ bs r. ParsesUnsigned 32 10 bs r × ExplainsUnsignedError 10 bs r × HasUnsignedDigitsIfOk bs r) (λ t r gives. gives.0) c.get_one-workers.result in
+    let in_it = in_range c.in_ok-command.field-0 c.in_ok-command.ensures.three c.in_ok-matches.matches c.in_ok-matches.ensures.parsed _ (λ bs r. ParsesUnsigned 32 10 bs r × ExplainsUnsignedError 10 bs r × HasUnsignedDigitsIfOk bs r) (λ t r gives. gives.0) c.get_one-workers.result in
     rw c.unwrap_or.ensures (within (one_text (found_of c.in_ok-matches.matches) (codes "workers")) c.get_one-workers.result got.none (λ t some. in_it t some (got.value t some)))
 
 pub returns-in_err-matches-clause-kinds : goal.returns-in_err-matches-clause-kinds

@@ -1,0 +1,3 @@
+pub mod ColumnLemmas
+pub mod NameLemmas
+pub mod ChartLemmas

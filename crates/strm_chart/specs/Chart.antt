@@ -1,0 +1,77 @@
+-- The chart of a history: its steps one below the other, each once and in order.
+use Rattle.std.specs.Prelude.{ℕ, ◌+◌, List, [], ◌∷◌, ◌++◌, length, slice_get, Option, Some, None, codes}
+use Rattle.std.specs.List.{flat_map, enumerate_from, zip}
+use Rattle.strm_msg.specs.declared.words.End.TheVariants.{A}
+use Rattle.strm_qpair.specs.declared.driver.Driver.{Driver}
+use Rattle.strm_qpair.specs.declared.driver.Driver.TheVariants.{Line}
+use Rattle.strm_history.specs.declared.setup.Setup.{Setup}
+use Rattle.strm_history.specs.declared.entry.Entry.{Entry}
+use Rattle.strm_crew.specs.declared.transcript.StreamLog.{StreamLog}
+use Rattle.strm_verb.specs.Field.{Word}
+use Rattle.strm_plan.specs.Plan.{Streams, Process, Whole}
+use Rattle.strm_script.specs.Fields.{KindSpelling, spaced}
+use Rattle.strm_script.specs.Lines.{event_text, answer_text, end_text, far_end_text, feed_text}
+use Rattle.strm_chart.specs.Columns.{all_bars, name_row, arrow, arrow_back, moved_text}
+
+-- ---- a step, in a chart with the columns of n processes
+
+-- who made it, and what happened
+unfoldable pub event_row : {K : Type 0} → KindSpelling K → ℕ → Driver → List ℕ → Entry K → List ℕ
+event_row spelling n driver stream entry = arrow n driver entry.who ++ event_text spelling stream entry.end entry.event ++ 10 ∷ []
+
+-- what was answered; the text of an answer ends its line
+unfoldable pub answer_row : {K : Type 0} → ℕ → Driver → Entry K → List ℕ
+answer_row n driver entry = arrow_back n driver entry.who ++ answer_text entry.answer
+
+-- what happened, what moved, and what was answered
+unfoldable pub entry_rows : {K : Type 0} → KindSpelling K → ℕ → Driver → List ℕ → Entry K → List ℕ
+entry_rows spelling n driver stream entry = event_row spelling n driver stream entry ++ moved_text n driver entry.moves ++ answer_row n driver entry
+
+-- each step once, in order
+abbrev pub entries_rows : {K : Type 0} → KindSpelling K → ℕ → Driver → List ℕ → List (Entry K) → List ℕ
+entries_rows spelling n driver stream entries = flat_map (entry_rows spelling n driver stream) entries
+
+-- ---- a stream
+
+-- the names of the processes, each above its column
+abbrev pub process_row : {K : Type 0} → ℕ × Process K → List ℕ
+process_row column = name_row column.0 column.1.name
+
+abbrev pub process_names : {K : Type 0} → List (Process K) → List ℕ
+process_names processes = flat_map process_row (enumerate_from 0 processes)
+
+-- the name of the line's column
+abbrev pub line_name : ℕ → Driver → List ℕ
+line_name left Line = name_row left (codes "line")
+line_name left driver = []
+
+-- the names of all columns, and a row of bars
+unfoldable pub names_text : {K : Type 0} → List (Process K) → List ℕ → Driver → List ℕ
+names_text processes name driver =
+    process_names processes ++ name_row (length processes) name ++ line_name (length processes + 1) driver ++ all_bars (length processes) driver ++ 10 ∷ []
+
+-- the ends, and what became of a feed, as a transcript has them
+unfoldable pub left_text : {K : Type 0} → Driver → StreamLog K → List ℕ
+left_text driver log = end_text A log.a ++ far_end_text driver log.b ++ feed_text driver log
+
+-- the chart of a stream
+unfoldable pub stream_chart : {K : Type 0} → KindSpelling K → List (Process K) → List ℕ → Setup → StreamLog K → List ℕ
+stream_chart spelling processes name setup log =
+    codes "stream" ++ spaced (Word name ∷ []) ++ (10 ∷ []) ++ names_text processes name setup.driver ++ entries_rows spelling (length processes) setup.driver name log.history.items ++ left_text setup.driver log
+
+-- the chart of a stream of the plan, if there is one
+abbrev pub found_chart : {K : Type 0} → KindSpelling K → List (Process K) → Option (List ℕ × Setup) → StreamLog K → List ℕ
+found_chart spelling processes None log = []
+found_chart spelling processes (Some stream) log = stream_chart spelling processes stream.0 stream.1 log
+
+-- that of the stream of a number; nothing where the plan has none
+abbrev pub numbered_chart : {K : Type 0} → KindSpelling K → Whole K → ℕ → StreamLog K → List ℕ
+numbered_chart spelling plan number log = found_chart spelling plan.processes (slice_get plan.streams number) log
+
+-- the charts of all streams, each with the name by which it was declared
+abbrev pub streams_chart : {K : Type 0} → KindSpelling K → List (Process K) → Streams → List (StreamLog K) → List ℕ
+streams_chart spelling processes streams logs = flat_map (λ stream. stream_chart spelling processes stream.0.0 stream.0.1 stream.1) (zip streams logs)
+
+-- the chart of a plan's run
+abbrev pub chart_text : {K : Type 0} → KindSpelling K → Whole K → List (StreamLog K) → List ℕ
+chart_text spelling plan logs = streams_chart spelling plan.processes plan.streams logs

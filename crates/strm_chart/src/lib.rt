@@ -1,0 +1,10 @@
+//! Charts: what a run leaves of each stream, as a sequence chart in text, with one column for each process and one for the stream.
+#![tactic(auto)]
+
+mod charting;
+mod columns;
+mod entry;
+mod moved;
+mod stream;
+
+pub use charting::chart;

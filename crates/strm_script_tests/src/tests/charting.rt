@@ -1,0 +1,82 @@
+//! Charts of which no script is sure to be the cause: messages that came in from a line.
+use super::plan_of;
+use super::printing::log;
+use std::alloc::Global;
+use std::process::Abort;
+use strm_call::{Answer, Reply};
+use strm_chart::chart;
+use strm_head::{Event, Place};
+use strm_history::{Entry, Kept, Serials, Who};
+use strm_module::Kind;
+use strm_msg::End::A;
+use strm_msg::Message;
+use strm_plan::Plan;
+use strm_run::{StreamLog, Transcript};
+
+/// A line `l`, and one process.
+const PLAN: &[u8] = b"stream l line 16/4 16/4 8\nprocess p\n";
+
+/// What is drawn where a message came in, after which three queues moved, and then another, which broke the stream.
+const DRAWN: &str = "stream l\np\n|   l\n|   |   line\n|   |   |\n\
+    |   |<--| data 0 =abc\n|   |   | moved a:driver a:rd:10 a:rd:1\n|   |   | : 0\n\
+    |   |<--| hangup\n|   |   | : ENOSR broke\n\
+    open a m\nfeed accepted 3 arrived 2 overrun 1\n";
+
+/// A message that came in, and what moved.
+fn came(
+    rt: &impl Abort,
+    alloc: Global,
+    m: Message,
+    moves: Vec<Place>,
+    answer: Answer,
+) -> Kept<Kind> {
+    let entry = Entry {
+        who: Who::Line,
+        end: A,
+        event: Event::Arrived(m),
+        answer,
+        moves: moves.into(),
+        looks: 0,
+        out: Serials::none(),
+    };
+    Kept::plain(Box::new(alloc, entry).expect(rt, "no memory"))
+}
+
+/// The places that moved.
+fn places(rt: &impl Abort, alloc: Global) -> Vec<Place> {
+    let driver = Place::Drv { end: A };
+    let (lower, upper) = (Place::Rd { end: A, i: 10 }, Place::Rd { end: A, i: 1 });
+    vec![in alloc; driver, lower, upper].expect(rt, "no memory")
+}
+
+/// The messages that came in.
+fn arrivals(rt: &impl Abort, alloc: Global) -> Vec<Kept<Kind>> {
+    let data = Message::of_data(alloc, 0, b"abc").expect(rt, "no memory");
+    let first = came(
+        rt,
+        alloc,
+        data,
+        places(rt, alloc),
+        Answer::Done(Reply::Line),
+    );
+    let hangup = Message::of_hangup();
+    let second = came(rt, alloc, hangup, Vec::new(alloc), Answer::Broke);
+    vec![in alloc; first, second].expect(rt, "no memory")
+}
+
+/// What is drawn of one stream.
+fn drawn(rt: &impl Abort, alloc: Global, plan: &Plan, log: StreamLog<Kind>) -> Vec<u8> {
+    let streams = vec![in alloc; log].expect(rt, "no memory");
+    let mut out: Vec<u8> = Vec::new(alloc);
+    assert!(rt; chart(&Transcript { streams }, plan, &mut out).is_ok());
+    out
+}
+
+#[test]
+fn messages_that_came_in_are_drawn_from_the_line(rt: HostRuntime) {
+    let alloc: Global = rt.alloc();
+    let plan = plan_of(&rt, alloc, PLAN);
+    let mut log = log(&rt, alloc, &[b"m"]);
+    log.history = arrivals(&rt, alloc);
+    assert!(rt; drawn(&rt, alloc, &plan, log).as_slice() == DRAWN.as_bytes());
+}

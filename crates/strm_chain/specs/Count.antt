@@ -36,7 +36,7 @@ looks_at_most moves = length moves + QUEUES * (length moves + 1)
 abbrev pub AreLooks : List Place → ℕ → Type 0
 AreLooks moves looks = (length moves ≤ looks) × (looks ≤ looks_at_most moves)
 
--- how often a message sets options of a head, what a module sends, and what is on its way, over the driver of an image
+-- how often a message sets options of a head, what a module sends, and what is on its way, over the driver of an image (no public clause cites them)
 abbrev pub options_in : {K : Type 0} → Image K → Msg → ℕ
 options_in image m = options_of (answers_options image.driver) m
 
@@ -47,7 +47,7 @@ abbrev pub options_carried : {K : Type 0} → Image K → List Hop → ℕ
 options_carried image hops = sum_by (λ h. options_of (answers_options image.driver) h.m) hops
 
 -- each message that was put enabled one place at most, and so did options that were set; so many are on their way before and
--- afterwards
+-- afterwards (no public clause cites it)
 abbrev pub Grows : {K : Type 0} → ChainValue K → ℕ → ChainValue K → ℕ → Type 0
 Grows old before new after =
     length new.run.items + message_count old.image + (options_count new.image + after) ≤ length old.run.items + message_count new.image + (options_count old.image + before)
@@ -57,6 +57,6 @@ abbrev pub HasMoved : {K : Type 0} → ChainValue K → ChainValue K → ℕ →
 HasMoved old new sent =
     length new.run.items + message_count old.image + (options_count new.image + sent) ≤ length old.run.items + message_count new.image + options_count old.image + 2
 
--- messages on their way that flush nothing
+-- messages on their way that flush nothing (no public clause cites it)
 abbrev pub are_calm_hops : List Hop → Bool
 are_calm_hops hops = list_all (λ h. is_calm h.m.kind) hops

@@ -29,6 +29,8 @@ pub record Enabled : Type 0 where
   pub run : RunList
   pub wanted : List (Option Place)
 
+-- ---- what no public clause cites
+
 -- a place that must not move yet, and is known to the queue that it waits for
 pub record IsWaiting {K : Type 0} (image : Image K) (wanted : List (Option Place)) (place : Place) : Type 0 where
   pub queue : NextQueue

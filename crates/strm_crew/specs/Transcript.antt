@@ -18,7 +18,7 @@ use Rattle.strm_crew.specs.declared.transcript.StreamLog.{StreamLog}
 use Rattle.strm_crew.specs.Scripts.{calls_on, script_of, feed_of}
 use Rattle.strm_crew.specs.Run.{RunValue}
 
--- a message came in
+-- a message came in (no public clause cites it)
 abbrev pub has_come_in : {P : Type 0} → Event P → Bool
 has_come_in (Asked request) = false
 has_come_in (Arrived m) = true
@@ -53,13 +53,13 @@ module _ {K : Type 0} (means : Meaning K) where
     pub b : log.b ≡ names_at (end_of after B)
 
   -- what a run leaves of a stream: a legal history, in which each caller's calls are those of its script for the stream, in order
-  -- and no others, and whose arrivals are of its feed
+  -- and no others, and whose arrivals are of its feed (no public clause cites it)
   pub record IsLog (run : RunValue K) (number : ℕ) (setup : Setup) (log : StreamLog K) : Type 0 where
     pub legal : IsLegal setup log
     pub calls : (caller : ℕ) → map asked_of (own caller log.history.items) ≡ calls_on number (script_of run.scripts caller)
     pub fed : IsFed (feed_of run.feeds number) log
 
-  -- what it leaves of all, in order
+  -- what it leaves of all, in order (no public clause cites it)
   pub record AreLogs (run : RunValue K) (logs : List (StreamLog K)) : Type 0 where
     pub many : length logs ≡ length run.setups
     pub each : (k : ℕ) (s : Setup) (d : StreamLog K) → k < length run.setups → IsLog run k (get_or run.setups k s) (get_or logs k d)

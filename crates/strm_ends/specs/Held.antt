@@ -23,6 +23,8 @@ held_by image (Of (Place.Drv e)) = (end_of image e).drv
 held_by image (Of (Place.Rd e i)) = list_at (end_of image e) i Rd
 held_by image (Head e) = (end_of image e).head
 
+-- ---- what no public clause cites
+
 -- the place of a queue of a module
 abbrev pub module_place : Side → End → ℕ → Place
 module_place Rd e i = Places.Rd e i
@@ -54,7 +56,7 @@ abbrev pub sets_options : MsgKind → Bool
 sets_options (MSetopts mode prot marks) = true
 sets_options kind = false
 
--- no queue differs, but the marks of one head may
+-- no queue differs, but the marks of one head may (proofs alone cite it)
 pub record SetsMarks {K : Type 0} (old new : Image K) (e : End) : Type 0 where
   pub same : SameModules old new
   pub held : (queue : NextQueue) → held_by new queue ≡ held_by old queue

@@ -42,14 +42,14 @@ next_of image (Place.Drv e) =
     let p = partner image.driver e in next_up (end_of image p).is_open p (next_above (modules_at image p) (count_of image p + 1))
 next_of image (Place.Rd e i) = next_up (end_of image e).is_open e (next_above (modules_at image e) i)
 
--- the marks of a queue, where it is there
+-- the marks of a queue, where it is there (proofs alone cite it)
 abbrev pub marks_by : {K : Type 0} → Image K → NextQueue → Option WaterMarks
 marks_by image (Of (Place.Wr e i)) = marks_at Wr (identity_at (modules_at image e) i)
 marks_by image (Of (Place.Drv e)) = Some (end_of image e).drv_marks
 marks_by image (Of (Place.Rd e i)) = marks_at Rd (identity_at (modules_at image e) i)
 marks_by image (Head e) = Some (end_of image e).head_marks
 
--- a queue as flow control sees it
+-- a queue as flow control sees it (proofs alone cite it)
 abbrev pub fill_by : {K : Type 0} → Image K → Option NextQueue → Option Fill
 fill_by image None = None
 fill_by image (Some queue) = fill_with (marks_by image queue) (held_by image queue)
@@ -61,7 +61,7 @@ IsCounted (Of (Place.Rd e i)) = i ≤ MOST_MODULES
 IsCounted (Of (Place.Drv e)) = Unit {0}
 IsCounted (Head e) = Unit {0}
 
--- the same queues stand in the same places, and those of modules and drivers have the same marks
+-- the same queues stand in the same places, and those of modules and drivers have the same marks (proofs alone cite it)
 pub record SameWays {K : Type 0} (old new : Image K) : Type 0 where
   pub driver : new.driver ≡ old.driver
   pub is_open : (e : End) → (end_of new e).is_open ≡ (end_of old e).is_open

@@ -12,5 +12,6 @@ abbrev pub handle_owns : Bool → Global → Ptr → the_row.Denot → Fml
 handle_owns true alloc at held = box_owns (ghosts.dealloc_token alloc) the_row at held
 handle_owns false alloc at held = ftrue
 
+-- how what a handle holds lies in memory (proofs alone cite it)
 abbrev pub held_coded : Coded the_row.Denot
 held_coded = the_row.coded

@@ -23,7 +23,7 @@ module _ {K : Type 0} (means : Meaning K) where
   Arrives image m (NoMem same) after = (can_arrive image A m ≡ true) × (same ≡ m) × (after ≡ image)
   Arrives image m Broke after = Lands means image A m Answer.Broke [] [] after
 
-  -- a message that can come in did not: memory was wanting, before a change or after one
+  -- a message that can come in did not: memory was wanting, before a change or after one (no public clause cites it)
   abbrev pub NotIn : Image K → Msg → Arrived → Image K → Type 0
   NotIn image m (Taken moves looks) after = ⊥
   NotIn image m (Full same) after = ⊥

@@ -1,4 +1,4 @@
--- What a call may count on when it begins, and what it has done before any queue moves, or where memory was wanting.
+-- What a call may count on when it begins, and what it has done before any queue moves, or where memory was wanting. No public clause cites what stands here.
 use Rattle.std.specs.Prelude.{◌≡◌, true, false, Result, Ok, Err}
 use Rattle.strm_msg.specs.declared.words.End.{End}
 use Rattle.strm_module.specs.Kinds.{Meaning}

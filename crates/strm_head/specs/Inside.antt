@@ -23,7 +23,7 @@ pub record IsKept {K : Type 0} (image : Image K) : Type 0 where
   pub idle : image.broken ≡ false → AreIdle image
   pub ends : HasItsEnds image
 
--- what no call changes before any queue moves: the driver and whether the stream is broken; and no closed end is opened
+-- what no call changes before any queue moves: the driver and whether the stream is broken; and no closed end is opened (proofs alone cite it)
 pub record OpensNone {K : Type 0} (old new : Image K) : Type 0 where
   pub driver : new.driver ≡ old.driver
   pub broken : new.broken ≡ old.broken

@@ -41,7 +41,7 @@ abbrev pub serial_of : {K : Type 0} → Option (Shape K) → List ℕ
 serial_of None = []
 serial_of (Some shape) = shape.serial ∷ []
 
--- the serials of the modules that come back, but for that of a refused push, which was never put in
+-- the serials of the modules that come back, but for that of a refused push, which was never put in (no public clause cites it)
 abbrev pub out_in : {K : Type 0} → Answer → List (Option (Shape K)) → List ℕ
 out_in (Refused refusal) back = []
 out_in (Done reply) back = flat_map serial_of back

@@ -40,7 +40,7 @@ abbrev pub has_receipt : {P K : Type 0} → Called P K → Bool
 has_receipt (Done answer back receipt) = is_some receipt
 has_receipt (NoRoom same) = false
 
--- the entry of a message that came in
+-- the entry of a message that came in (no public clause cites it)
 abbrev pub arrival_entry : {K : Type 0} → Msg → Answer → List Place → ℕ → Entry K
 arrival_entry m answer moves looks =
     record { who = Line; end = A; event = Arrived m; answer = answer; moves = moves; looks = looks; out = record { items = [] } }

@@ -24,12 +24,12 @@ pub record ReceiptValue (K : Type 0) : Type 0 where
   pub number : ℕ
   pub entry : Entry K
 
--- the call may take a module out
+-- the call may take a module out (no public clause cites it)
 abbrev pub may_take_out : {K : Type 0} → Event (Shape K) → Bool
 may_take_out (Asked request) = changes_modules request
 may_take_out (Arrived m) = false
 
--- the entry of a call, with what became of it
+-- the entry of a call, with what became of it (no public clause cites it)
 abbrev pub filled : {K : Type 0} → RoomValue K → Answer → List Place → ℕ → ArrayVec ℕ → Entry K
 filled room answer moves looks out =
     record { who = Caller room.caller; end = room.end; event = room.event; answer = answer; moves = moves; looks = looks; out = out }

@@ -21,7 +21,7 @@ is_calm kind = true
 abbrev pub are_calm : OutList → Bool
 are_calm outs = list_all (λ out. is_calm out.1.kind) outs
 
--- what a put sends at once is calm
+-- what a put sends at once is calm (proofs alone cite it)
 abbrev pub puts_calm : Put → Bool
 puts_calm (Queue m) = true
 puts_calm (Sent outs) = are_calm outs.items
@@ -42,7 +42,7 @@ options_held answered q = sum_by (options_of answered) q
 abbrev pub options_sent : Bool → OutList → ℕ
 options_sent answered outs = sum_by (λ out. options_of answered out.1) outs
 
--- the same of what a put queues, and of what it sends at once
+-- the same of what a put queues, and of what it sends at once (proofs alone cite it)
 abbrev pub puts_options : Bool → Put → ℕ
 puts_options answered (Queue m) = options_of answered m
 puts_options answered (Sent outs) = options_sent answered outs.items

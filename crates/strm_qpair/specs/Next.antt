@@ -52,7 +52,7 @@ queue_found (Some s) side = fill_on side s
 abbrev pub queue_at : {K : Type 0} → EndState K → Side → ℕ → Option Fill
 queue_at e side i = queue_found (pair_at e.modules i) side
 
--- the queue of the module with this number, else what follows the modules
+-- the queue of the module with this number, else what follows the modules (proofs alone cite it)
 abbrev pub or_at : (ℕ → Option Fill) → Option Fill → Option ℕ → Option Fill
 or_at queue after None = after
 or_at queue after (Some i) = queue i

@@ -1,4 +1,4 @@
--- A queue kept as one list for each rank.
+-- A queue kept as one list for each rank. No public clause cites what stands here.
 use Rattle.std.specs.Prelude.{◌≡◌, ℕ, ◌^◌, ◌==◌, ◌<◌, ◌&&◌, nat_lt, Bool, true, List, [], ◌∷◌, length, if◌then◌else◌, slice_index_or}
 use Rattle.std.specs.List.{list_all, flat_map, prefix_len}
 use Rattle.strm_msg.specs.Message.{Msg, weight_of}

@@ -3,7 +3,7 @@ use Rattle.std.specs.Prelude.{ℕ, List, map, slice_index, replicate, min}
 use Rattle.std.specs.List.{range_with_len}
 use Rattle.strm_queue.specs.Lanes.{Ranked, spare_of}
 
--- the number for each of the ranks 0 to 256, where it is the same for all of them
+-- the number for each of the ranks 0 to 256, where it is the same for all of them (proofs alone cite it)
 unfoldable pub same_room : ℕ → List ℕ
 same_room n = replicate 257 n
 

@@ -89,12 +89,12 @@ unfoldable pub stream_text : {K : Type 0} → KindSpelling K → List (Process K
 stream_text spelling processes name setup log =
     codes "stream" ++ spaced (Word name ∷ []) ++ (10 ∷ []) ++ entries_text spelling processes name log.history.items ++ end_text A log.a ++ far_end_text setup.driver log.b ++ feed_text setup.driver log
 
--- the lines of a stream of the plan, if there is one
+-- the lines of a stream of the plan, if there is one (no public clause cites it)
 abbrev pub found_text : {K : Type 0} → KindSpelling K → List (Process K) → Option (List ℕ × Setup) → StreamLog K → List ℕ
 found_text spelling processes None log = []
 found_text spelling processes (Some stream) log = stream_text spelling processes stream.0 stream.1 log
 
--- the lines of the stream of a number; nothing where the plan has none
+-- the lines of the stream of a number; nothing where the plan has none (no public clause cites it)
 abbrev pub numbered_text : {K : Type 0} → KindSpelling K → Whole K → ℕ → StreamLog K → List ℕ
 numbered_text spelling plan number log = found_text spelling plan.processes (slice_get plan.streams number) log
 

@@ -1,4 +1,4 @@
--- Messages that come in from a line before a call is made.
+-- Messages that come in from a line before a call is made. No public clause cites what stands here.
 use Rattle.std.specs.Prelude.{◌≡◌, ℕ, List, [], ◌∷◌}
 use Rattle.strm_msg.specs.Message.{Msg}
 use Rattle.strm_module.specs.Kinds.{Meaning}

@@ -13,6 +13,8 @@ pub record EndedValue (K : Type 0) : Type 0 where
   pub stream : Image K
   pub left : List Msg
 
+-- ---- what no public clause cites
+
 -- these entries stand in a history at these places
 abbrev pub StandAt : {K : Type 0} → List ℕ → List (Entry K) → List (Entry K) → Type 0
 StandAt [] history [] = ⊤

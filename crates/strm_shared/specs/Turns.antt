@@ -31,6 +31,8 @@ pub record LockedValue (K : Type 0) : Type 0 where
   pub turns : TurnsValue
   pub inlet : InletValue
 
+-- ---- what no public clause cites
+
 -- the caller has a count, and it is the seat's
 abbrev pub has_count : SeatValue → List ℕ → Bool
 has_count seat counts = nat_lt seat.caller (length counts) && get_or counts seat.caller 0 == seat.calls

@@ -40,7 +40,7 @@ name_of longest text =
 abbrev pub byte_of : ℕ → ℕ → Option ℕ
 byte_of high low = hex_of high >>= λ h. hex_of low >>= λ l. Some (h * 16 + l)
 
--- the byte that stands at the front, spelt by itself or as `%hh`, and what follows it
+-- the byte that stands at the front, spelt by itself or as `%hh`, and what follows it (no public clause cites it)
 abbrev pub next_byte : List ℕ → Option (ℕ × List ℕ)
 next_byte [] = None
 next_byte (a ∷ []) = if is_itself a then Some (a, []) else None

@@ -95,7 +95,7 @@ marks_at text = do
 abbrev pub kept_marks_at : List ℕ → Result (Option (ℕ × ℕ)) Cause
 kept_marks_at text = if bytes_eq text (codes "-") then Ok None else (marks_at text >>= λ marks. Ok (Some marks))
 
--- marks as a pair, the high one first
+-- marks as a pair, the high one first (no public clause cites it)
 abbrev pub pair_of : WaterMarks → ℕ × ℕ
 pair_of marks = (marks.hi, marks.lo)
 

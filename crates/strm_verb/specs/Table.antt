@@ -95,7 +95,7 @@ asked_of (Request.Ckband band) = Told Verb.Ckband (Number band ∷ [])
 asked_of Request.Getband = Told Verb.Getband []
 asked_of Request.Close = Told Verb.Close []
 
--- what a call asks for that has no fields
+-- what a call asks for that has no fields (no public clause cites it)
 abbrev pub plain_at : {K : Type 0} → Asked K → List (List ℕ) → Result (Asked K) Cause
 plain_at asked texts = fields_at [] texts >>= λ fields. Ok asked
 

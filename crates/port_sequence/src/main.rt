@@ -2,7 +2,7 @@
 //!
 //! Its module is a discipline of a program's own. It has an ioctl and a queue whose service numbers the data, and what takes it out
 //! finds how many messages were lost. The program plays it on a line, call by call, and then a script of two callers on a loop with a feed
-//! beside them. Last a caller shows by its receipts that its calls are in a stream's history.
+//! beside them, and says what is wrong with two others. Last a caller shows by its receipts that its calls are in a stream's history.
 #![tactic(auto)]
 
 mod kinds;
@@ -12,7 +12,7 @@ mod saying;
 mod showing;
 mod words;
 
-use playing::{play_calls, play_script};
+use playing::{play_calls, play_script, say_faults};
 use showing::show_receipts;
 use std::process::ExitCode;
 
@@ -20,6 +20,7 @@ fn main(rt: HostRuntime) -> ExitCode {
     let alloc = rt.alloc();
     if play_calls(&rt, alloc).is_some()
         && play_script(&rt, alloc).is_some()
+        && say_faults(&rt, alloc).is_some()
         && show_receipts(&rt, alloc).is_some()
     {
         ExitCode::from(0)

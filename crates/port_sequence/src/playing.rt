@@ -74,3 +74,20 @@ pub fn play_script<R: Print + Threads + Wait + Sync>(rt: &R, alloc: Global) -> O
     let outcome = play::<ByShape, R>(rt, alloc, SCRIPT.as_bytes(), 1).ok()?;
     print(&outcome.transcript, &outcome.plan, &mut io::writer(rt)).ok()
 }
+
+/// Scripts that are none: a first number of more than one byte, and a word that the vocabulary has not.
+const WRONG: [&str; 2] = [
+    "stream s echo 16/4 16/4\nprocess p\npush s:a sequence m - 8/2 256\n",
+    "stream s echo 16/4 16/4\nprocess p\npush s:a pass m - 8/2\n",
+];
+
+/// Says why scripts are not played: the first fault of each, with its line.
+pub fn say_faults<R: Print + Threads + Wait + Sync>(rt: &R, alloc: Global) -> Option<()> {
+    for script in WRONG {
+        match play::<ByShape, R>(rt, alloc, script.as_bytes(), 1) {
+            Ok(_) => return None,
+            Err(fault) => println!(rt; "{fault}").ok()?,
+        }
+    }
+    Some(())
+}

@@ -33,6 +33,11 @@ const fn line(marks: (u32, u32), ring: u16) -> Setup {
 /// The serials of modules, topmost first, and nothing behind them.
 type Serials = [Option<u64>; MOST_MODULES];
 
+/// Stops the test where a row of a table does not hold: the name of the table, and the number of the row, counted from 0.
+fn check(rt: &impl Abort, (name, at): (&str, usize), is_so: bool) {
+    assert!(rt; is_so, "{name}: row {at}");
+}
+
 fn bytes(rt: &impl Abort, alloc: Global, bytes: &[u8]) -> Bytes {
     Bytes::from_slice(alloc, bytes).expect(rt, "no memory")
 }
@@ -107,6 +112,16 @@ fn wrote(kept: &Kept<Kind>) -> Option<(u32, u8, u64)> {
         ) => Some((caller, *dat.as_slice().first()?, *len)),
         _ => None,
     }
+}
+
+/// Whether a history is of these writes, in order, and of nothing else: who wrote, the first byte, and the length.
+fn are_writes(history: &[Kept<Kind>], wanted: &[(u32, u8, u64)]) -> bool {
+    for (at, entry) in history.iter().enumerate() {
+        if wrote(entry) != wanted.get(at).copied() {
+            return false;
+        }
+    }
+    history.len() == wanted.len()
 }
 
 /// The data of a message that came in with an entry; of a call nothing.

@@ -4,8 +4,11 @@ use super::{bytes, push, write};
 use arrayvec::ArrayVec;
 use std::alloc::Global;
 use std::process::Abort;
-use strm_head::{Answer, GetFlag, More, Name, Priority, Received, Refusal, Reply, Request, Wanted};
-use strm_module::{Boxed, Kind, Plain};
+use strm_head::{
+    Answer, Driver, GetFlag, More, Name, Outcome, Priority, Received, Refusal, Reply, Request,
+    Stream, Wanted,
+};
+use strm_module::{Boxed, Kind, ModuleOf, Plain};
 use strm_msg::{End, Errno, Message};
 
 mod histories;
@@ -87,6 +90,16 @@ enum Happens {
 }
 
 type Row = (End, Happens);
+
+/// A new stream over this driver, whose lists are full at 16 bytes.
+fn stream_over<M: ModuleOf>(rt: &impl Abort, alloc: Global, driver: Driver) -> Stream<M> {
+    Stream::new(alloc, driver, (16, 4), (16, 4)).expect(rt, "no memory for a stream")
+}
+
+/// What becomes of a call on end A.
+fn apply<M: ModuleOf>(stream: &mut Stream<M>, request: Request<Boxed<M>>) -> Outcome<M> {
+    stream.apply(End::A, request)
+}
 
 fn message(rt: &impl Abort, alloc: Global, comes: Comes) -> Message {
     match comes {

@@ -1,4 +1,5 @@
 //! What is moved from one function to the next is small: sizes in bytes.
+use super::check;
 use std::mem::size_of;
 use strm_head::{Answer, Event, Name, Outcome, Reply, Request};
 use strm_history::{Called, Entry, Kept, Receipt};
@@ -8,7 +9,7 @@ use strm_run::ScriptCall;
 
 #[test]
 fn what_a_call_moves_is_small(rt: HostRuntime) {
-    let sizes = [
+    for (what, size, wanted) in [
         ("a name", size_of::<Name>(), 9),
         ("a message", size_of::<Message>(), 96),
         ("a reply", size_of::<Reply>(), 104),
@@ -29,8 +30,7 @@ fn what_a_call_moves_is_small(rt: HostRuntime) {
             size_of::<ScriptCall<Boxed<Plain>>>(),
             96,
         ),
-    ];
-    for (what, size, wanted) in sizes {
-        assert_eq!(rt; (what, size), (what, wanted));
+    ] {
+        check(&rt, (what, size), size == wanted);
     }
 }

@@ -1,11 +1,11 @@
 //! Streams are made, and what happens to one makes a history.
-use super::tables::{MIXED, TABLES, Table};
+use super::tables::{ECHOES, LINES, MIXED};
 use super::{Call, Comes, Happens, Row, Want, answer_of, message, request_of};
-use crate::tests::{padded, told};
+use crate::tests::{check, padded, told};
 use std::alloc::Global;
 use std::process::Abort;
 use strm_head::{Answer, Driver, Event, NewFault, Reply, Request, Stream};
-use strm_history::{Called, Entry, Landed, Log, Setup, Who};
+use strm_history::{Called, Entry, Kept, Landed, Log, Setup, Who};
 use strm_module::{Boxed, BoxedShape, Kind, ModuleOf, Plain};
 use strm_msg::{End, Message};
 
@@ -14,12 +14,22 @@ fn caller_of(at: usize) -> u32 {
     (at % 5) as u32 + 7
 }
 
+/// The marks of a head and of a driver.
+const BAD_MARKS: &[((u32, u32), (u32, u32))] = &[
+    ((4, 4), (16, 4)),
+    ((16, 4), (4, 4)),
+    ((4, 16), (4, 16)),
+];
+
+/// Whether a stream is refused for its marks.
+fn is_refused<M: ModuleOf>(made: Result<Stream<M>, NewFault>) -> bool {
+    made.err() == Some(NewFault::Marks)
+}
+
 #[test]
 fn low_marks_are_below_high_ones(rt: HostRuntime) {
-    let alloc: Global = rt.alloc();
-    for (head, drv) in [((4, 4), (16, 4)), ((16, 4), (4, 4)), ((4, 16), (4, 16))] {
-        let made: Result<Stream<Plain>, NewFault> = Stream::new(alloc, Driver::Loop, head, drv);
-        assert!(rt; made.err() == Some(NewFault::Marks));
+    for (head, drv) in BAD_MARKS {
+        assert!(rt; is_refused::<Plain>(Stream::new(rt.alloc(), Driver::Loop, *head, *drv)));
     }
 }
 
@@ -55,6 +65,13 @@ fn taken_out(want: Want, back: &[u64]) -> &[u64] {
     }
 }
 
+/// Whether that is the answer.
+fn is_answer(found: &Answer, want: Answer) -> bool {
+    let is_so = *found == want;
+    drop(want);
+    is_so
+}
+
 /// Whether this is the entry of a call.
 fn is_asked(
     rt: &impl Abort,
@@ -67,18 +84,20 @@ fn is_asked(
     is_call(&entry.event)
         && pushed(&entry.event) == pushed_at(call, at)
         && entry.who == Who::Caller(caller_of(at))
-        && entry.answer == answer_of(rt, alloc, want)
+        && is_answer(&entry.answer, answer_of(rt, alloc, want))
         && entry.moves.len() == moves
         && moves as u64 <= entry.looks
         && entry.out.as_slice() == taken_out(want, back)
 }
 
 /// Whether an event is that this message came in.
-fn is_arrival(event: &Event<BoxedShape<Kind>>, wanted: &Message) -> bool {
-    match event {
-        Event::Arrived(m) => m == wanted,
+fn is_arrival(event: &Event<BoxedShape<Kind>>, wanted: Message) -> bool {
+    let is_so = match event {
+        Event::Arrived(m) => *m == wanted,
         Event::Asked(_) => false,
-    }
+    };
+    drop(wanted);
+    is_so
 }
 
 /// Whether this is the entry of a message that was taken.
@@ -88,7 +107,7 @@ fn is_taken(
     entry: &Entry<Kind>,
     (comes, moves, looks): (Comes, usize, u64),
 ) -> bool {
-    is_arrival(&entry.event, &message(rt, alloc, comes))
+    is_arrival(&entry.event, message(rt, alloc, comes))
         && entry.who == Who::Line
         && entry.answer == Answer::Done(Reply::Line)
         && entry.moves.len() == moves
@@ -100,13 +119,14 @@ fn is_taken(
 fn is_entry(
     rt: &impl Abort,
     alloc: Global,
-    entry: Option<&Entry<Kind>>,
+    kept: Option<&Kept<Kind>>,
     (end, happens): Row,
     at: usize,
 ) -> bool {
-    let Some(entry) = entry else {
+    let Some(kept) = kept else {
         return false;
     };
+    let entry = kept.entry();
     entry.end == end
         && match happens {
             Happens::Asked(call, want, moves, back) => {
@@ -123,7 +143,7 @@ fn is_entry(
 }
 
 /// Offers a message.
-fn offered(log: &mut Log<Plain>, m: Message) -> Landed {
+fn offered<M: ModuleOf>(log: &mut Log<M>, m: Message) -> Landed {
     if m.from_line() {
         log.arrive(m)
     } else {
@@ -131,12 +151,22 @@ fn offered(log: &mut Log<Plain>, m: Message) -> Landed {
     }
 }
 
+/// Whether a message was taken.
+fn is_entered(landed: Landed) -> bool {
+    let is_so = matches!(&landed, Landed::Entered);
+    drop(landed);
+    is_so
+}
+
 /// Whether a message was left.
-fn is_left(landed: &Landed, wanted: &Message) -> bool {
-    match landed {
-        Landed::Full(m) => m == wanted,
+fn is_left(landed: Landed, wanted: Message) -> bool {
+    let is_so = match &landed {
+        Landed::Full(m) => *m == wanted,
         _ => false,
-    }
+    };
+    drop(landed);
+    drop(wanted);
+    is_so
 }
 
 fn call_on<M: ModuleOf>(
@@ -148,6 +178,21 @@ fn call_on<M: ModuleOf>(
     log.call(caller, 1, strm_history::Call { end, request })
 }
 
+/// Makes the call of a row: whether it is answered so, and these modules come back.
+fn asks(
+    rt: &impl Abort,
+    alloc: Global,
+    log: &mut Log<Plain>,
+    (end, call, want, back): (End, Call, Want, &[u64]),
+    at: usize,
+) -> bool {
+    let request = request_of(rt, alloc, at as u64, call);
+    let (answer, serials) = told(call_on(log, caller_of(at), end, request)).expect(rt, "room");
+    let is_so = is_answer(&answer, answer_of(rt, alloc, want));
+    drop(answer);
+    is_so && serials == padded(back)
+}
+
 /// Makes a row happen: whether what comes back is what it says.
 fn happens(
     rt: &impl Abort,
@@ -157,26 +202,43 @@ fn happens(
     at: usize,
 ) -> bool {
     match happens {
-        Happens::Asked(call, want, _, back) => {
-            let request = request_of(rt, alloc, at as u64, call);
-            let called = call_on(log, caller_of(at), end, request);
-            let told = told(called).expect(rt, "room");
-            told.0 == answer_of(rt, alloc, want) && told.1 == padded(back)
-        }
-        Happens::Taken(comes, _, _) => {
-            let landed = offered(log, message(rt, alloc, comes));
-            matches!(landed, Landed::Entered)
-        }
+        Happens::Asked(call, want, _, back) => asks(rt, alloc, log, (end, call, want, back), at),
+        Happens::Taken(comes, _, _) => is_entered(offered(log, message(rt, alloc, comes))),
         Happens::Left(comes) => {
             let landed = offered(log, message(rt, alloc, comes));
-            is_left(&landed, &message(rt, alloc, comes))
+            is_left(landed, message(rt, alloc, comes))
         }
     }
 }
 
-/// Makes the rows of a table happen one after another, and looks at the entry of each but those that are left,
-/// when all have happened. Gives the stream.
-fn play(rt: &impl Abort, alloc: Global, (driver, rows): Table) -> Stream<Plain> {
+/// Makes the rows of a table happen one after another.
+fn all_happen(rt: &impl Abort, alloc: Global, log: &mut Log<Plain>, rows: &[Row]) {
+    for (at, row) in rows.iter().enumerate() {
+        check(rt, ("what happens", at), happens(rt, alloc, log, *row, at));
+    }
+}
+
+/// The history that a log leaves.
+fn history_of<M: ModuleOf>(log: Log<M>) -> Vec<Kept<M::Kind>> {
+    let (history, stream) = log.into_parts();
+    drop(stream);
+    history
+}
+
+/// Looks at the entry of each row but those that are left.
+fn are_entries(rt: &impl Abort, alloc: Global, history: &[Kept<Kind>], rows: &[Row]) {
+    let mut entries = history.iter();
+    for (at, row) in rows.iter().enumerate() {
+        if !matches!(row.1, Happens::Left(_)) {
+            let is_so = is_entry(rt, alloc, entries.next(), *row, at);
+            check(rt, ("entries", at), is_so);
+        }
+    }
+    assert!(rt; entries.next().is_none());
+}
+
+/// Plays a table on a new stream, and looks at its history when all has happened. Says whether end A is open then.
+fn play(rt: &impl Abort, alloc: Global, driver: Driver, rows: &[Row]) -> bool {
     let setup = Setup {
         driver,
         head: (16, 4),
@@ -184,30 +246,24 @@ fn play(rt: &impl Abort, alloc: Global, (driver, rows): Table) -> Stream<Plain> 
         ring: 0,
     };
     let mut log = Log::new(alloc, setup).ok().expect(rt, "a stream");
-    for (at, row) in rows.iter().enumerate() {
-        assert!(rt; happens(rt, alloc, &mut log, *row, at), "row {at}");
+    all_happen(rt, alloc, &mut log, rows);
+    let is_open = log.stream().is_open(End::A);
+    let history = history_of(log);
+    are_entries(rt, alloc, history.as_slice(), rows);
+    is_open
+}
+
+#[test]
+fn what_comes_in_between_calls_stands_in_the_history(rt: HostRuntime) {
+    for rows in LINES {
+        play(&rt, rt.alloc(), Driver::Line, rows);
     }
-    let (history, stream) = log.into_parts();
-    let mut entries = history.iter();
-    for (at, row) in rows.iter().enumerate() {
-        if !matches!(row.1, Happens::Left(_)) {
-            let entry = match entries.next() {
-                Some(kept) => Some(kept.entry()),
-                None => None,
-            };
-            assert!(rt; is_entry(rt, alloc, entry, *row, at), "entry {at}");
-        }
-    }
-    assert!(rt; entries.next().is_none());
-    stream
 }
 
 #[test]
 fn calls_and_messages_make_a_history(rt: HostRuntime) {
-    let alloc: Global = rt.alloc();
-    let stream = play(&rt, alloc, MIXED);
-    assert!(rt; !stream.is_open(End::A));
-    for table in TABLES {
-        drop(play(&rt, alloc, table));
+    for rows in ECHOES {
+        play(&rt, rt.alloc(), Driver::Echo, rows);
     }
+    assert!(rt; !play(&rt, rt.alloc(), Driver::Line, MIXED));
 }

@@ -1,12 +1,12 @@
 //! Boxed modules are handed in and back, and each is closed once.
-use crate::tests::{boxed, came_back, padded};
+use super::{apply, stream_over};
+use crate::tests::{boxed, came_back, check, padded};
 use std::alloc::Global;
 use std::process::Abort;
 use std::sync::Arc;
 use std::sync::atomic::{AtomicU64, Ordering};
-use strm_head::{Answer, Driver, Outcome, Refusal, Request, Stream};
+use strm_head::{Answer, Driver, Refusal, Request, Stream};
 use strm_module::{Boxed, Kind, Module, ModuleOf};
-use strm_msg::End;
 
 type Boxes = Stream<Box<dyn Module>>;
 
@@ -39,10 +39,6 @@ fn logged(log: &Log) -> u64 {
     log.load(Ordering::SeqCst)
 }
 
-fn boxes(rt: &impl Abort, alloc: Global) -> Boxes {
-    Stream::new(alloc, Driver::Loop, (16, 4), (16, 4)).expect(rt, "no memory for a stream")
-}
-
 /// A call on end A.
 #[derive(Clone, Copy, Drop)]
 enum Call {
@@ -58,7 +54,7 @@ type Row = (Call, bool, &'static [u64], u64, u64);
 
 /// The topmost of three is popped and dropped, and then the end is closed: the other two come back,
 /// and are closed from top to bottom when they are dropped.
-const CLOSE: [Row; 5] = [
+const CLOSE: &[Row] = &[
     (Call::Push(1), false, &[], 0, 0),
     (Call::Push(2), false, &[], 0, 0),
     (Call::Push(3), false, &[], 0, 0),
@@ -67,7 +63,7 @@ const CLOSE: [Row; 5] = [
 ];
 
 /// A push at a closed end hands its module back, which is closed when the caller drops it.
-const REFUSED_PUSH: [Row; 2] = [
+const REFUSED_PUSH: &[Row] = &[
     (Call::Close, false, &[], 0, 0),
     (Call::Push(4), true, &[4], 0, 4),
 ];
@@ -96,43 +92,38 @@ fn request_of(
     }
 }
 
-pub(super) fn apply<M: ModuleOf>(stream: &mut Stream<M>, request: Request<Boxed<M>>) -> Outcome<M> {
-    stream.apply(End::A, request)
-}
-
-/// Makes a call, and looks at what comes back.
-fn happen(
-    rt: &impl Abort,
-    alloc: Global,
-    stream: &mut Boxes,
+/// Makes a call, and says whether this comes back and is closed when it is dropped.
+fn happens<M: ModuleOf>(
+    stream: &mut Stream<M>,
+    request: Request<Boxed<M>>,
     log: &Log,
-    (call, is_refused, serials, before, after): Row,
-) {
-    let outcome = apply(stream, request_of(rt, alloc, log, call));
-    assert!(rt; (outcome.answer == Answer::Refused(Refusal::Closed)) == is_refused);
-    assert_eq!(rt; came_back(outcome.back.as_slice()), padded(serials));
-    assert_eq!(rt; logged(log), before);
+    (_, is_refused, serials, before, after): Row,
+) -> bool {
+    let outcome = apply(stream, request);
+    let is_answered = matches!(outcome.answer, Answer::Refused(Refusal::Closed)) == is_refused;
+    let is_back = came_back(outcome.back.as_slice()) == padded(serials) && logged(log) == before;
     drop(outcome);
-    assert_eq!(rt; logged(log), after);
+    is_answered && is_back && logged(log) == after
 }
 
 /// Makes calls on a stream, and looks that nothing is closed again with it.
 fn play(rt: &impl Abort, alloc: Global, rows: &[Row], last: u64) {
     let log = new_log(rt, alloc);
-    let mut stream = boxes(rt, alloc);
-    for row in rows {
-        happen(rt, alloc, &mut stream, &log, *row);
+    let mut stream: Boxes = stream_over(rt, alloc, Driver::Loop);
+    for (at, row) in rows.iter().enumerate() {
+        let request = request_of(rt, alloc, &log, row.0);
+        check(rt, ("calls", at), happens(&mut stream, request, &log, *row));
     }
     drop(stream);
-    assert_eq!(rt; logged(&log), last);
+    assert!(rt; logged(&log) == last);
 }
 
 #[test]
 fn boxes_of_a_close_are_closed_once_each(rt: HostRuntime) {
-    play(&rt, rt.alloc(), &CLOSE, 321);
+    play(&rt, rt.alloc(), CLOSE, 321);
 }
 
 #[test]
 fn box_of_a_refused_push_comes_back(rt: HostRuntime) {
-    play(&rt, rt.alloc(), &REFUSED_PUSH, 4);
+    play(&rt, rt.alloc(), REFUSED_PUSH, 4);
 }

@@ -1,6 +1,6 @@
 //! What happens to streams, and what becomes of it.
 use super::{Call, Comes, Happens, Pushes, Row, Want};
-use strm_head::{Driver, Refusal};
+use strm_head::Refusal;
 use strm_msg::End::{A, B};
 use strm_msg::Errno;
 
@@ -16,24 +16,15 @@ const HUNG_UP: Want = Want::Refused(Refusal::HungUp);
 
 const INVALID: Want = Want::Refused(Refusal::Invalid);
 
-/// A table of what happens to a new stream over this driver.
-pub(super) type Table = (Driver, &'static [Row]);
+/// What happens to a new line.
+pub(super) const LINES: &[&[Row]] = &[ERROR, ERRORS, HANGUP, FULL, CLOSED_END];
 
-/// These can be played call by call, and as a history too.
-pub(super) const TABLES: [Table; 8] = [
-    (Driver::Line, &ERROR),
-    (Driver::Line, &ERRORS),
-    (Driver::Line, &HANGUP),
-    (Driver::Line, &FULL),
-    (Driver::Line, &CLOSED_END),
-    (Driver::Echo, &NO_LINE),
-    (Driver::Echo, &NO_FAR_END),
-    (Driver::Echo, &NINE),
-];
+/// What happens to a new echo.
+pub(super) const ECHOES: &[&[Row]] = &[NO_LINE, NO_FAR_END, NINE];
 
 // The line's place is looked at before x moves and when it is empty. An error goes up at once, and its
 // flush leaves no place with a message: nothing is looked at. It refuses all but a close.
-const ERROR: [Row; 6] = [
+const ERROR: &[Row] = &[
     (A, Happens::Taken(Comes::Data(0, b"x"), 1, 2)),
     (A, Happens::Taken(Comes::Error(Errno::EIO), 0, 0)),
     (A, Happens::Asked(Call::Read(8), EIO, 0, &[])),
@@ -43,7 +34,7 @@ const ERROR: [Row; 6] = [
 ];
 
 // A later error replaces an earlier one.
-const ERRORS: [Row; 4] = [
+const ERRORS: &[Row] = &[
     (A, Happens::Taken(Comes::Error(Errno::EIO), 0, 0)),
     (A, Happens::Asked(Call::Nread, EIO, 0, &[])),
     (A, Happens::Taken(Comes::Error(Errno::EPROTO), 0, 0)),
@@ -51,7 +42,7 @@ const ERRORS: [Row; 4] = [
 ];
 
 // A line that is hung up gives no bytes when all is read.
-const HANGUP: [Row; 5] = [
+const HANGUP: &[Row] = &[
     (A, Happens::Taken(Comes::Data(0, b"x"), 1, 2)),
     (A, Happens::Taken(Comes::Hangup, 0, 0)),
     (A, Happens::Asked(Call::Read(8), Want::Bytes(b"x"), 0, &[])),
@@ -62,7 +53,7 @@ const HANGUP: [Row; 5] = [
 // The head holds 16 bytes of band 0 and so does the line's list. A high message goes up past both,
 // and so does one of another band, which is full nowhere. One look finds that the b cannot move, and none
 // is made for the high message; one is made before d moves, and one more finds that the b still cannot.
-const FULL: [Row; 9] = [
+const FULL: &[Row] = &[
     (A, Happens::Taken(Comes::Data(0, b"aaaaaaaaaaaaaaaa"), 1, 2)),
     (A, Happens::Taken(Comes::Data(0, b"bbbbbbbbbbbbbbbb"), 0, 1)),
     (A, Happens::Left(Comes::Data(0, b"c"))),
@@ -81,27 +72,27 @@ const FULL: [Row; 9] = [
 ];
 
 // Nothing comes to a closed end.
-const CLOSED_END: [Row; 3] = [
+const CLOSED_END: &[Row] = &[
     (A, Happens::Asked(Call::Close, Want::Closed(&[]), 0, &[])),
     (A, Happens::Left(Comes::Data(0, b"x"))),
     (A, Happens::Left(Comes::High(b"h"))),
 ];
 
 // Nothing comes in but from a line.
-const NO_LINE: [Row; 3] = [
+const NO_LINE: &[Row] = &[
     (A, Happens::Left(Comes::Data(0, b"x"))),
     (A, Happens::Left(Comes::Hangup)),
     (A, Happens::Asked(Call::Nread, Want::Waiting(0, 0), 0, &[])),
 ];
 
 // An echo has no far end.
-const NO_FAR_END: [Row; 1] = [(
+const NO_FAR_END: &[Row] = &[(
     B,
     Happens::Asked(Call::Push(Pushes::Pass, b"m"), CLOSED, 0, &[0]),
 )];
 
 // The ninth module comes back, and the others stay until the end is closed.
-const NINE: [Row; 10] = [
+const NINE: &[Row] = &[
     (
         A,
         Happens::Asked(Call::Push(Pushes::Pass, b"m1"), Want::Pushed, 0, &[]),
@@ -150,39 +141,36 @@ const NINE: [Row; 10] = [
 ];
 
 // The line has one end, and takes nothing in once that is closed.
-pub(super) const MIXED: Table = (
-    Driver::Line,
-    &[
-        (
-            A,
-            Happens::Asked(Call::Push(Pushes::Pass, b"m0"), Want::Pushed, 0, &[]),
-        ),
-        (
-            A,
-            Happens::Asked(Call::Push(Pushes::Tee, b"m1"), Want::Pushed, 0, &[]),
-        ),
-        (A, Happens::Taken(Comes::Data(0, b"hi"), 1, 2)),
-        (A, Happens::Asked(Call::Read(8), Want::Bytes(b"hi"), 0, &[])),
-        (A, Happens::Asked(Call::Pop, Want::Popped(b"m1"), 0, &[1])),
-        (
-            A,
-            Happens::Asked(Call::Push(Pushes::CrNl, b"m5"), Want::Pushed, 0, &[]),
-        ),
-        (A, Happens::Asked(Call::Nread, Want::Waiting(0, 0), 0, &[])),
-        (
-            B,
-            Happens::Asked(Call::Push(Pushes::Mute, b"m7"), CLOSED, 0, &[7]),
-        ),
-        (A, Happens::Taken(Comes::High(b"h"), 0, 0)),
-        (
-            A,
-            Happens::Asked(Call::List, Want::Listed(&[b"m5", b"m0", b"line"]), 0, &[]),
-        ),
-        (
-            A,
-            Happens::Asked(Call::Close, Want::Closed(&[b"m5", b"m0"]), 0, &[5, 0]),
-        ),
-        (A, Happens::Left(Comes::Data(0, b"y"))),
-        (A, Happens::Asked(Call::Pop, CLOSED, 0, &[])),
-    ],
-);
+pub(super) const MIXED: &[Row] = &[
+    (
+        A,
+        Happens::Asked(Call::Push(Pushes::Pass, b"m0"), Want::Pushed, 0, &[]),
+    ),
+    (
+        A,
+        Happens::Asked(Call::Push(Pushes::Tee, b"m1"), Want::Pushed, 0, &[]),
+    ),
+    (A, Happens::Taken(Comes::Data(0, b"hi"), 1, 2)),
+    (A, Happens::Asked(Call::Read(8), Want::Bytes(b"hi"), 0, &[])),
+    (A, Happens::Asked(Call::Pop, Want::Popped(b"m1"), 0, &[1])),
+    (
+        A,
+        Happens::Asked(Call::Push(Pushes::CrNl, b"m5"), Want::Pushed, 0, &[]),
+    ),
+    (A, Happens::Asked(Call::Nread, Want::Waiting(0, 0), 0, &[])),
+    (
+        B,
+        Happens::Asked(Call::Push(Pushes::Mute, b"m7"), CLOSED, 0, &[7]),
+    ),
+    (A, Happens::Taken(Comes::High(b"h"), 0, 0)),
+    (
+        A,
+        Happens::Asked(Call::List, Want::Listed(&[b"m5", b"m0", b"line"]), 0, &[]),
+    ),
+    (
+        A,
+        Happens::Asked(Call::Close, Want::Closed(&[b"m5", b"m0"]), 0, &[5, 0]),
+    ),
+    (A, Happens::Left(Comes::Data(0, b"y"))),
+    (A, Happens::Asked(Call::Pop, CLOSED, 0, &[])),
+];

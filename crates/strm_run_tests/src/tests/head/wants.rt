@@ -1,10 +1,10 @@
 //! A module that wants memory once: before a change the call is refused and can be made again, after one the stream is broken.
-use super::owners::apply;
-use crate::tests::{boxed, bytes, serial_at};
+use super::{apply, stream_over};
+use crate::tests::{boxed, bytes, check, serial_at};
 use std::alloc::Global;
 use std::process::Abort;
 use strm_head::{Answer, Driver, Outcome, Refusal, Reply, Request, Stream};
-use strm_module::{Boxed, Kind, Module, Put, Shape};
+use strm_module::{Boxed, Kind, Module, ModuleOf, Put, Shape};
 use strm_msg::{Message, NoMem, Side};
 
 type Boxes = Stream<Box<dyn Module>>;
@@ -47,6 +47,8 @@ enum Asked {
 /// What a call answers.
 #[derive(Clone, Copy, Drop)]
 enum Want {
+    /// The module was put in.
+    Pushed,
     /// The byte was written.
     Written,
     /// It was read.
@@ -74,7 +76,7 @@ const SECOND_PUT: &[(Asked, Want)] = &[
     (Asked::Read, Want::Refused(Refusal::Closed)),
 ];
 
-fn request_of(rt: &impl Abort, alloc: Global, asked: Asked) -> Request<Boxed<Box<dyn Module>>> {
+fn request_of<M: ModuleOf>(rt: &impl Abort, alloc: Global, asked: Asked) -> Request<Boxed<M>> {
     match asked {
         Asked::Write => Request::Write {
             dat: bytes(rt, alloc, b"x"),
@@ -86,13 +88,14 @@ fn request_of(rt: &impl Abort, alloc: Global, asked: Asked) -> Request<Boxed<Box
 }
 
 /// Whether the module came out.
-fn has_come_out(outcome: &Outcome<Box<dyn Module>>) -> bool {
+fn has_come_out<M: ModuleOf>(outcome: &Outcome<M>) -> bool {
     serial_at(outcome.back.as_slice(), 0) == Some(7)
 }
 
 /// Whether a call was answered so.
-fn is_answered(outcome: &Outcome<Box<dyn Module>>, want: Want) -> bool {
+fn is_answered<M: ModuleOf>(outcome: &Outcome<M>, want: Want) -> bool {
     match (&outcome.answer, want) {
+        (Answer::Done(Reply::Push), Want::Pushed) => true,
         (Answer::Done(Reply::Write { len }), Want::Written) => *len == 1,
         (Answer::Done(Reply::Read { dat }), Want::Read) => dat.as_slice() == b"x".as_slice(),
         (Answer::Done(Reply::Close { .. }), Want::Closed) => has_come_out(outcome),
@@ -102,24 +105,29 @@ fn is_answered(outcome: &Outcome<Box<dyn Module>>, want: Want) -> bool {
     }
 }
 
-/// A stream with a module that wants memory at its put behind so many.
-fn wanting(rt: &impl Abort, alloc: Global, before: u64) -> Boxes {
-    let mut stream = Stream::new(alloc, Driver::Echo, (16, 4), (16, 4)).expect(
-        rt,
-        "no memory for a stream",
-    );
+/// Makes a call, and says whether it is answered so.
+fn answers<M: ModuleOf>(stream: &mut Stream<M>, request: Request<Boxed<M>>, want: Want) -> bool {
+    let outcome = apply(stream, request);
+    let is_so = is_answered(&outcome, want);
+    drop(outcome);
+    is_so
+}
+
+/// A module that wants memory at its put behind so many.
+fn wanting(rt: &impl Abort, alloc: Global, before: u64) -> Boxed<Box<dyn Module>> {
     let object: Box<dyn Module> = Box::new(alloc, Wants { before }).expect(rt, "no memory");
-    let instance = boxed(rt, alloc, (7, b"t", Kind::Pass), object);
-    apply(&mut stream, Request::Push { instance });
-    stream
+    boxed(rt, alloc, (7, b"t", Kind::Pass), object)
 }
 
 fn play(rt: &impl Abort, alloc: Global, before: u64, calls: &[(Asked, Want)]) {
-    let mut stream = wanting(rt, alloc, before);
+    let mut stream: Boxes = stream_over(rt, alloc, Driver::Echo);
+    let instance = wanting(rt, alloc, before);
+    assert!(rt; answers(&mut stream, Request::Push { instance }, Want::Pushed));
     for (at, (asked, want)) in calls.iter().enumerate() {
-        let outcome = apply(&mut stream, request_of(rt, alloc, *asked));
-        assert!(rt; is_answered(&outcome, *want), "call {at}");
+        let request = request_of(rt, alloc, *asked);
+        check(rt, ("calls", at), answers(&mut stream, request, *want));
     }
+    drop(stream);
 }
 
 #[test]

@@ -1,5 +1,5 @@
 //! Many callers, played by one worker and by many.
-use super::{Ask, Open, Row, log, played};
+use super::{Ask, Open, Row, played};
 use crate::tests::{ECHO, wrote};
 use std::alloc::Global;
 use std::process::Abort;
@@ -8,8 +8,9 @@ use std::thread::Threads;
 use strm_history::{Kept, Setup};
 use strm_module::Kind;
 use strm_msg::End::A;
+use strm_run::Transcript;
 
-const SETUPS: [Setup; 3] = [ECHO, ECHO, ECHO];
+const SETUPS: &[Setup] = &[ECHO, ECHO, ECHO];
 
 /// The calls that each caller makes.
 const CALLS: &[Row] = &[
@@ -20,12 +21,12 @@ const CALLS: &[Row] = &[
     (1, A, Ask::Write(b"e")),
 ];
 
-const SCRIPTS: [&[Row]; 4] = [CALLS, CALLS, CALLS, CALLS];
+const SCRIPTS: &[&[Row]] = &[CALLS, CALLS, CALLS, CALLS];
 
 /// The first byte and the length of what each caller writes on the first stream, and on the second.
-const FIRST: [(u8, u64); 2] = [(b'a', 1), (b'd', 2)];
+const FIRST: &[(u8, u64)] = &[(b'a', 1), (b'd', 2)];
 
-const SECOND: [(u8, u64); 3] = [(b'b', 2), (b'c', 1), (b'e', 1)];
+const SECOND: &[(u8, u64)] = &[(b'b', 2), (b'c', 1), (b'e', 1)];
 
 /// Whether a history is of writes, and has of this caller these, in order, and no others.
 fn has_calls(history: &[Kept<Kind>], caller: u32, wanted: &[(u8, u64)]) -> bool {
@@ -44,29 +45,45 @@ fn has_calls(history: &[Kept<Kind>], caller: u32, wanted: &[(u8, u64)]) -> bool 
     at == wanted.len()
 }
 
-fn all_are_played<R: Abort + Threads + Wait + Sync>(rt: &R, alloc: Global, workers: u32) {
-    let transcript = played(rt, alloc, &SETUPS, (&SCRIPTS, &[]), workers, &Open);
-    assert_eq!(rt; transcript.streams.len(), 3);
-    assert_eq!(rt; log(rt, &transcript, 0).history.len(), 8);
-    assert_eq!(rt; log(rt, &transcript, 1).history.len(), 12);
-    assert!(rt; log(rt, &transcript, 2).history.is_empty());
+/// Whether each stream has of each caller the calls that it made there, and no others.
+fn are_played(transcript: &Transcript<Kind>) -> bool {
+    let [first, second, third] = transcript.streams.as_slice() else {
+        return false;
+    };
+    let mut are_so = first.history.len() == 8 && second.history.len() == 12;
     for caller in 0..4 {
-        assert!(rt; has_calls(log(rt, &transcript, 0).history.as_slice(), caller, &FIRST));
-        assert!(rt; has_calls(log(rt, &transcript, 1).history.as_slice(), caller, &SECOND));
+        are_so &= has_calls(first.history.as_slice(), caller, FIRST);
+        are_so &= has_calls(second.history.as_slice(), caller, SECOND);
     }
+    are_so && third.history.is_empty()
+}
+
+fn all_are_played<R: Abort + Threads + Wait + Sync>(rt: &R, alloc: Global, workers: u32) -> bool {
+    let transcript = played(rt, alloc, SETUPS, (SCRIPTS, &[]), workers, &Open);
+    let is_so = are_played(&transcript);
+    drop(transcript);
+    is_so
 }
 
 #[test]
 fn each_number_of_workers_plays_all_scripts(rt: HostRuntime) {
-    let alloc: Global = rt.alloc();
     for workers in [1, 2, 3, 64] {
-        all_are_played(&rt, alloc, workers);
+        assert!(rt; all_are_played(&rt, rt.alloc(), workers));
+    }
+}
+
+/// Whether there is one stream on which nothing was done.
+fn is_fresh(transcript: &Transcript<Kind>) -> bool {
+    match transcript.streams.as_slice() {
+        [only] => only.history.is_empty(),
+        _ => false,
     }
 }
 
 #[test]
 fn nothing_to_play_leaves_fresh_streams(rt: HostRuntime) {
     let transcript = played(&rt, rt.alloc(), &[ECHO], (&[], &[]), 3, &Open);
-    assert_eq!(rt; transcript.streams.len(), 1);
-    assert!(rt; log(&rt, &transcript, 0).history.is_empty());
+    let is_so = is_fresh(&transcript);
+    drop(transcript);
+    assert!(rt; is_so);
 }

@@ -28,7 +28,7 @@ fn fault<R: Abort + Threads + Wait + Sync>(
 
 /// Runs with so many workers, with a write at an end of a stream and with feeds, and how each is refused: the number of
 /// workers is looked at first, and then whether all that is named is there.
-const RUNS: [(u32, (u32, End), &[Fed], Option<RunFault>); 13] = [
+const RUNS: &[(u32, (u32, End), &[Fed], Option<RunFault>)] = &[
     (0, (0, A), &[], Some(RunFault::Workers)),
     (1, (0, A), &[], None),
     (64, (0, A), &[], None),
@@ -47,19 +47,22 @@ const RUNS: [(u32, (u32, End), &[Fed], Option<RunFault>); 13] = [
 #[test]
 fn a_run_has_1_to_64_workers_and_all_that_is_named(rt: HostRuntime) {
     for (workers, at, fed, refused) in RUNS {
-        assert!(rt; fault(&rt, rt.alloc(), workers, at, fed) == refused);
+        assert!(rt; fault(&rt, rt.alloc(), *workers, *at, fed) == *refused);
     }
 }
 
+/// A fault, its number, and its text.
+const WORDS: &[(RunFault, u8, &str)] = &[
+    (RunFault::Workers, 1, "workers"),
+    (RunFault::NoSuch, 2, "no such stream or end"),
+    (RunFault::NoMem, 3, "no memory"),
+    (RunFault::Unfinished, 5, "unfinished"),
+    (RunFault::NoReceipt, 6, "no receipt"),
+];
+
 #[test]
 fn faults_have_numbers_and_words(rt: HostRuntime) {
-    for (fault, number, text) in [
-        (RunFault::Workers, 1, "workers"),
-        (RunFault::NoSuch, 2, "no such stream or end"),
-        (RunFault::NoMem, 3, "no memory"),
-        (RunFault::Unfinished, 5, "unfinished"),
-        (RunFault::NoReceipt, 6, "no receipt"),
-    ] {
-        assert!(rt; fault.number() == number && fault.text() == text);
+    for (fault, number, text) in WORDS {
+        assert!(rt; fault.number() == *number && fault.text() == *text);
     }
 }

@@ -55,7 +55,7 @@ impl Gate for Done {
 }
 
 /// A call on one stream is answered while another stands under its lock.
-fn is_apart<R: Abort + Threads + Wait + Sync>(rt: &R, alloc: Global, one: u32, other: u32) {
+fn is_apart<R: Abort + Threads + Wait + Sync>(rt: &R, alloc: Global, one: u32, other: u32) -> bool {
     let done = Done {
         inside: OnceLock::new(),
         answered: OnceLock::new(),
@@ -69,15 +69,16 @@ fn is_apart<R: Abort + Threads + Wait + Sync>(rt: &R, alloc: Global, one: u32, o
     let setups = vec![in alloc; ECHO, ECHO, ECHO].expect(rt, "no memory");
     let feeds = vec![in alloc].expect(rt, "no memory");
     let transcript = run_of(rt, alloc, setups, scripts, feeds, 2, &done).expect(rt, "a transcript");
-    assert!(rt; done.answered.get().is_some() && done.late.get().is_none());
-    assert_eq!(rt; log(rt, &transcript, one as usize).history.len(), 2);
-    assert_eq!(rt; log(rt, &transcript, other as usize).history.len(), 1);
+    let is_so = log(rt, &transcript, one as usize).history.len() == 2
+        && log(rt, &transcript, other as usize).history.len() == 1;
+    drop(transcript);
+    is_so && done.answered.get().is_some() && done.late.get().is_none()
 }
 
 #[test]
 fn a_stream_does_not_wait_for_another(rt: HostRuntime) {
     let alloc: Global = rt.alloc();
     for (one, other) in [(0, 1), (0, 2), (1, 0), (1, 2), (2, 0), (2, 1)] {
-        is_apart(&rt, alloc, one, other);
+        assert!(rt; is_apart(&rt, alloc, one, other));
     }
 }

@@ -9,8 +9,10 @@ use strm_run::Gate;
 /// How many workers a run has at most.
 const MOST: u32 = 64;
 
+const WRITES: &[Row] = &[(0, A, Ask::Write(b"x"))];
+
 /// A script for each of them.
-const SCRIPTS: [&[Row]; 64] = [&[(0, A, Ask::Write(b"x"))]; 64];
+const SCRIPTS: &[&[Row]] = &[WRITES; 64];
 
 /// A gate that lets callers go on when all have come to it.
 #[derive(Drop)]
@@ -46,7 +48,8 @@ fn as_many_workers_as_there_may_be_run_at_once(rt: HostRuntime) {
         come: come.as_slice(),
         late: &late,
     };
-    let transcript = played(&rt, alloc, &[ECHO], (&SCRIPTS, &[]), MOST, &gate);
-    assert!(rt; late.get().is_none());
-    assert_eq!(rt; log(&rt, &transcript, 0).history.len(), 64);
+    let transcript = played(&rt, alloc, &[ECHO], (SCRIPTS, &[]), MOST, &gate);
+    let are_all = log(&rt, &transcript, 0).history.len() == 64;
+    drop(transcript);
+    assert!(rt; late.get().is_none() && are_all);
 }

@@ -1,21 +1,19 @@
 //! Several callers of one stream.
 use super::{answer, called, echo, ended};
-use crate::tests::{padded, push, write, wrote};
+use crate::tests::{are_writes, check, padded, push, write};
 use std::alloc::Global;
 use std::process::Abort;
 use std::sync::Wait;
 use strm_head::{Answer, Refusal, Reply, Request};
-use strm_history::Kept;
-use strm_module::{Kind, Plain};
+use strm_module::{Boxed, Kind, Plain};
 use strm_msg::End;
-use strm_shared::{Seat, Shared};
+use strm_shared::{Ended, Seat, Shared};
 
-/// Who writes, what, and its first byte and its length as they stand in the history.
-const WRITES: [(u32, &[u8], u8, u64); 3] = [
-    (1, b"one", b'o', 3),
-    (0, b"four", b'f', 4),
-    (1, b"x", b'x', 1),
-];
+/// Who writes, and what.
+const WRITES: &[(u32, &[u8])] = &[(1, b"one"), (0, b"four"), (1, b"x")];
+
+/// Who wrote, its first byte and its length as they stand in the history.
+const WRITTEN: &[(u32, u8, u64)] = &[(1, b'o', 3), (0, b'f', 4), (1, b'x', 1)];
 
 fn write_all<R: Abort + Wait>(
     rt: &R,
@@ -23,9 +21,9 @@ fn write_all<R: Abort + Wait>(
     shared: &Shared<Plain>,
     seats: &mut Vec<Seat>,
 ) {
-    for (caller, dat, _, _) in WRITES {
-        let seat = seats.get_mut(caller as usize).expect(rt, "a seat");
-        answer(rt, shared, seat, write(rt, alloc, dat));
+    for (caller, dat) in WRITES {
+        let seat = seats.get_mut(*caller as usize).expect(rt, "a seat");
+        drop(answer(rt, shared, seat, write(rt, alloc, dat)));
     }
 }
 
@@ -37,19 +35,6 @@ fn calls_of(seats: &Vec<Seat>, caller: usize) -> u64 {
     }
 }
 
-/// Whether a history is of the writes.
-fn is_history(history: &[Kept<Kind>]) -> bool {
-    for (at, entry) in history.iter().enumerate() {
-        let Some((caller, _, first, len)) = WRITES.get(at) else {
-            return false;
-        };
-        if wrote(entry) != Some((*caller, *first, *len)) {
-            return false;
-        }
-    }
-    history.len() == WRITES.len()
-}
-
 #[test]
 fn the_history_has_each_call_in_order_with_its_caller(rt: HostRuntime) {
     let alloc: Global = rt.alloc();
@@ -58,36 +43,81 @@ fn the_history_has_each_call_in_order_with_its_caller(rt: HostRuntime) {
     assert!(rt; calls_of(&seats, 0) == 1 && calls_of(&seats, 1) == 2);
     seats.as_mut_slice().reverse();
     let end = ended(shared, seats, None).ok().expect(&rt, "an end");
-    assert!(rt; is_history(end.history()));
+    let is_so = are_writes(end.history(), WRITTEN);
+    drop(end);
+    assert!(rt; is_so);
 }
 
-/// A module that passes everything on, of this serial.
-const fn pass(serial: u64) -> (u64, &'static [u8], Kind) {
-    (serial, b"pass", Kind::Pass)
+/// A call on the module stack of an end.
+#[derive(Clone, Copy, Drop)]
+enum Ask {
+    /// A module of this serial is put in, and stays.
+    Push(u64),
+    /// A module of this serial is refused, as the end is closed.
+    Refused(u64),
+    Close,
+}
+
+/// The calls of one caller, and the serials of the modules that come back.
+const CALLS: &[(End, Ask, &[u64])] = &[
+    (End::A, Ask::Push(5), &[]),
+    (End::A, Ask::Push(6), &[]),
+    (End::B, Ask::Refused(7), &[7]),
+    (End::A, Ask::Close, &[6, 5]),
+];
+
+fn request_of(rt: &impl Abort, alloc: Global, ask: Ask) -> Request<Boxed<Plain>> {
+    match ask {
+        Ask::Push(serial) | Ask::Refused(serial) => {
+            push(rt, alloc, (serial, b"pass", Kind::Pass))
+        }
+        Ask::Close => Request::Close,
+    }
+}
+
+fn is_answer(answer: &Answer, ask: Ask) -> bool {
+    match (answer, ask) {
+        (Answer::Done(Reply::Push), Ask::Push(_)) => true,
+        (Answer::Refused(Refusal::Closed), Ask::Refused(_)) => true,
+        (Answer::Done(Reply::Close { .. }), Ask::Close) => true,
+        _ => false,
+    }
+}
+
+/// Whether a call is answered so, and these modules come back.
+fn comes_back<R: Abort + Wait>(
+    rt: &R,
+    alloc: Global,
+    shared: &Shared<Plain>,
+    seat: &mut Seat,
+    (end, ask, back): (End, Ask, &[u64]),
+) -> bool {
+    let request = request_of(rt, alloc, ask);
+    let (answer, serials) = called(rt, shared, seat, end, request);
+    let is_so = is_answer(&answer, ask);
+    drop(answer);
+    is_so && serials == padded(back)
+}
+
+/// Whether the last entry took these modules out, and end A is closed.
+fn is_closed(end: &Ended<Plain>, out: &[u64]) -> bool {
+    let Some(last) = end.history().last() else {
+        return false;
+    };
+    last.entry().out.as_slice() == out && !end.stream().is_open(End::A)
 }
 
 #[test]
 fn modules_come_back_to_their_caller(rt: HostRuntime) {
-    let alloc: Global = rt.alloc();
-    let (shared, mut seats) = echo(&rt, alloc, 0, 1);
+    let (shared, mut seats) = echo(&rt, rt.alloc(), 0, 1);
     let mut seat = seats.pop().expect(&rt, "a seat");
-    for serial in [5, 6] {
-        let pushed = called(
-            &rt,
-            &shared,
-            &mut seat,
-            End::A,
-            push(&rt, alloc, pass(serial)),
-        );
-        assert!(rt; pushed.0 == Answer::Done(Reply::Push) && pushed.1 == padded(&[]));
+    for (at, call) in CALLS.iter().enumerate() {
+        let is_so = comes_back(&rt, rt.alloc(), &shared, &mut seat, *call);
+        check(&rt, ("calls", at), is_so);
     }
-    let refused = called(&rt, &shared, &mut seat, End::B, push(&rt, alloc, pass(7)));
-    assert!(rt; refused.0 == Answer::Refused(Refusal::Closed) && refused.1 == padded(&[7]));
-    let closed = called(&rt, &shared, &mut seat, End::A, Request::Close);
-    assert!(rt; closed.1 == padded(&[6, 5]));
     assert!(rt; seats.push(seat).is_ok());
     let end = ended(shared, seats, None).ok().expect(&rt, "an end");
-    let entry = end.history().last().expect(&rt, "an entry").entry();
-    assert_eq!(rt; entry.out.as_slice(), [6, 5].as_slice());
-    assert!(rt; !end.stream().is_open(End::A));
+    let is_so = is_closed(&end, &[6, 5]);
+    drop(end);
+    assert!(rt; is_so);
 }

@@ -196,7 +196,7 @@ const ALL_LEFT: Row = Row {
     left: &[b"ccccc", b"d", b"e"],
 };
 
-const ROWS: [Row; 7] = [
+const ROWS: &[Row] = &[
     FULL_RING, ERROR, ERRORS, OPTIONS, HELD_BACK, NO_CALL, ALL_LEFT,
 ];
 
@@ -290,10 +290,13 @@ fn goes<N: Runs<Kind>, R: Abort + Wait>(
     if let Some((m, is_accepted)) = message_of(rt, alloc, step) {
         return offers(rt, feeder, m) == is_accepted;
     }
-    match request_of(rt, alloc, step) {
-        Some(request) => is_answer(step, &answer(rt, shared, seat, request)),
-        None => false,
-    }
+    let Some(request) = request_of(rt, alloc, step) else {
+        return false;
+    };
+    let answer = answer(rt, shared, seat, request);
+    let is_so = is_answer(step, &answer);
+    drop(answer);
+    is_so
 }
 
 /// Whether this is the history that is wanted.
@@ -336,10 +339,12 @@ fn plays<N: Runs<Kind>, R: Abort + Wait>(rt: &R, alloc: Global, ring: Ring, row:
         assert!(rt; goes(rt, alloc, &shared, &mut seat, &mut feeder, *step));
     }
     seats.push(seat).expect(rt, "no memory");
-    match ended(shared, seats, feeder.finish()) {
-        Ok(ended) => { is_history(ended.history(), row.history) && is_left(ended.left(), row.left) }
-        Err(_) => false,
-    }
+    let ended = ended(shared, seats, feeder.finish())
+        .ok()
+        .expect(rt, "an end");
+    let is_so = is_history(ended.history(), row.history) && is_left(ended.left(), row.left);
+    drop(ended);
+    is_so
 }
 
 /// Whether all goes as it should.
@@ -352,7 +357,7 @@ fn holds<R: Abort + Wait>(rt: &R, alloc: Global, row: Row) -> bool {
 #[test]
 fn messages_come_in_before_a_call(rt: HostRuntime) {
     for row in ROWS {
-        assert!(rt; holds(&rt, rt.alloc(), row));
+        assert!(rt; holds(&rt, rt.alloc(), *row));
     }
 }
 

@@ -78,7 +78,7 @@ fn read_all<N: Runs<Kind>, R: Abort + Wait>(
         if is_done.get().is_some() {
             break;
         }
-        answer(rt, shared, &mut seat, Request::Read { max: 65_535 });
+        drop(answer(rt, shared, &mut seat, Request::Read { max: 65_535 }));
         thread::yield_now();
     }
     seat

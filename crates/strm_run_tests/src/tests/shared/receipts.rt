@@ -64,52 +64,68 @@ fn both<R: Abort + Wait>(rt: &R, alloc: Global) -> (Ended<Plain>, Receipt<Kind>,
     (end, of_q, of_p)
 }
 
+/// Whether a receipt is of this caller's first call, which wrote these bytes.
+fn is_of_write(receipt: &Receipt<Kind>, caller: u32, bytes: &[u8]) -> bool {
+    receipt.caller() == caller && receipt.number() == 1 && is_write(receipt.entry(), caller, bytes)
+}
+
+/// Whether the history has two entries, first that of `of_q` and then that of `of_p`, and holds both, and no other call has one.
+fn has_both(end: &Ended<Plain>, of_q: &Receipt<Kind>, of_p: &Receipt<Kind>) -> bool {
+    let (Some(first), Some(second)) = (end.history().first(), end.history().last()) else {
+        return false;
+    };
+    end.history().len() == 2
+        && first.entry().is_same(of_q.entry())
+        && second.entry().is_same(of_p.entry())
+        && !first.entry().is_same(of_p.entry())
+        && end.holds(of_q)
+        && end.holds(of_p)
+        && end.entry_at(1, 2).is_none()
+        && end.entry_at(0, 0).is_none()
+        && end.entry_at(2, 1).is_none()
+}
+
+/// Whether a receipt is of a call that was refused as invalid.
+fn is_invalid(receipt: &Receipt<Kind>) -> bool {
+    matches!(receipt.entry().answer, Answer::Refused(Refusal::Invalid))
+}
+
 #[test]
 fn a_receipt_shows_the_entry_that_the_history_holds(rt: HostRuntime) {
-    let alloc: Global = rt.alloc();
-    let (end, of_q, of_p) = both(&rt, alloc);
-    assert!(rt;
-        (
-            of_q.caller(),
-            of_q.number(),
-            is_write(of_q.entry(), 1, b"q1")
-        ) == (1, 1, true)
-    );
-    assert!(rt;
-        (
-            of_p.caller(),
-            of_p.number(),
-            is_write(of_p.entry(), 0, b"p1")
-        ) == (0, 1, true)
-    );
-    let first = end.history().first().expect(&rt, "a first entry").entry();
-    let second = end.history().last().expect(&rt, "a last entry").entry();
-    assert!(rt;
-        end.history().len() == 2 && first.is_same(of_q.entry()) && second.is_same(of_p.entry())
-    );
-    assert!(rt; !first.is_same(of_p.entry()) && end.holds(&of_q) && end.holds(&of_p));
-    assert!(rt;
-        end.entry_at(1, 2).is_none() && end.entry_at(0, 0).is_none() && end.entry_at(2, 1).is_none()
-    );
-    let strange = of_another_stream(&rt, alloc);
-    assert!(rt;
-        strange.entry().answer == Answer::Refused(Refusal::Invalid) && !end.holds(&strange)
-    );
+    let (end, of_q, of_p) = both(&rt, rt.alloc());
+    assert!(rt; is_of_write(&of_q, 1, b"q1") && is_of_write(&of_p, 0, b"p1"));
+    assert!(rt; has_both(&end, &of_q, &of_p));
+    let strange = of_another_stream(&rt, rt.alloc());
+    assert!(rt; is_invalid(&strange) && !end.holds(&strange));
+}
+
+/// A call that puts in a module that gives this band.
+fn push_band(rt: &impl Abort, alloc: Global, b: u8) -> Request<Boxed<Plain>> {
+    push(rt, alloc, (7, b"m", Kind::Band { b }))
+}
+
+/// What is left of a stream on which such a module was put in.
+fn with_band<R: Abort + Wait>(rt: &R, alloc: Global, b: u8) -> Ended<Plain> {
+    let (shared, mut seats) = echo(rt, alloc, 0, 1);
+    let mut seat = last(rt, &mut seats);
+    drop(receipt(rt, &shared, &mut seat, push_band(rt, alloc, b)));
+    seats.push(seat).expect(rt, "no memory");
+    ended(shared, seats, None).ok().expect(rt, "an end")
+}
+
+/// The receipt of such a call on another stream.
+fn of_band_3<R: Abort + Wait>(rt: &R, alloc: Global) -> Receipt<Kind> {
+    let (shared, mut seats) = echo(rt, alloc, 0, 1);
+    let mut seat = last(rt, &mut seats);
+    receipt(rt, &shared, &mut seat, push_band(rt, alloc, 3))
 }
 
 #[test]
 fn a_receipt_tells_kinds_of_module_apart(rt: HostRuntime) {
-    let alloc: Global = rt.alloc();
-    for (kind, is_held) in [(Kind::Band { b: 3 }, true), (Kind::Band { b: 4 }, false)] {
-        let (shared, mut seats) = echo(&rt, alloc, 0, 1);
-        let mut seat = last(&rt, &mut seats);
-        receipt(&rt, &shared, &mut seat, push(&rt, alloc, (7, b"m", kind)));
-        seats.push(seat).expect(&rt, "no memory");
-        let end = ended(shared, seats, None).ok().expect(&rt, "an end");
-        let (other, mut others) = echo(&rt, alloc, 0, 1);
-        let mut seat = last(&rt, &mut others);
-        let made = (7, b"m".as_slice(), Kind::Band { b: 3 });
-        let pushed = receipt(&rt, &other, &mut seat, push(&rt, alloc, made));
+    let pushed = of_band_3(&rt, rt.alloc());
+    for (b, is_held) in [(3, true), (4, false)] {
+        let end = with_band(&rt, rt.alloc(), b);
         assert!(rt; end.holds(&pushed) == is_held);
+        drop(end);
     }
 }

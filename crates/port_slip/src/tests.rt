@@ -3,14 +3,14 @@ use crate::{ByShape, SlipKind, first_datagram, frame, send};
 use std::alloc::Global;
 use std::process::Abort;
 use strm_chain::{Chain, Driver, Spot};
-use strm_module::{Boxed, Instance, Kind, Kinds};
-use strm_msg::{End, Marks, Message};
+use strm_module::{Boxed, Instance, Kind, Kinds, MakeFault, ModuleOf};
+use strm_msg::{End, Marks, Message, NoMem};
 
 /// What happens in the loop.
-#[derive(Clone, Copy)]
-enum Step<'a> {
+#[derive(Clone, Copy, Drop)]
+enum Step {
     /// Data is sent down end A.
-    Write(&'a [u8]),
+    Write(&'static [u8]),
     /// The driver flushes the read side of end B.
     Flush,
     /// The driver hangs up at end B.
@@ -20,7 +20,7 @@ enum Step<'a> {
 use Step::{Flush, Hangup, Write};
 
 /// Steps, and the datagrams that come up at end B.
-type Row<'a> = (&'a [Step<'a>], &'a [&'a [u8]]);
+type Row = (&'static [Step], &'static [&'static [u8]]);
 
 /// From the driver to the one module of end B.
 const FROM_DRIVER: Spot = Spot::Up { end: End::B, i: 1 };
@@ -29,39 +29,74 @@ fn data(rt: &impl Abort, alloc: Global, bytes: &[u8]) -> Message {
     Message::of_data(alloc, 0, bytes).expect(rt, "no memory for data")
 }
 
-fn boxed(rt: &impl Abort, alloc: Global, module: Instance<ByShape>) -> Boxed<ByShape> {
+/// What was made, in a box.
+fn in_box<T: Drop>(rt: &impl Abort, alloc: Global, made: Result<T, NoMem>) -> Box<T> {
+    let value = made.expect(rt, "no memory for what a box holds");
+    Box::new(alloc, value).expect(rt, "no memory for a box")
+}
+
+/// A loop without modules. It stands in a box, as a function that holds all of a chain takes long to prove.
+fn bare<M: ModuleOf>(rt: &impl Abort, alloc: Global) -> Box<Chain<M>> {
+    let marks = Marks::new(5000, 4000).expect(rt, "the low mark is below the high one");
+    in_box(rt, alloc, Chain::new(alloc, Driver::Loop, marks, marks))
+}
+
+/// A module, as a chain takes it.
+fn boxed<M: ModuleOf>(
+    rt: &impl Abort,
+    alloc: Global,
+    made: Result<Instance<M>, MakeFault>,
+) -> Boxed<M> {
+    let module = made.expect(rt, "a good name and good marks");
     Boxed::new(alloc, module).expect(rt, "no memory for a box")
 }
 
-/// A loop with SLIP at end B. At end A stands SLIP with a write queue, or what only passes on.
-fn looped(rt: &impl Abort, alloc: Global, slip_at_a: bool) -> Chain<ByShape> {
-    let marks = Marks::new(5000, 4000).expect(rt, "the low mark is below the high one");
-    let mut chain = Chain::new(alloc, Driver::Loop, marks, marks).expect(rt, "no memory");
-    let far = ByShape::slip(alloc, 1, b"slip", None, None).expect(rt, "a good name");
-    assert!(rt; chain.insert(End::B, boxed(rt, alloc, far)).is_ok());
-    let near = if slip_at_a {
+/// Puts a module in at an end.
+fn inserts<M: ModuleOf>(chain: &mut Chain<M>, end: End, instance: Boxed<M>) -> bool {
+    chain.insert(end, instance).is_ok()
+}
+
+/// SLIP with a write queue, or what only passes on.
+fn near(alloc: Global, is_slip: bool) -> Result<Instance<ByShape>, MakeFault> {
+    if is_slip {
         ByShape::slip(alloc, 2, b"slip", None, Some((50, 40)))
     } else {
         ByShape::builtin(2, b"pass", None, None, Kind::Pass)
-    };
-    let near = near.expect(rt, "a good name and good marks");
-    assert!(rt; chain.insert(End::A, boxed(rt, alloc, near)).is_ok());
+    }
+}
+
+/// A loop with SLIP at end B. At end A stands SLIP with a write queue, or what only passes on.
+fn looped(rt: &impl Abort, alloc: Global, slip_at_a: bool) -> Box<Chain<ByShape>> {
+    let mut chain = bare(rt, alloc);
+    let far = ByShape::slip(alloc, 1, b"slip", None, None);
+    assert!(rt; inserts(&mut chain, End::B, boxed(rt, alloc, far)));
+    let near = near(alloc, slip_at_a);
+    assert!(rt; inserts(&mut chain, End::A, boxed(rt, alloc, near)));
     chain
 }
 
 /// Hands a message in, though nothing is wanting.
 fn hands_in(rt: &impl Abort, chain: &mut Chain<ByShape>, spot: Spot, m: Message) {
     assert!(rt; chain.has_spot(spot));
-    assert!(rt; send(chain, spot, m).is_ok());
+    let sent = send(chain, spot, m);
+    assert!(rt; sent.is_ok());
 }
 
 fn plays(rt: &impl Abort, alloc: Global, chain: &mut Chain<ByShape>, step: Step) {
-    let (spot, m) = match step {
-        Write(bytes) => (Spot::top(End::A), data(rt, alloc, bytes)),
-        Flush => (FROM_DRIVER, Message::of_flush(true, false, None)),
-        Hangup => (FROM_DRIVER, Message::of_hangup()),
-    };
-    hands_in(rt, chain, spot, m);
+    match step {
+        Write(bytes) => hands_in(rt, chain, Spot::top(End::A), data(rt, alloc, bytes)),
+        Flush => hands_in(rt, chain, FROM_DRIVER, Message::of_flush(true, false, None)),
+        Hangup => hands_in(rt, chain, FROM_DRIVER, Message::of_hangup()),
+    }
+}
+
+/// Whether this is what comes up at end B, or nothing does where nothing is wanted.
+fn comes_up<M: ModuleOf>(chain: &mut Chain<M>, want: Option<Message>) -> bool {
+    let found = chain.take_head(End::B);
+    let is_so = found == want;
+    drop(found);
+    drop(want);
+    is_so
 }
 
 /// In a new loop for each row, the steps bring these datagrams up, and no more.
@@ -72,79 +107,98 @@ fn holds(rt: &impl Abort, alloc: Global, slip_at_a: bool, rows: &[Row]) {
             plays(rt, alloc, &mut chain, *step);
         }
         for bytes in *want {
-            assert_eq!(rt; chain.take_head(End::B), Some(data(rt, alloc, bytes)));
+            assert!(rt; comes_up(&mut chain, Some(data(rt, alloc, bytes))));
         }
-        assert!(rt; chain.take_head(End::B).is_none());
+        assert!(rt; comes_up(&mut chain, None));
     }
 }
 
+const DATAGRAMS: &[Row] = &[
+    (&[Write(b"plain"), Write(b"text")], &[b"plain", b"text"]),
+    (&[Write(&[192, 219, 192])], &[&[192, 219, 192]]),
+    // An empty datagram is none, and the bytes behind an ESC are bytes of their own.
+    (
+        &[Write(&[]), Write(&[220, 221, 219, 220])],
+        &[&[220, 221, 219, 220]],
+    ),
+];
+
+const FRAMES: &[Row] = &[
+    // Two frames in one message, with one END between them.
+    (&[Write(&[192, 1, 192, 2, 192])], &[&[1], &[2]]),
+    // A frame in three messages, one of which ends within an escape.
+    (
+        &[Write(&[192, 1, 219]), Write(&[220, 2]), Write(&[192])],
+        &[&[1, 192, 2]],
+    ),
+    // Of three frames in one message the third waits for more data.
+    (&[Write(&[1, 192, 2, 192, 3, 192])], &[&[1], &[2]]),
+    (
+        &[Write(&[1, 192, 2, 192, 3, 192]), Write(&[4, 192])],
+        &[&[1], &[2], &[3], &[4]],
+    ),
+    // An ESC before another byte than 220 and 221, and one before the END.
+    (&[Write(&[219, 7, 192, 8, 219, 192])], &[&[7], &[8, 219]]),
+];
+
+const LONG: &[u8] = &[7; 3000];
+
+const NOISE: &[Row] = &[
+    (&[Write(b"noise"), Write(&[192, 1, 192])], &[b"noise", &[1]]),
+    (&[Write(b"half"), Flush, Write(&[1, 192])], &[&[1]]),
+    (&[Write(b"half"), Hangup, Write(&[1, 192])], &[&[1]]),
+    // Of a datagram over 1006 bytes those go up.
+    (&[Write(LONG), Write(LONG), Write(&[192])], &[&[7; 1006]]),
+];
+
 #[test]
 fn datagrams_come_up_as_they_were(rt: HostRuntime) {
-    let rows: [Row; 3] = [
-        (&[Write(b"plain"), Write(b"text")], &[b"plain", b"text"]),
-        (&[Write(&[192, 219, 192])], &[&[192, 219, 192]]),
-        // An empty datagram is none, and the bytes behind an ESC are bytes of their own.
-        (
-            &[Write(&[]), Write(&[220, 221, 219, 220])],
-            &[&[220, 221, 219, 220]],
-        ),
-    ];
-    holds(&rt, rt.alloc(), true, &rows);
+    holds(&rt, rt.alloc(), true, DATAGRAMS);
 }
 
 #[test]
 fn frames_come_up_as_datagrams(rt: HostRuntime) {
-    let rows: [Row; 5] = [
-        // Two frames in one message, with one END between them.
-        (&[Write(&[192, 1, 192, 2, 192])], &[&[1], &[2]]),
-        // A frame in three messages, one of which ends within an escape.
-        (
-            &[Write(&[192, 1, 219]), Write(&[220, 2]), Write(&[192])],
-            &[&[1, 192, 2]],
-        ),
-        // Of three frames in one message the third waits for more data.
-        (&[Write(&[1, 192, 2, 192, 3, 192])], &[&[1], &[2]]),
-        (
-            &[Write(&[1, 192, 2, 192, 3, 192]), Write(&[4, 192])],
-            &[&[1], &[2], &[3], &[4]],
-        ),
-        // An ESC before another byte than 220 and 221, and one before the END.
-        (&[Write(&[219, 7, 192, 8, 219, 192])], &[&[7], &[8, 219]]),
-    ];
-    holds(&rt, rt.alloc(), false, &rows);
+    holds(&rt, rt.alloc(), false, FRAMES);
 }
 
 #[test]
 fn noise_is_apart_and_what_is_kept_is_dropped(rt: HostRuntime) {
-    let long = [7; 3000];
-    let rows: [Row; 4] = [
-        (&[Write(b"noise"), Write(&[192, 1, 192])], &[b"noise", &[1]]),
-        (&[Write(b"half"), Flush, Write(&[1, 192])], &[&[1]]),
-        (&[Write(b"half"), Hangup, Write(&[1, 192])], &[&[1]]),
-        // Of a datagram over 1006 bytes those go up.
-        (
-            &[Write(&long), Write(&long), Write(&[192])],
-            &[&long[..1006]],
-        ),
-    ];
-    holds(&rt, rt.alloc(), false, &rows);
+    holds(&rt, rt.alloc(), false, NOISE);
+}
+
+/// A datagram, and its frame.
+const DATAGRAM: &[u8] = &[1, 192, 219];
+
+const FRAMED: &[u8] = &[192, 1, 219, 220, 219, 221, 192];
+
+fn is_first(datagram: Vec<u8>, behind: &[u8], want: &[u8]) -> bool {
+    let is_so = datagram.as_slice() == want && behind.is_empty();
+    drop(datagram);
+    is_so
+}
+
+/// Whether the first datagram that bytes spell is this one, with nothing behind its frame.
+fn is_read(alloc: Global, bytes: &[u8], want: &[u8]) -> bool {
+    match first_datagram(alloc, bytes) {
+        Ok(Some((datagram, behind))) => is_first(datagram, behind, want),
+        _ => false,
+    }
+}
+
+/// Whether a copy of what keeps these bytes is equal to it.
+fn is_copied(rt: &impl Abort, alloc: Global, kept: Vec<u8>) -> bool {
+    let kind = SlipKind::Slip { kept: kept.into() };
+    let copy = kind.copy(alloc).expect(rt, "no memory for a copy");
+    let is_so = copy == kind;
+    drop(copy);
+    drop(kind);
+    is_so
 }
 
 /// The calls that take memory answer where there is some.
 #[test]
 fn frames_are_made_and_read(rt: HostRuntime) {
-    let alloc = rt.alloc();
-    let framed = frame(alloc, &[1, 192, 219]).expect(&rt, "no memory");
-    assert_eq!(rt;
-        framed.as_slice(),
-        [192, 1, 219, 220, 219, 221, 192].as_slice()
-    );
-    let first = first_datagram(alloc, &framed).expect(&rt, "no memory");
-    let (datagram, behind) = first.expect(&rt, "a frame ends");
-    assert_eq!(rt; datagram.as_slice(), [1, 192, 219].as_slice());
-    assert!(rt; behind.is_empty());
-    let kind = SlipKind::Slip {
-        kept: framed.into(),
-    };
-    assert_eq!(rt; kind.copy(alloc).expect(&rt, "no memory"), kind);
+    let framed = frame(rt.alloc(), DATAGRAM).expect(&rt, "no memory");
+    assert!(rt; framed.as_slice() == FRAMED && is_read(rt.alloc(), FRAMED, DATAGRAM));
+    assert!(rt; is_copied(&rt, rt.alloc(), framed));
 }

@@ -194,8 +194,8 @@ fn part(rt: &impl Abort, alloc: Global, part: Part) -> Option<Bytes> {
     }
 }
 
-/// The message, by the call that makes one of its kind.
-fn message(rt: &impl Abort, alloc: Global, sample: Sample) -> Message {
+/// What the call answers that makes a message of its kind.
+fn made(rt: &impl Abort, alloc: Global, sample: Sample) -> Result<Message, NoMem> {
     match sample {
         Data(band, dat) => Message::of_data(alloc, band, dat),
         Proto(band, ctl, dat) => Message::of_proto(alloc, band, ctl, dat),
@@ -209,7 +209,11 @@ fn message(rt: &impl Abort, alloc: Global, sample: Sample) -> Message {
         Error(errno) => Ok(Message::of_error(errno)),
         Error2(rd, wr) => Ok(Message::of_error2(rd, wr)),
     }
-    .expect(rt, "no memory for a message")
+}
+
+/// The message, by the call that makes one of its kind.
+fn message(rt: &impl Abort, alloc: Global, sample: Sample) -> Message {
+    made(rt, alloc, sample).expect(rt, "no memory for a message")
 }
 
 /// The message that is wanted, if any is.

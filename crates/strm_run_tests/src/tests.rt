@@ -2,7 +2,7 @@
 //! rules.
 use std::alloc::Global;
 use std::process::Abort;
-use strm_head::{Answer, Driver, Event, MOST_MODULES, Reply, Request};
+use strm_head::{Answer, Driver, Event, Reply, Request};
 use strm_history::{Called, Kept, Setup, Who};
 use strm_module::{Boxed, Instance, Kind, Module, ModuleOf, Plain, Shape};
 use strm_msg::{Bytes, Message};
@@ -29,9 +29,6 @@ const fn line(marks: (u32, u32), ring: u16) -> Setup {
         ring,
     }
 }
-
-/// The serials of modules, topmost first, and nothing behind them.
-type Serials = [Option<u64>; MOST_MODULES];
 
 /// Stops the test where a row of a table does not hold: the name of the table, and the number of the row, counted from 0.
 fn check(rt: &impl Abort, (name, at): (&str, usize), is_so: bool) {
@@ -75,26 +72,28 @@ fn serial_at<M: ModuleOf>(back: &[Option<Boxed<M>>], i: usize) -> Option<u64> {
     }
 }
 
-/// The serials of the modules that came back.
-fn came_back<M: ModuleOf>(back: &[Option<Boxed<M>>]) -> Serials {
-    [0, 1, 2, 3, 4, 5, 6, 7].map(|i| serial_at(back, i))
+/// Whether the modules that came back have these serials, topmost first, and there are no others.
+fn came_back<M: ModuleOf>(back: &[Option<Boxed<M>>], serials: &[u64]) -> bool {
+    for (i, serial) in serials.iter().enumerate() {
+        if serial_at(back, i) != Some(*serial) {
+            return false;
+        }
+    }
+    back.len() == serials.len()
 }
 
-/// These serials, and nothing behind them.
-fn padded(serials: &[u64]) -> Serials {
-    [0, 1, 2, 3, 4, 5, 6, 7].map(|i| serials.get(i).copied())
-}
-
-/// What a call answered, and the serials of the modules that came back; of a call that found no room nothing.
-fn told(called: Called<Boxed<Plain>, Kind>) -> Option<(Answer, Serials)> {
+/// What a call answered, and whether the modules that came back have these serials; of a call that found no room nothing.
+fn told<M: ModuleOf>(called: Called<Boxed<M>, M::Kind>, serials: &[u64]) -> Option<(Answer, bool)> {
     match called {
         Called::Done {
             answer,
             back,
             receipt,
         } => {
+            let is_back = came_back(back.as_slice(), serials);
             drop(receipt);
-            Some((answer, came_back(back.as_slice())))
+            drop(back);
+            Some((answer, is_back))
         }
         Called::NoRoom(_) => None,
     }

@@ -7,7 +7,8 @@ use super::{
 };
 use std::alloc::Global;
 use std::process::Abort;
-use strm_chain::{Driver, Place, Spot};
+use strm_chain::{Chain, Driver, Place, Spot};
+use strm_module::ModuleOf;
 use strm_msg::{End, Errno};
 
 const DOWN_2: Spot = Spot::Down { end: End::A, i: 2 };
@@ -22,6 +23,8 @@ const UP_3: Spot = Spot::Up { end: End::A, i: 3 };
 
 /// A module of end A with a queue on both sides.
 const AT_A: Pushed = (End::A, Pushes::Pass, true, true);
+
+const TWO_AT_A: &[Pushed] = &[AT_A, AT_A];
 
 const AT_B: Pushed = (End::B, Pushes::Pass, true, true);
 
@@ -100,17 +103,28 @@ const WRITTEN: &[Written] = &[
 
 /// A flush is written at an end whose lists all hold a message.
 fn is_left(rt: &impl Abort, alloc: Global, (name, driver, flush, left): Written) {
-    let filled = if driver == Driver::Line {
-        LINE_IS_FILLED
-    } else {
-        FILLED
-    };
-    let mut chain = chain_of(rt, alloc, (driver, FIVE), &[AT_A, AT_A]);
-    play_tables(rt, &mut chain, filled, name);
-    let is_written = steps::acts(rt, &mut chain, With(Send(End::A), flush));
-    let is_so = is_written && steps::acts(rt, &mut chain, Holds(End::A, 1, left));
-    drop(chain);
-    check(rt, (name, 0), is_so);
+    let mut chain = chain_of(rt, alloc, (driver, FIVE), TWO_AT_A);
+    play_tables(rt, &mut chain, filling(driver), name);
+    check(rt, (name, 0), leaves(rt, &mut chain, flush, left));
+}
+
+/// What fills each list of an end with two modules over a driver.
+fn filling(driver: Driver) -> &'static [&'static [Call]] {
+    match driver {
+        Driver::Line => LINE_IS_FILLED,
+        _ => FILLED,
+    }
+}
+
+/// A flush is written at end A, and these lists hold their message then.
+fn leaves<M: ModuleOf>(
+    rt: &impl Abort,
+    chain: &mut Chain<M>,
+    flush: Sample,
+    left: [bool; 6],
+) -> bool {
+    let is_written = steps::acts(rt, chain, With(Send(End::A), flush));
+    is_written && steps::acts(rt, chain, Holds(End::A, 1, left))
 }
 
 #[test]

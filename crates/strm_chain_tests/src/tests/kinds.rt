@@ -63,10 +63,7 @@ fn line(rt: &impl Abort, alloc: Global, partial: &[u8]) -> Kind {
 /// A table that makes capitals of a, b and c, leaves d, and makes 0 of all else.
 fn capitals() -> [u8; 256] {
     let mut map = [0; 256];
-    map[97] = b'A';
-    map[98] = b'B';
-    map[99] = b'C';
-    map[100] = b'd';
+    map[97..101].copy_from_slice(b"ABCd");
     map
 }
 
@@ -166,17 +163,15 @@ pub(super) fn play<M: Module>(
     }
 }
 
-/// A new module is put each message of a table, and serves each of another.
+/// A module is put each message of a table, and serves each of another.
 fn plays<M: Module>(
     rt: &impl Abort,
     alloc: Global,
-    name: &str,
-    new: Result<Instance<M>, MakeFault>,
-    (put, served): (&[Row], &[Row]),
+    it: &mut Instance<M>,
+    (name, put, served): (&str, &[Row], &[Row]),
 ) {
-    let mut it = new.expect(rt, "a good name and good marks");
-    play(rt, alloc, &mut it, Call::Put, (name, put));
-    play(rt, alloc, &mut it, Call::Serve, (name, served));
+    play(rt, alloc, it, Call::Put, (name, put));
+    play(rt, alloc, it, Call::Serve, (name, served));
 }
 
 const MARKS: Option<(u32, u32)> = Some((5, 4));
@@ -317,26 +312,27 @@ fn kind_of(rt: &impl Abort, alloc: Global, state: State) -> Kind {
     }
 }
 
-/// A name, a kind, the marks of both its sides, what it is put, and what it serves.
-type Example = (
-    &'static str,
-    State,
-    Option<(u32, u32)>,
-    &'static [Row],
-    &'static [Row],
-);
+/// The marks of the read side and of the write side.
+type Sides = (Option<(u32, u32)>, Option<(u32, u32)>);
+
+/// A name, a kind, the marks of its sides, what it is put, and what it serves.
+type Example = (&'static str, State, Sides, &'static [Row], &'static [Row]);
+
+const NO_QUEUES: Sides = (None, None);
+
+const QUEUES: Sides = (MARKS, MARKS);
 
 // Each kind queues ordinary messages alone.
 const QUEUED: &[Example] = &[
-    ("pass", State::Pass, MARKS, ORDINARY_WAIT, SERVED),
-    ("table", State::Capitals, MARKS, ORDINARY_WAIT, SERVED),
-    ("crnl", State::CrNl, MARKS, ORDINARY_WAIT, SERVED),
-    ("line", State::Partial(b"ab"), MARKS, ORDINARY_WAIT, SERVED),
-    ("count", State::Counted(5), MARKS, ORDINARY_WAIT, SERVED),
-    ("band", State::Band(3), MARKS, ORDINARY_WAIT, SERVED),
-    ("tee", State::Tee, MARKS, ORDINARY_WAIT, SERVED),
-    ("mute", State::Mute, MARKS, ORDINARY_WAIT, SERVED),
-    ("split", State::Split(2), MARKS, ORDINARY_WAIT, SERVED),
+    ("pass", State::Pass, QUEUES, ORDINARY_WAIT, SERVED),
+    ("table", State::Capitals, QUEUES, ORDINARY_WAIT, SERVED),
+    ("crnl", State::CrNl, QUEUES, ORDINARY_WAIT, SERVED),
+    ("line", State::Partial(b"ab"), QUEUES, ORDINARY_WAIT, SERVED),
+    ("count", State::Counted(5), QUEUES, ORDINARY_WAIT, SERVED),
+    ("band", State::Band(3), QUEUES, ORDINARY_WAIT, SERVED),
+    ("tee", State::Tee, QUEUES, ORDINARY_WAIT, SERVED),
+    ("mute", State::Mute, QUEUES, ORDINARY_WAIT, SERVED),
+    ("split", State::Split(2), QUEUES, ORDINARY_WAIT, SERVED),
 ];
 
 const FLUSHED: &[Row] = &[(Wr, Flush(true, false, None), GoesOn, Partial(b""))];
@@ -351,29 +347,29 @@ const LEFT: &[Row] = &[
 
 // A module that gathers keeps at most 4096 bytes of a line, and a flush of its read side and band empties it.
 const PARTIAL: &[Example] = &[
-    ("the longest", State::Partial(A_4000), None, MOST, &[]),
-    ("a flush of all", State::Partial(b"ab"), MARKS, FLUSHED, &[]),
+    ("the longest", State::Partial(A_4000), NO_QUEUES, MOST, &[]),
+    (
+        "a flush of all",
+        State::Partial(b"ab"),
+        QUEUES,
+        FLUSHED,
+        &[],
+    ),
     (
         "a flush of band 0",
         State::Partial(b"ab"),
-        MARKS,
+        QUEUES,
         FLUSHED_OF_0,
         &[],
     ),
-    ("other flushes", State::Partial(b"ab"), MARKS, LEFT, &[]),
+    ("other flushes", State::Partial(b"ab"), QUEUES, LEFT, &[]),
 ];
 
 fn play_examples(rt: &impl Abort, alloc: Global, examples: &[Example]) {
     for (name, state, marks, put, served) in examples {
-        let kind = kind_of(rt, alloc, *state);
-        let shape = shaped(rt, 1, b"plain", (*marks, *marks), kind);
-        plays(
-            rt,
-            alloc,
-            name,
-            Ok(Instance::new(shape, Plain)),
-            (*put, *served),
-        );
+        let shape = shaped(rt, 1, b"plain", *marks, kind_of(rt, alloc, *state));
+        let mut it = Instance::new(shape, Plain);
+        plays(rt, alloc, &mut it, (name, *put, *served));
     }
 }
 
@@ -387,94 +383,133 @@ fn a_partial_line_is_bounded_and_flushed(rt: HostRuntime) {
     play_examples(&rt, rt.alloc(), PARTIAL);
 }
 
-const READ_WAITS: &[Row] = &[(Rd, X, Waits, Same), (Wr, X, GoesOn, Same)];
+const NAME: &[u8] = b"A_z09";
 
-#[test]
-fn kinds_without_memory_act_on_what_is_put(rt: HostRuntime) {
-    let alloc = rt.alloc();
-    plays(
-        &rt,
-        alloc,
-        "crnl",
-        CrNl::new(1, b"c", None, None),
-        (ENDS_OF_LINES, &[]),
-    );
-    plays(
-        &rt,
-        alloc,
-        "tee",
-        Tee::new(1, b"t", None, None),
-        (COPIED_UP, &[]),
-    );
-    plays(
-        &rt,
-        alloc,
-        "band",
-        Band::new(1, b"v", None, None, 7),
-        (OF_BAND_7, &[]),
-    );
-    plays(
-        &rt,
-        alloc,
-        "mute",
-        Mute::new(1, b"u", None, None),
-        (DROPPED, &[]),
-    );
-    plays(
-        &rt,
-        alloc,
-        "pass",
-        Pass::new(2, b"p", None, None),
-        (SENT, &[]),
-    );
-    plays(
-        &rt,
-        alloc,
-        "pass with a queue",
-        Pass::new(1, b"p", MARKS, None),
-        (READ_WAITS, &[]),
-    );
-    plays(
-        &rt,
-        alloc,
-        "split",
-        Split::new(1, b"s", None, None, 2),
-        (IN_TWO, &[]),
-    );
+/// Whether a queue is there with these marks, or none is where none are given.
+fn are_marks(found: Option<Marks>, given: Option<(u32, u32)>) -> bool {
+    match given {
+        Some((hi, lo)) => found == Marks::new(hi, lo),
+        None => found.is_none(),
+    }
 }
 
-#[test]
-fn kinds_that_keep_something_act_on_what_is_put(rt: HostRuntime) {
-    let alloc = rt.alloc();
-    plays(
-        &rt,
-        alloc,
-        "count",
-        Count::new(1, b"cnt", None, None),
-        (COUNTED, &[]),
+/// Whether a shape is the one that was asked for.
+fn is_asked_for(shape: &Shape, kind: &Kind, (rd, wr): Sides) -> bool {
+    shape.serial == 9
+        && shape.name.as_slice() == NAME
+        && are_marks(shape.rd, rd)
+        && are_marks(shape.wr, wr)
+        && shape.kind == *kind
+}
+
+/// Whether a copy of a shape is equal to it.
+fn is_copied(rt: &impl Abort, alloc: Global, shape: &Shape) -> bool {
+    let copy = shape.copy(alloc).expect(rt, "no memory for a shape");
+    let is_so = copy == *shape;
+    drop(copy);
+    is_so
+}
+
+/// Whether a new module has the shape that was asked for, and a copy of it is equal.
+fn has_shape(rt: &impl Abort, alloc: Global, shape: &Shape, state: State, marks: Sides) -> bool {
+    let kind = kind_of(rt, alloc, state);
+    let is_so = is_asked_for(shape, &kind, marks) && is_copied(rt, alloc, shape);
+    drop(kind);
+    is_so
+}
+
+/// A new module has the shape that was asked for; then it is put each message of a table, and serves each of another.
+fn plays_new<M: Module>(
+    rt: &impl Abort,
+    alloc: Global,
+    new: Result<Instance<M>, MakeFault>,
+    (name, state, marks, put, served): Example,
+) {
+    let mut it = new.expect(rt, "a good name and good marks");
+    check(
+        rt,
+        (name, 0),
+        has_shape(rt, alloc, it.shape(), state, marks),
     );
-    let queued = Count::new(1, b"cnt", None, MARKS);
-    plays(
-        &rt,
-        alloc,
+    plays(rt, alloc, &mut it, (name, put, served));
+}
+
+/// The module is made by the call for its kind.
+fn plays_made(rt: &impl Abort, alloc: Global, example: Example) {
+    let (_, state, (rd, wr), _, _) = example;
+    match state {
+        State::Pass => plays_new(rt, alloc, Pass::new(9, NAME, rd, wr), example),
+        State::Capitals => {
+            plays_new(rt, alloc, Table::new(9, NAME, rd, wr, capitals()), example)
+        }
+        State::CrNl => plays_new(rt, alloc, CrNl::new(9, NAME, rd, wr), example),
+        State::Partial(_) => plays_new(rt, alloc, Line::new(alloc, 9, NAME, rd, wr), example),
+        State::Counted(_) => plays_new(rt, alloc, Count::new(9, NAME, rd, wr), example),
+        State::Band(b) => plays_new(rt, alloc, Band::new(9, NAME, rd, wr, b), example),
+        State::Tee => plays_new(rt, alloc, Tee::new(9, NAME, rd, wr), example),
+        State::Mute => plays_new(rt, alloc, Mute::new(9, NAME, rd, wr), example),
+        State::Split(n) => plays_new(rt, alloc, Split::new(9, NAME, rd, wr, n), example),
+    }
+}
+
+fn all_play(rt: &impl Abort, alloc: Global, examples: &[Example]) {
+    for example in examples {
+        plays_made(rt, alloc, *example);
+    }
+}
+
+const READ_WAITS: &[Row] = &[(Rd, X, Waits, Same), (Wr, X, GoesOn, Same)];
+
+const EMPTY: State = State::Partial(b"");
+
+const ACTING: &[Example] = &[
+    ("crnl", State::CrNl, NO_QUEUES, ENDS_OF_LINES, &[]),
+    ("tee", State::Tee, NO_QUEUES, COPIED_UP, &[]),
+    ("band", State::Band(7), NO_QUEUES, OF_BAND_7, &[]),
+    ("mute", State::Mute, NO_QUEUES, DROPPED, &[]),
+    ("pass", State::Pass, NO_QUEUES, SENT, &[]),
+    (
+        "pass with a queue",
+        State::Pass,
+        (MARKS, None),
+        READ_WAITS,
+        &[],
+    ),
+    ("split", State::Split(2), NO_QUEUES, IN_TWO, &[]),
+    ("count", State::Counted(0), NO_QUEUES, COUNTED, &[]),
+    (
         "count with a queue",
-        queued,
-        (NOT_COUNTED_YET, COUNTED_WHERE_SERVED),
-    );
-    plays(
-        &rt,
-        alloc,
-        "line",
-        Line::new(alloc, 1, b"ln", None, None),
-        (GATHERED, &[]),
-    );
-    plays(
-        &rt,
-        alloc,
-        "table",
-        Table::new(1, b"up", None, None, capitals()),
-        (CAPITALS, &[]),
-    );
+        State::Counted(0),
+        (None, MARKS),
+        NOT_COUNTED_YET,
+        COUNTED_WHERE_SERVED,
+    ),
+    ("line", EMPTY, NO_QUEUES, GATHERED, &[]),
+    ("table", State::Capitals, NO_QUEUES, CAPITALS, &[]),
+];
+
+#[test]
+fn each_kind_acts_on_what_is_put(rt: HostRuntime) {
+    all_play(&rt, rt.alloc(), ACTING);
+}
+
+const OTHER: Sides = (MARKS, Some((16, 0)));
+
+const NEW: &[Example] = &[
+    ("pass", State::Pass, OTHER, &[], &[]),
+    ("table", State::Capitals, OTHER, &[], &[]),
+    ("crnl", State::CrNl, OTHER, &[], &[]),
+    ("line", EMPTY, OTHER, &[], &[]),
+    ("count", State::Counted(0), OTHER, &[], &[]),
+    ("band", State::Band(7), OTHER, &[], &[]),
+    ("tee", State::Tee, OTHER, &[], &[]),
+    ("mute", State::Mute, OTHER, &[], &[]),
+    ("split", State::Split(2), OTHER, &[], &[]),
+];
+
+#[test]
+fn new_modules_have_the_shape_asked_for(rt: HostRuntime) {
+    all_play(&rt, rt.alloc(), NEW);
 }
 
 const EQUAL: Option<(u32, u32)> = Some((4, 4));
@@ -499,11 +534,16 @@ const FAULTS: &[(
     (b"a", EQUAL, None, Some(MakeFault::Marks)),
 ];
 
+/// Whether a module is refused by this fault, or is made where there is none.
+fn is_refused<M: Module>(made: Result<Instance<M>, MakeFault>, fault: Option<MakeFault>) -> bool {
+    made.err() == fault
+}
+
 #[test]
 fn faults_are_for_the_name_first(rt: HostRuntime) {
     for (at, (name, rd, wr, fault)) in FAULTS.iter().enumerate() {
-        let found = Pass::new(1, name, *rd, *wr).err();
-        check(&rt, ("faults", at), found == *fault);
+        let is_so = is_refused(Pass::new(1, name, *rd, *wr), *fault);
+        check(&rt, ("faults", at), is_so);
     }
 }
 
@@ -520,8 +560,8 @@ const SPLIT_FAULTS: &[(&[u8], Option<(u32, u32)>, u16, Option<MakeFault>)] = &[
 #[test]
 fn bytes_of_a_split_are_looked_at_last(rt: HostRuntime) {
     for (at, (name, wr, n, fault)) in SPLIT_FAULTS.iter().enumerate() {
-        let found = Split::new(1, name, None, *wr, *n).err();
-        check(&rt, ("faults", at), found == *fault);
+        let is_so = is_refused(Split::new(1, name, None, *wr, *n), *fault);
+        check(&rt, ("faults", at), is_so);
     }
 }
 
@@ -543,63 +583,4 @@ fn faults_have_numbers_and_words(rt: HostRuntime) {
     for (fault, number, words) in WORDS {
         assert!(rt; fault.number() == *number && is_displayed(&rt, rt.alloc(), fault, words));
     }
-}
-
-const NAME: &[u8] = b"A_z09";
-
-const OTHER: Option<(u32, u32)> = Some((16, 0));
-
-/// Whether a shape is the one that was asked for.
-fn is_asked_for(shape: &Shape, kind: &Kind) -> bool {
-    shape.serial == 9
-        && shape.name.as_slice() == NAME
-        && shape.rd == Marks::new(5, 4)
-        && shape.wr == Marks::new(16, 0)
-        && shape.kind == *kind
-}
-
-/// Whether a copy of a shape is equal to it.
-fn is_copied(rt: &impl Abort, alloc: Global, shape: &Shape) -> bool {
-    let copy = shape.copy(alloc).expect(rt, "no memory for a shape");
-    let is_so = copy == *shape;
-    drop(copy);
-    is_so
-}
-
-/// A new module has the shape that was asked for, and a copy of it is equal.
-fn has_shape<M: Module>(
-    rt: &impl Abort,
-    alloc: Global,
-    new: Result<Instance<M>, MakeFault>,
-    kind: Kind,
-) {
-    let it = new.expect(rt, "a good name and good marks");
-    let is_so = is_asked_for(it.shape(), &kind) && is_copied(rt, alloc, it.shape());
-    drop(it);
-    drop(kind);
-    assert!(rt; is_so);
-}
-
-#[test]
-fn new_modules_have_the_shape_asked_for(rt: HostRuntime) {
-    let alloc = rt.alloc();
-    let (rd, wr, map) = (MARKS, OTHER, capitals());
-    let table = Table::new(9, NAME, rd, wr, map);
-    let gathering = Line::new(alloc, 9, NAME, rd, wr);
-    let count = Count::new(9, NAME, rd, wr);
-    let band = Band::new(9, NAME, rd, wr, 7);
-    has_shape(&rt, alloc, Pass::new(9, NAME, rd, wr), Kind::Pass);
-    has_shape(&rt, alloc, table, Kind::Table { map });
-    has_shape(&rt, alloc, CrNl::new(9, NAME, rd, wr), Kind::CrNl);
-    has_shape(&rt, alloc, gathering, line(&rt, alloc, b""));
-    has_shape(&rt, alloc, count, Kind::Count { n: 0 });
-    has_shape(&rt, alloc, band, Kind::Band { b: 7 });
-    has_shape(&rt, alloc, Tee::new(9, NAME, rd, wr), Kind::Tee);
-    has_shape(&rt, alloc, Mute::new(9, NAME, rd, wr), Kind::Mute);
-    has_shape(
-        &rt,
-        alloc,
-        Split::new(9, NAME, rd, wr, 2),
-        Kind::Split { n: 2 },
-    );
 }

@@ -187,11 +187,23 @@ fn close_in_turn<M: Module>(
     wants: &[(u64, u64)],
 ) -> bool {
     let mut are_so = true;
-    for (one, (serial, want)) in came.iter_mut().zip(wants) {
-        let before = logged(log);
-        are_so &= closes(log, before, one.take(), *serial) && logged(log) == *want;
+    for (at, want) in wants.iter().enumerate() {
+        are_so &= closes_at(log, came, at, *want);
     }
     are_so
+}
+
+/// The one that stands there goes, and this stands on the log then.
+fn closes_at<M: Module>(
+    log: &Log,
+    came: &mut [Option<Boxed<M>>],
+    at: usize,
+    (serial, want): (u64, u64),
+) -> bool {
+    match came.get_mut(at) {
+        Some(one) => closes(log, logged(log), one.take(), serial) && logged(log) == want,
+        None => false,
+    }
 }
 
 /// All come out, with nothing closed, and go one after the other.
@@ -231,15 +243,14 @@ fn has_counted(chain: &Boxes, n: u64) -> bool {
 
 /// Does a step, and says whether it came to what it must.
 fn asks(rt: &impl Abort, chain: &mut Boxes, log: &Log, ask: Ask) -> bool {
-    let alloc = chain.alloc();
     match ask {
         Ask::Do(call) => steps::acts(rt, chain, call),
         Ask::Push(end, serial, number, object) => {
-            let instance = with_object(rt, alloc, log, (serial, number), object);
+            let instance = with_object(rt, chain.alloc(), log, (serial, number), object);
             inserts(chain, end, instance)
         }
         Ask::Refused(end, serial, number, object) => {
-            let instance = with_object(rt, alloc, log, (serial, number), object);
+            let instance = with_object(rt, chain.alloc(), log, (serial, number), object);
             comes_back(chain, log, end, instance, serial)
         }
         Ask::Counted(n) => has_counted(chain, n),

@@ -1,9 +1,9 @@
 //! What a call of a table does, and whether it answers what it must.
 use super::{Call, Sample, TOP_A, Way, are_same, is_taken, message};
 use std::process::Abort;
-use strm_chain::{Chain, ChainFault, Driver, Place, Spot};
+use strm_chain::{Chain, ChainFault, Driver, Place, Record, Spot};
 use strm_module::ModuleOf;
-use strm_msg::{Class, End, Prot, ReadMode};
+use strm_msg::{Class, End, Errno, Prot, ReadMode};
 
 /// Hands a message in, and says whether the answer is this.
 fn puts<M: ModuleOf>(
@@ -133,19 +133,14 @@ fn sets<M: ModuleOf>(chain: &mut Chain<M>, call: Call) -> bool {
     }
 }
 
-/// Whether any place is enabled, of both ends and of eight modules at each.
-fn any_enabled<M: ModuleOf>(chain: &Chain<M>) -> bool {
-    for end in [End::A, End::B] {
-        if chain.is_enabled(Place::Drv { end }) {
-            return true;
-        }
-        for i in 1..=8_u8 {
-            if chain.is_enabled(Place::Wr { end, i }) || chain.is_enabled(Place::Rd { end, i }) {
-                return true;
-            }
-        }
+/// Whether any place of an end is enabled, of its driver and of eight modules.
+fn any_enabled<M: ModuleOf>(chain: &Chain<M>, end: End) -> bool {
+    let mut is_any = chain.is_enabled(Place::Drv { end });
+    for i in 1..9_u8 {
+        is_any |= chain.is_enabled(Place::Wr { end, i });
+        is_any |= chain.is_enabled(Place::Rd { end, i });
     }
-    false
+    is_any
 }
 
 /// Which lists of an end hold a message, where these are the two modules.
@@ -165,7 +160,7 @@ fn shows<M: ModuleOf>(chain: &Chain<M>, call: Call) -> bool {
     match call {
         Call::May(place, want) => chain.may(place) == want,
         Call::Enabled(place, want) => chain.is_enabled(place) == want,
-        Call::NoneEnabled => !any_enabled(chain),
+        Call::NoneEnabled => !any_enabled(chain, End::A) && !any_enabled(chain, End::B),
         Call::HeadLen(end, want) => chain.head(end).len() == want,
         Call::HeadHeld(end, want) => chain.head(end).held(0) == want,
         Call::FullAhead(end, want) => chain.full_ahead(end, 0) == want,
@@ -186,20 +181,23 @@ fn tells<M: ModuleOf>(chain: &Chain<M>, call: Call) -> bool {
         Call::Serial(i, want) => serial(chain, i) == want,
         Call::HasRoom(end, want) => chain.has_room(end) == want,
         Call::Hung(end, want) => chain.state(end).hung == want,
-        Call::Errs(end, rd, wr) => {
-            let state = chain.state(end);
-            state.rd_errno == rd && state.wr_errno == wr
-        }
-        Call::Mode(end, mode, prot) => {
-            let state = chain.state(end);
-            state.mode == mode && state.prot == prot
-        }
-        Call::Ids(end, next, pending) => {
-            let state = chain.state(end);
-            state.next == next && state.pending == pending
-        }
+        Call::Errs(end, rd, wr) => has_errors(chain.state(end), rd, wr),
+        Call::Mode(end, mode, prot) => has_mode(chain.state(end), mode, prot),
+        Call::Ids(end, next, pending) => has_ids(chain.state(end), next, pending),
         _ => false,
     }
+}
+
+fn has_errors(state: &Record, rd: Option<Errno>, wr: Option<Errno>) -> bool {
+    state.rd_errno == rd && state.wr_errno == wr
+}
+
+fn has_mode(state: &Record, mode: ReadMode, prot: Prot) -> bool {
+    state.mode == mode && state.prot == prot
+}
+
+fn has_ids(state: &Record, next: Option<u64>, pending: Option<u64>) -> bool {
+    state.next == next && state.pending == pending
 }
 
 /// The serial of a module of end A.

@@ -9,7 +9,7 @@ use strm_head::{
     Stream, Wanted,
 };
 use strm_module::{Boxed, Kind, ModuleOf, Plain};
-use strm_msg::{End, Errno, Message};
+use strm_msg::{End, Errno, Message, NoMem};
 
 mod histories;
 mod owners;
@@ -101,13 +101,18 @@ fn apply<M: ModuleOf>(stream: &mut Stream<M>, request: Request<Boxed<M>>) -> Out
     stream.apply(End::A, request)
 }
 
-fn message(rt: &impl Abort, alloc: Global, comes: Comes) -> Message {
+/// What the call answers that makes a message of its kind.
+fn made(alloc: Global, comes: Comes) -> Result<Message, NoMem> {
     match comes {
-        Comes::Data(band, dat) => Message::of_data(alloc, band, dat).expect(rt, "no memory"),
-        Comes::High(ctl) => Message::of_pcproto(alloc, ctl, None).expect(rt, "no memory"),
-        Comes::Hangup => Message::of_hangup(),
-        Comes::Error(errno) => Message::of_error(errno),
+        Comes::Data(band, dat) => Message::of_data(alloc, band, dat),
+        Comes::High(ctl) => Message::of_pcproto(alloc, ctl, None),
+        Comes::Hangup => Ok(Message::of_hangup()),
+        Comes::Error(errno) => Ok(Message::of_error(errno)),
     }
+}
+
+fn message(rt: &impl Abort, alloc: Global, comes: Comes) -> Message {
+    made(alloc, comes).expect(rt, "no memory for a message")
 }
 
 fn kind_of(pushes: Pushes) -> Kind {

@@ -15,7 +15,7 @@ use strm_history::{Call, SameKind, Setup};
 use strm_module::{Boxed, Kind, Module, ModuleOf, Plain};
 use strm_msg::{End, Message};
 use strm_run::{
-    Feed, Gate, RunFault, Script, ScriptCall, StreamLog, Transcript, are_from_line, are_setups, run,
+    Feed, Gate, RunFault, Script, ScriptCall, Transcript, are_from_line, are_setups, run,
 };
 
 mod crews;
@@ -156,13 +156,26 @@ fn feeds_of(rt: &impl Abort, alloc: Global, feeds: &[Fed]) -> Vec<Feed> {
     all
 }
 
+/// The scripts of two callers.
+fn two<M: ModuleOf>(
+    rt: &impl Abort,
+    alloc: Global,
+    first: Script<Boxed<M>>,
+    second: Script<Boxed<M>>,
+) -> Vec<Script<Boxed<M>>> {
+    let mut all = vec![in alloc].expect(rt, "no memory");
+    all.push(first).expect(rt, "no memory");
+    all.push(second).expect(rt, "no memory");
+    all
+}
+
 /// A run on streams that can be made, of feeds that come from lines. What becomes of a call on such modules fits into memory.
 fn run_of<M: ModuleOf, G: Gate, R: Abort + Threads + Wait + Sync>(
     rt: &R,
     alloc: Global,
-    setups: Vec<Setup>,
+    setups: &[Setup],
     scripts: Vec<Script<Boxed<M>>>,
-    feeds: Vec<Feed>,
+    feeds: &[Fed],
     workers: u32,
     gate: &G,
 ) -> Result<Transcript<M::Kind>, RunFault>
@@ -170,31 +183,98 @@ where
     M::Kind: SameKind + Send + Sync,
     requires { FitsInMemory (called_type.the_row (boxed_type.the_row M.row M.Kind.row M.Kind.Kinds) M.Kind.row) }
 {
+    let setups = Vec::from_slice(alloc, setups).expect(rt, "no memory");
+    let feeds = feeds_of(rt, alloc, feeds);
     assert!(rt; are_setups(setups.as_slice()) && are_from_line(feeds.as_slice()));
     assert!(rt; setups.len() < 1000 && scripts.len() < 1000);
     run(rt, alloc, setups, scripts, feeds, workers, gate)
 }
 
-/// A run of scripts and feeds that are written out, which is not refused.
-fn played<G: Gate, R: Abort + Threads + Wait + Sync>(
-    rt: &R,
-    alloc: Global,
-    setups: &[Setup],
-    (scripts, feeds): (&[&[Row]], &[Fed]),
-    workers: u32,
-    gate: &G,
-) -> Transcript<Kind> {
-    let setups = Vec::from_slice(alloc, setups).expect(rt, "no memory");
-    let scripts: Vec<Script<Boxed<Plain>>> = scripts_of(rt, alloc, scripts);
-    let feeds = feeds_of(rt, alloc, feeds);
-    run_of(rt, alloc, setups, scripts, feeds, workers, gate).expect(rt, "a transcript")
+/// What is to be left of a run.
+#[derive(Clone, Copy, Drop)]
+enum Left<'a> {
+    /// Of these streams so many entries.
+    Entries(&'a [(usize, usize)]),
+    /// One stream on which nothing was done.
+    Fresh,
+    /// Of each caller the calls that it made.
+    Calls,
+    /// Of two lines one that was not fed, and one whose ring had no room for all that it was fed.
+    Overrun,
+    /// A line that was fed while a caller read.
+    Fed,
+    /// Each answer of a long script.
+    Answers,
+    /// An echo whose only calls are these writes, in order: who wrote, the first byte, and the length.
+    Writes(&'a [(u32, u8, u64)]),
 }
 
-/// What is left of the stream of this number.
-fn log<'a>(
-    rt: &impl Abort,
-    transcript: &'a Transcript<Kind>,
-    number: usize,
-) -> &'a StreamLog<Kind> {
-    transcript.streams.get(number).expect(rt, "a stream")
+fn is_left(transcript: &Transcript<Kind>, left: Left<'_>) -> bool {
+    match left {
+        Left::Entries(rows) => have_entries(transcript, rows),
+        Left::Fresh => crews::is_fresh(transcript),
+        Left::Calls => crews::are_played(transcript),
+        Left::Overrun => feeds::is_overrun(transcript),
+        Left::Fed => feeds::is_fed(transcript),
+        Left::Answers => long::are_answered(transcript),
+        Left::Writes(writes) => order::is_written(transcript, writes),
+    }
+}
+
+/// Whether streams have so many entries each.
+fn have_entries(transcript: &Transcript<Kind>, rows: &[(usize, usize)]) -> bool {
+    let mut are_so = true;
+    for (number, entries) in rows {
+        are_so &= has_entries(transcript, *number, *entries);
+    }
+    are_so
+}
+
+fn has_entries(transcript: &Transcript<Kind>, number: usize, entries: usize) -> bool {
+    match transcript.streams.get(number) {
+        Some(log) => log.history.len() == entries,
+        None => false,
+    }
+}
+
+/// Whether a run was not refused, and this is left of it.
+fn leaves(ran: Result<Transcript<Kind>, RunFault>, left: Left<'_>) -> bool {
+    match ran {
+        Ok(transcript) => {
+            let is_so = is_left(&transcript, left);
+            drop(transcript);
+            is_so
+        }
+        Err(_) => false,
+    }
+}
+
+/// The streams, feeds and workers of a run, and what is to be left of it.
+#[derive(Clone, Copy, Drop)]
+struct Run<'a> {
+    setups: &'a [Setup],
+    feeds: &'a [Fed],
+    workers: u32,
+    left: Left<'a>,
+}
+
+/// Plays scripts that are written out: whether the run leaves what it is to leave.
+fn plays<G: Gate, R: Abort + Threads + Wait + Sync>(
+    rt: &R,
+    alloc: Global,
+    scripts: &[&[Row]],
+    played: Run<'_>,
+    gate: &G,
+) -> bool {
+    let scripts: Vec<Script<Boxed<Plain>>> = scripts_of(rt, alloc, scripts);
+    let ran = run_of(
+        rt,
+        alloc,
+        played.setups,
+        scripts,
+        played.feeds,
+        played.workers,
+        gate,
+    );
+    leaves(ran, played.left)
 }

@@ -2,7 +2,7 @@
 ghost use Rattle.std.specs.Prelude.{◌≡◌, ℕ, true, None};
 ghost use Rattle.strm_history.specs.Setup.{is_fit};
 
-use super::{ECHO, Serials, told};
+use super::{ECHO, are_writes, told};
 use std::alloc::Global;
 use std::process::Abort;
 use std::sync::Wait;
@@ -58,6 +58,43 @@ fn ended<M: ModuleOf, N: Runs<M::Kind>>(
     shared.end(seats, feed)
 }
 
+/// What is to be left of a shared stream.
+#[derive(Clone, Copy, Drop)]
+enum Left {
+    /// Nothing was done.
+    Nothing,
+    /// These writes, in order, and nothing else: who wrote, the first byte, and the length.
+    Writes(&'static [(u32, u8, u64)]),
+    /// The last call took the modules of these serials out of end A and closed it.
+    Closed(&'static [u64]),
+    /// Of a message that came in its data, and of a call nothing; and the data of the messages that are left.
+    Line(&'static [Option<&'static [u8]>], &'static [&'static [u8]]),
+    /// So many messages that are numbered from 0, in order, as they came in and as they are left.
+    Numbered(u32),
+}
+
+fn is_left(end: &Ended<Plain>, left: Left) -> bool {
+    match left {
+        Left::Nothing => end.history().is_empty() && end.left().is_empty(),
+        Left::Writes(writes) => are_writes(end.history(), writes),
+        Left::Closed(out) => callers::is_closed(end, out),
+        Left::Line(history, left) => lines::is_line(end, history, left),
+        Left::Numbered(many) => many::count_in_order(end) == Some(many),
+    }
+}
+
+/// Whether a shared stream has ended, and this is left of it.
+fn leaves(ended: Result<Ended<Plain>, EndFault>, left: Left) -> bool {
+    match ended {
+        Ok(end) => {
+            let is_so = is_left(&end, left);
+            drop(end);
+            is_so
+        }
+        Err(_) => false,
+    }
+}
+
 /// What becomes of a call on an end.
 fn call<M: ModuleOf, N: Runs<M::Kind>, R: Abort + Wait>(
     rt: &R,
@@ -72,17 +109,18 @@ fn call<M: ModuleOf, N: Runs<M::Kind>, R: Abort + Wait>(
     shared.call(rt, seat, Call { end, request })
 }
 
-/// What a call on an end answers, and the serials of the modules that come back.
+/// What a call on an end answers, and whether modules of these serials come back.
 fn called<N: Runs<Kind>, R: Abort + Wait>(
     rt: &R,
     shared: &Shared<Plain, N>,
     seat: &mut Seat,
     end: End,
     request: Request<Boxed<Plain>>,
-) -> (Answer, Serials)
+    back: &[u64],
+) -> (Answer, bool)
     requires { (number caller : ℕ) → N.calls number caller ≡ None }
 {
-    told(call(rt, shared, seat, end, request)).expect(rt, "room")
+    told(call(rt, shared, seat, end, request), back).expect(rt, "room")
 }
 
 /// What a call on end A answers.
@@ -94,5 +132,5 @@ fn answer<N: Runs<Kind>, R: Abort + Wait>(
 ) -> Answer
     requires { (number caller : ℕ) → N.calls number caller ≡ None }
 {
-    called(rt, shared, seat, End::A, request).0
+    called(rt, shared, seat, End::A, request, &[]).0
 }

@@ -1,7 +1,7 @@
 //! Streams are made, and what happens to one makes a history.
 use super::tables::{ECHOES, LINES, MIXED};
 use super::{Call, Comes, Happens, Row, Want, answer_of, message, request_of};
-use crate::tests::{check, padded, told};
+use crate::tests::{check, told};
 use std::alloc::Global;
 use std::process::Abort;
 use strm_head::{Answer, Driver, Event, NewFault, Reply, Request, Stream};
@@ -21,15 +21,16 @@ const BAD_MARKS: &[((u32, u32), (u32, u32))] = &[
     ((4, 16), (4, 16)),
 ];
 
-/// Whether a stream is refused for its marks.
-fn is_refused<M: ModuleOf>(made: Result<Stream<M>, NewFault>) -> bool {
+/// Whether a stream with these marks is refused for them.
+fn is_refused<M: ModuleOf>(alloc: Global, head: (u32, u32), drv: (u32, u32)) -> bool {
+    let made: Result<Stream<M>, NewFault> = Stream::new(alloc, Driver::Loop, head, drv);
     made.err() == Some(NewFault::Marks)
 }
 
 #[test]
 fn low_marks_are_below_high_ones(rt: HostRuntime) {
     for (head, drv) in BAD_MARKS {
-        assert!(rt; is_refused::<Plain>(Stream::new(rt.alloc(), Driver::Loop, *head, *drv)));
+        assert!(rt; is_refused::<Plain>(rt.alloc(), *head, *drv));
     }
 }
 
@@ -187,10 +188,22 @@ fn asks(
     at: usize,
 ) -> bool {
     let request = request_of(rt, alloc, at as u64, call);
-    let (answer, serials) = told(call_on(log, caller_of(at), end, request)).expect(rt, "room");
-    let is_so = is_answer(&answer, answer_of(rt, alloc, want));
-    drop(answer);
-    is_so && serials == padded(back)
+    is_told(
+        told(call_on(log, caller_of(at), end, request), back),
+        answer_of(rt, alloc, want),
+    )
+}
+
+/// Whether a call found room, is answered so, and the modules came back that are wanted.
+fn is_told(told: Option<(Answer, bool)>, want: Answer) -> bool {
+    match told {
+        Some((answer, is_back)) => {
+            let is_so = is_answer(&answer, want);
+            drop(answer);
+            is_so && is_back
+        }
+        None => false,
+    }
 }
 
 /// Makes a row happen: whether what comes back is what it says.
@@ -218,11 +231,23 @@ fn all_happen(rt: &impl Abort, alloc: Global, log: &mut Log<Plain>, rows: &[Row]
     }
 }
 
-/// The history that a log leaves.
-fn history_of<M: ModuleOf>(log: Log<M>) -> Vec<Kept<M::Kind>> {
+/// A log of a new stream.
+fn new_log<M: ModuleOf>(rt: &impl Abort, alloc: Global, driver: Driver) -> Log<M> {
+    let setup = Setup {
+        driver,
+        head: (16, 4),
+        drv: (16, 4),
+        ring: 0,
+    };
+    Log::new(alloc, setup).ok().expect(rt, "a stream")
+}
+
+/// The history that a log leaves, and whether end A is open then.
+fn parts_of<M: ModuleOf>(log: Log<M>) -> (Vec<Kept<M::Kind>>, bool) {
     let (history, stream) = log.into_parts();
+    let is_open = stream.is_open(End::A);
     drop(stream);
-    history
+    (history, is_open)
 }
 
 /// Looks at the entry of each row but those that are left.
@@ -239,16 +264,9 @@ fn are_entries(rt: &impl Abort, alloc: Global, history: &[Kept<Kind>], rows: &[R
 
 /// Plays a table on a new stream, and looks at its history when all has happened. Says whether end A is open then.
 fn play(rt: &impl Abort, alloc: Global, driver: Driver, rows: &[Row]) -> bool {
-    let setup = Setup {
-        driver,
-        head: (16, 4),
-        drv: (16, 4),
-        ring: 0,
-    };
-    let mut log = Log::new(alloc, setup).ok().expect(rt, "a stream");
+    let mut log = new_log(rt, alloc, driver);
     all_happen(rt, alloc, &mut log, rows);
-    let is_open = log.stream().is_open(End::A);
-    let history = history_of(log);
+    let (history, is_open) = parts_of(log);
     are_entries(rt, alloc, history.as_slice(), rows);
     is_open
 }

@@ -1,10 +1,6 @@
 //! Many callers, played by one worker and by many.
-use super::{Ask, Open, Row, played};
+use super::{Ask, Left, Open, Row, Run, plays};
 use crate::tests::{ECHO, wrote};
-use std::alloc::Global;
-use std::process::Abort;
-use std::sync::Wait;
-use std::thread::Threads;
 use strm_history::{Kept, Setup};
 use strm_module::Kind;
 use strm_msg::End::A;
@@ -46,7 +42,7 @@ fn has_calls(history: &[Kept<Kind>], caller: u32, wanted: &[(u8, u64)]) -> bool 
 }
 
 /// Whether each stream has of each caller the calls that it made there, and no others.
-fn are_played(transcript: &Transcript<Kind>) -> bool {
+pub(super) fn are_played(transcript: &Transcript<Kind>) -> bool {
     let [first, second, third] = transcript.streams.as_slice() else {
         return false;
     };
@@ -58,32 +54,37 @@ fn are_played(transcript: &Transcript<Kind>) -> bool {
     are_so && third.history.is_empty()
 }
 
-fn all_are_played<R: Abort + Threads + Wait + Sync>(rt: &R, alloc: Global, workers: u32) -> bool {
-    let transcript = played(rt, alloc, SETUPS, (SCRIPTS, &[]), workers, &Open);
-    let is_so = are_played(&transcript);
-    drop(transcript);
-    is_so
-}
+/// A run of all scripts.
+const PLAYED: Run<'static> = Run {
+    setups: SETUPS,
+    feeds: &[],
+    workers: 1,
+    left: Left::Calls,
+};
 
 #[test]
 fn each_number_of_workers_plays_all_scripts(rt: HostRuntime) {
     for workers in [1, 2, 3, 64] {
-        assert!(rt; all_are_played(&rt, rt.alloc(), workers));
+        assert!(rt; plays(&rt, rt.alloc(), SCRIPTS, Run { workers, ..PLAYED }, &Open));
     }
 }
 
 /// Whether there is one stream on which nothing was done.
-fn is_fresh(transcript: &Transcript<Kind>) -> bool {
+pub(super) fn is_fresh(transcript: &Transcript<Kind>) -> bool {
     match transcript.streams.as_slice() {
         [only] => only.history.is_empty(),
         _ => false,
     }
 }
 
+const NOTHING: Run<'static> = Run {
+    setups: &[ECHO],
+    feeds: &[],
+    workers: 3,
+    left: Left::Fresh,
+};
+
 #[test]
 fn nothing_to_play_leaves_fresh_streams(rt: HostRuntime) {
-    let transcript = played(&rt, rt.alloc(), &[ECHO], (&[], &[]), 3, &Open);
-    let is_so = is_fresh(&transcript);
-    drop(transcript);
-    assert!(rt; is_so);
+    assert!(rt; plays(&rt, rt.alloc(), &[], NOTHING, &Open));
 }

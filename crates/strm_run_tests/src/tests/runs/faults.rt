@@ -1,14 +1,14 @@
 //! Runs that are refused before a thread starts.
-use super::{Ask, Fed, Open, Row, feeds_of, run_of, scripts_of};
+use super::{Ask, Fed, Open, Row, run_of, scripts_of};
 use crate::tests::{ECHO, line};
 use std::alloc::Global;
 use std::process::Abort;
 use std::sync::Wait;
 use std::thread::Threads;
-use strm_module::{Boxed, Plain};
+use strm_module::{Boxed, Kind, Plain};
 use strm_msg::End;
 use strm_msg::End::{A, B};
-use strm_run::{RunFault, Script};
+use strm_run::{RunFault, Script, Transcript};
 
 /// The fault of a run of one script with one write, on an echo and a line whose lists are full at 5 bytes, with feeds for these
 /// streams.
@@ -20,10 +20,21 @@ fn fault<R: Abort + Threads + Wait + Sync>(
     fed: &[Fed],
 ) -> Option<RunFault> {
     let row: Row = (stream, end, Ask::Write(b"x"));
-    let setups = vec![in alloc; ECHO, line((5, 4), 2)].expect(rt, "no memory");
     let scripts: Vec<Script<Boxed<Plain>>> = scripts_of(rt, alloc, &[&[row]]);
-    let feeds = feeds_of(rt, alloc, fed);
-    run_of(rt, alloc, setups, scripts, feeds, workers, &Open).err()
+    fault_in(run_of(
+        rt,
+        alloc,
+        &[ECHO, line((5, 4), 2)],
+        scripts,
+        fed,
+        workers,
+        &Open,
+    ))
+}
+
+/// The fault of a run, if it has one.
+pub(super) fn fault_in(ran: Result<Transcript<Kind>, RunFault>) -> Option<RunFault> {
+    ran.err()
 }
 
 /// Runs with so many workers, with a write at an end of a stream and with feeds, and how each is refused: the number of

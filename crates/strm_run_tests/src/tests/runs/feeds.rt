@@ -1,5 +1,5 @@
 //! Lines that are fed while callers play.
-use super::{Ask, Fed, Open, Row, log, played};
+use super::{Ask, Fed, Left, Open, Row, Run, plays};
 use crate::tests::{came, line};
 use strm_head::{Answer, Reply};
 use strm_history::Kept;
@@ -31,7 +31,7 @@ fn counts(log: &StreamLog<Kind>) -> (u64, u64, u64) {
 }
 
 /// Whether the first of two lines was not fed, and of what the second was fed two messages are left and one found no room.
-fn is_overrun(transcript: &Transcript<Kind>) -> bool {
+pub(super) fn is_overrun(transcript: &Transcript<Kind>) -> bool {
     match transcript.streams.as_slice() {
         [unfed, fed] => {
             counts(unfed) == (0, 0, 0) && counts(fed) == (2, 0, 1) && fed.history.is_empty()
@@ -42,11 +42,13 @@ fn is_overrun(transcript: &Transcript<Kind>) -> bool {
 
 #[test]
 fn what_the_ring_has_no_room_for_is_handed_back_and_counted(rt: HostRuntime) {
-    let setups = [line((16, 4), 2), line((16, 4), 2)];
-    let transcript = played(&rt, rt.alloc(), &setups, (&[], SECOND_FED), 1, &Open);
-    let is_so = is_overrun(&transcript);
-    drop(transcript);
-    assert!(rt; is_so);
+    let overrun = Run {
+        setups: &[line((16, 4), 2), line((16, 4), 2)],
+        feeds: SECOND_FED,
+        workers: 1,
+        left: Left::Overrun,
+    };
+    assert!(rt; plays(&rt, rt.alloc(), &[], overrun, &Open));
 }
 
 const FED: &[Fed] = &[(0, &[b"a", b"b", b"c"])];
@@ -77,8 +79,8 @@ fn arrived_in_order(history: &[Kept<Kind>]) -> Option<u64> {
     }
 }
 
-/// Whether all three messages were accepted, those that came in are in order, and each of three reads is there.
-fn is_fed(log: &StreamLog<Kind>) -> bool {
+/// Whether a line's three messages were accepted, those that came in are in order, and each of three reads is there.
+fn is_line_fed(log: &StreamLog<Kind>) -> bool {
     let (accepted, arrived, overrun) = counts(log);
     (accepted, overrun) == (3, 0)
         && arrived <= 3
@@ -86,11 +88,21 @@ fn is_fed(log: &StreamLog<Kind>) -> bool {
         && log.history.len() as u64 == arrived.saturating_add(3)
 }
 
+/// The same of the only line of a run.
+pub(super) fn is_fed(transcript: &Transcript<Kind>) -> bool {
+    match transcript.streams.as_slice() {
+        [only] => is_line_fed(only),
+        _ => false,
+    }
+}
+
 #[test]
 fn a_line_is_fed_while_a_caller_reads(rt: HostRuntime) {
-    let setups = [line((16, 4), 3)];
-    let transcript = played(&rt, rt.alloc(), &setups, (READS, FED), 2, &Open);
-    let is_so = is_fed(log(&rt, &transcript, 0));
-    drop(transcript);
-    assert!(rt; is_so);
+    let read_while_fed = Run {
+        setups: &[line((16, 4), 3)],
+        feeds: FED,
+        workers: 2,
+        left: Left::Fed,
+    };
+    assert!(rt; plays(&rt, rt.alloc(), READS, read_while_fed, &Open));
 }

@@ -1,8 +1,11 @@
 //! When a gate is called.
-use super::{Ask, Row, log, pushing, run_of, script_of};
+use super::{Ask, Left, Row, leaves, pushing, run_of, script_of, two};
 use crate::tests::{ECHO, boxed};
 use std::alloc::Global;
+use std::process::Abort;
+use std::sync::Wait;
 use std::sync::atomic::{AtomicU64, Ordering};
+use std::thread::Threads;
 use strm_module::{Kind, Module};
 use strm_msg::End::A;
 use strm_run::Gate;
@@ -55,23 +58,18 @@ impl Module for Watched<'_> {}
 const CALLS: &[Row] = &[(1, A, Ask::Write(b"q")), (0, A, Ask::Pop)];
 
 /// Caller 0 pushes the module; caller 1 writes on another stream, and pops it.
-#[test]
-fn a_gate_is_called_round_each_call_and_what_comes_back_is_dropped_within(rt: HostRuntime) {
-    let alloc: Global = rt.alloc();
+fn is_noted<R: Abort + Threads + Wait + Sync>(rt: &R, alloc: Global, noted: u64) -> bool {
     let done = AtomicU64::new(0);
     let object = Watched { done: &done };
-    let instance = boxed(&rt, alloc, (1, b"note", Kind::Pass), object);
-    let p = pushing(&rt, alloc, 0, instance, &[]);
-    let q = script_of(&rt, alloc, CALLS);
-    let scripts = vec![in alloc; p, q].expect(&rt, "no memory");
-    let setups = vec![in alloc; ECHO, ECHO].expect(&rt, "no memory");
-    let feeds = vec![in alloc].expect(&rt, "no memory");
+    let instance = boxed(rt, alloc, (1, b"note", Kind::Pass), object);
+    let p = pushing(rt, alloc, 0, instance, &[]);
+    let scripts = two(rt, alloc, p, script_of(rt, alloc, CALLS));
     let gate = Noting { done: &done };
-    let transcript = run_of(&rt, alloc, setups, scripts, feeds, 1, &gate).expect(
-        &rt,
-        "a transcript",
-    );
-    let are_both = log(&rt, &transcript, 0).history.len() == 2;
-    drop(transcript);
-    assert!(rt; done.load(Ordering::SeqCst) == 1_012_011_112_111_124_212 && are_both);
+    let ran = run_of(rt, alloc, &[ECHO, ECHO], scripts, &[], 1, &gate);
+    leaves(ran, Left::Entries(&[(0, 2)])) && done.load(Ordering::SeqCst) == noted
+}
+
+#[test]
+fn a_gate_is_called_round_each_call_and_what_comes_back_is_dropped_within(rt: HostRuntime) {
+    assert!(rt; is_noted(&rt, rt.alloc(), 1_012_011_112_111_124_212));
 }

@@ -1,5 +1,5 @@
 //! A long script.
-use super::{Ask, Open, Row, log, played};
+use super::{Ask, Left, Open, Row, Run, plays};
 use crate::tests::ECHO;
 use std::alloc::Global;
 use std::process::Abort;
@@ -7,6 +7,7 @@ use strm_head::{Answer, Reply};
 use strm_history::Kept;
 use strm_module::Kind;
 use strm_msg::End::A;
+use strm_run::Transcript;
 
 /// How many calls the script has.
 const CALLS: usize = 65_536;
@@ -31,7 +32,7 @@ fn is_answered(kept: &Kept<Kind>, at: usize) -> bool {
     }
 }
 
-fn are_answered(history: &[Kept<Kind>]) -> bool {
+fn are_each_answered(history: &[Kept<Kind>]) -> bool {
     for (at, kept) in history.iter().enumerate() {
         if !is_answered(kept, at) {
             return false;
@@ -40,12 +41,24 @@ fn are_answered(history: &[Kept<Kind>]) -> bool {
     history.len() == CALLS
 }
 
+/// Whether each call of a run's only stream was answered so.
+pub(super) fn are_answered(transcript: &Transcript<Kind>) -> bool {
+    match transcript.streams.as_slice() {
+        [only] => are_each_answered(only.history.as_slice()),
+        _ => false,
+    }
+}
+
+const LONG: Run<'static> = Run {
+    setups: &[ECHO],
+    feeds: &[],
+    workers: 1,
+    left: Left::Answers,
+};
+
 #[test]
 fn a_script_of_65536_calls_ends_well(rt: HostRuntime) {
     let rows = long_script(&rt, rt.alloc());
     let scripts: &[&[Row]] = &[rows.as_slice()];
-    let transcript = played(&rt, rt.alloc(), &[ECHO], (scripts, &[]), 1, &Open);
-    let is_so = are_answered(log(&rt, &transcript, 0).history.as_slice());
-    drop(transcript);
-    assert!(rt; is_so);
+    assert!(rt; plays(&rt, rt.alloc(), scripts, LONG, &Open));
 }

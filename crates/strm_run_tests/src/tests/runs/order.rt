@@ -1,10 +1,10 @@
 //! Which calls come first.
-use super::{Ask, Open, Row, log, played, wait_for};
+use super::{Ask, Left, Open, Row, Run, plays, wait_for};
 use crate::tests::{ECHO, are_writes};
 use std::sync::OnceLock;
 use strm_module::Kind;
 use strm_msg::End::A;
-use strm_run::{Gate, StreamLog};
+use strm_run::{Gate, StreamLog, Transcript};
 
 /// A gate that lets the first call of caller 0 wait until caller 1 has its first answer.
 #[derive(Drop)]
@@ -29,6 +29,13 @@ impl Gate for SecondFirst<'_> {
 
 const ONE_EACH: &[&[Row]] = &[&[(0, A, Ask::Write(b"p1"))], &[(0, A, Ask::Write(b"q1"))]];
 
+const OVERTAKEN: Run<'static> = Run {
+    setups: &[ECHO],
+    feeds: &[],
+    workers: 2,
+    left: Left::Writes(&[(1, b'q', 2), (0, b'p', 2)]),
+};
+
 #[test]
 fn a_caller_that_waits_is_overtaken(rt: HostRuntime) {
     let (second, late) = (OnceLock::new(), OnceLock::new());
@@ -36,12 +43,7 @@ fn a_caller_that_waits_is_overtaken(rt: HostRuntime) {
         second: &second,
         late: &late,
     };
-    let transcript = played(&rt, rt.alloc(), &[ECHO], (ONE_EACH, &[]), 2, &gate);
-    let is_in_time = late.get().is_none() && transcript.streams.len() == 1;
-    let history = log(&rt, &transcript, 0).history.as_slice();
-    let is_so = is_in_time && are_writes(history, &[(1, b'q', 2), (0, b'p', 2)]);
-    drop(transcript);
-    assert!(rt; is_so);
+    assert!(rt; plays(&rt, rt.alloc(), ONE_EACH, OVERTAKEN, &gate) && late.get().is_none());
 }
 
 const TWO_AND_ONE: &[&[Row]] = &[
@@ -49,21 +51,30 @@ const TWO_AND_ONE: &[&[Row]] = &[
     &[(0, A, Ask::Write(b"q12"))],
 ];
 
-/// What the history has of that.
-const IN_TURN: &[(u32, u8, u64)] = &[(0, b'p', 2), (0, b'r', 1), (1, b'q', 3)];
+const IN_TURN: Run<'static> = Run {
+    setups: &[ECHO],
+    feeds: &[],
+    workers: 1,
+    left: Left::Writes(&[(0, b'p', 2), (0, b'r', 1), (1, b'q', 3)]),
+};
 
-/// Whether an echo of two callers was played in turn.
-fn is_in_turn(log: &StreamLog<Kind>) -> bool {
-    are_writes(log.history.as_slice(), IN_TURN)
+/// Whether this is what is left of an echo on which these writes were made.
+fn has_writes(log: &StreamLog<Kind>, writes: &[(u32, u8, u64)]) -> bool {
+    are_writes(log.history.as_slice(), writes)
         && log.a.is_some()
         && log.b.is_none()
         && (log.accepted, log.arrived, log.overrun) == (0, 0, 0)
 }
 
+/// The same of the only stream of a run.
+pub(super) fn is_written(transcript: &Transcript<Kind>, writes: &[(u32, u8, u64)]) -> bool {
+    match transcript.streams.as_slice() {
+        [only] => has_writes(only, writes),
+        _ => false,
+    }
+}
+
 #[test]
 fn one_worker_plays_scripts_one_after_another(rt: HostRuntime) {
-    let transcript = played(&rt, rt.alloc(), &[ECHO], (TWO_AND_ONE, &[]), 1, &Open);
-    let is_so = is_in_turn(log(&rt, &transcript, 0));
-    drop(transcript);
-    assert!(rt; is_so);
+    assert!(rt; plays(&rt, rt.alloc(), TWO_AND_ONE, IN_TURN, &Open));
 }

@@ -1,5 +1,5 @@
 //! Each stream has a lock of its own.
-use super::{Ask, log, pushing, run_of, script_of, wait_for};
+use super::{Ask, Left, leaves, pushing, run_of, script_of, two, wait_for};
 use crate::tests::{ECHO, boxed};
 use std::alloc::Global;
 use std::process::Abort;
@@ -65,14 +65,12 @@ fn is_apart<R: Abort + Threads + Wait + Sync>(rt: &R, alloc: Global, one: u32, o
     let instance = boxed(rt, alloc, (1, b"wait", Kind::Pass), object);
     let first = pushing(rt, alloc, one, instance, &[(one, A, Ask::Write(b"x"))]);
     let second = script_of(rt, alloc, &[(other, A, Ask::Write(b"y"))]);
-    let scripts = vec![in alloc; first, second].expect(rt, "no memory");
-    let setups = vec![in alloc; ECHO, ECHO, ECHO].expect(rt, "no memory");
-    let feeds = vec![in alloc].expect(rt, "no memory");
-    let transcript = run_of(rt, alloc, setups, scripts, feeds, 2, &done).expect(rt, "a transcript");
-    let is_so = log(rt, &transcript, one as usize).history.len() == 2
-        && log(rt, &transcript, other as usize).history.len() == 1;
-    drop(transcript);
-    is_so && done.answered.get().is_some() && done.late.get().is_none()
+    let scripts = two(rt, alloc, first, second);
+    let ran = run_of(rt, alloc, &[ECHO, ECHO, ECHO], scripts, &[], 2, &done);
+    let entries = [(one as usize, 2), (other as usize, 1)];
+    leaves(ran, Left::Entries(&entries))
+        && done.answered.get().is_some()
+        && done.late.get().is_none()
 }
 
 #[test]

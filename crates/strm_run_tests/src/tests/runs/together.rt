@@ -1,5 +1,5 @@
 //! All workers run at once.
-use super::{Ask, Row, log, played, wait_for};
+use super::{Ask, Left, Row, Run, plays, wait_for};
 use crate::tests::ECHO;
 use std::alloc::Global;
 use std::sync::OnceLock;
@@ -36,6 +36,13 @@ impl Gate for Together<'_> {
     fn after(&self, _: u32, _: u64) {}
 }
 
+const TOGETHER: Run<'static> = Run {
+    setups: &[ECHO],
+    feeds: &[],
+    workers: MOST,
+    left: Left::Entries(&[(0, 64)]),
+};
+
 #[test]
 fn as_many_workers_as_there_may_be_run_at_once(rt: HostRuntime) {
     let alloc: Global = rt.alloc();
@@ -48,8 +55,5 @@ fn as_many_workers_as_there_may_be_run_at_once(rt: HostRuntime) {
         come: come.as_slice(),
         late: &late,
     };
-    let transcript = played(&rt, alloc, &[ECHO], (SCRIPTS, &[]), MOST, &gate);
-    let are_all = log(&rt, &transcript, 0).history.len() == 64;
-    drop(transcript);
-    assert!(rt; late.get().is_none() && are_all);
+    assert!(rt; plays(&rt, alloc, SCRIPTS, TOGETHER, &gate) && late.get().is_none());
 }

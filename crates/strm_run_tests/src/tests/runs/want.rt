@@ -1,12 +1,14 @@
 //! A run for which no thread can be had.
-use super::{Ask, Open, log, run_of, scripts_of};
+use super::faults::fault_in;
+use super::{Ask, Left, Open, Row, leaves, run_of, scripts_of};
 use crate::tests::ECHO;
 use std::alloc::Global;
 use std::process::Abort;
-use strm_history::Setup;
-use strm_module::{Boxed, Plain};
+use std::sync::Wait;
+use std::thread::Threads;
+use strm_module::{Boxed, Kind, Plain};
 use strm_msg::End::A;
-use strm_run::{RunFault, Script};
+use strm_run::{RunFault, Script, Transcript};
 
 /// The most pieces, and the sizes of the greatest and of the smallest, in bytes, in which the address
 /// space is taken: the smallest is less than a thread's stack.
@@ -33,30 +35,28 @@ fn fill(rt: &impl Abort, alloc: Global) -> Vec<Vec<u8>> {
     taken
 }
 
-fn one_script(rt: &impl Abort, alloc: Global) -> (Vec<Setup>, Vec<Script<Boxed<Plain>>>) {
-    let scripts = scripts_of(rt, alloc, &[&[(0, A, Ask::Write(b"x"))]]);
-    (vec![in alloc; ECHO].expect(rt, "no memory"), scripts)
+const WRITE: &[Row] = &[(0, A, Ask::Write(b"x"))];
+
+/// A run of one write.
+fn run_one<R: Abort + Threads + Wait + Sync>(
+    rt: &R,
+    alloc: Global,
+    scripts: Vec<Script<Boxed<Plain>>>,
+) -> Result<Transcript<Kind>, RunFault> {
+    run_of(rt, alloc, &[ECHO], scripts, &[], 1, &Open)
 }
 
 #[test]
 fn want_of_a_thread_is_want_of_memory(rt: HostRuntime) {
     let alloc: Global = rt.alloc();
-    let (setups, scripts) = one_script(&rt, alloc);
-    let (setups_again, scripts_again) = one_script(&rt, alloc);
+    let scripts = scripts_of(&rt, alloc, &[WRITE]);
+    let scripts_again = scripts_of(&rt, alloc, &[WRITE]);
     let spare: Vec<u8> = Vec::with_capacity(alloc, 100_000).expect(&rt, "no memory");
     let taken = fill(&rt, alloc);
     drop(spare);
-    let feeds = vec![in alloc].expect(&rt, "no memory");
-    let refused = run_of(&rt, alloc, setups, scripts, feeds, 1, &Open).err();
+    let refused = fault_in(run_one(&rt, alloc, scripts));
     let small: Vec<u8> = Vec::with_capacity(alloc, 10_000).expect(&rt, "memory that is small");
     drop(taken);
     assert!(rt; refused == Some(RunFault::NoMem) && small.is_empty());
-    let feeds = vec![in alloc].expect(&rt, "no memory");
-    let transcript = run_of(&rt, alloc, setups_again, scripts_again, feeds, 1, &Open).expect(
-        &rt,
-        "a transcript",
-    );
-    let is_played = log(&rt, &transcript, 0).history.len() == 1;
-    drop(transcript);
-    assert!(rt; is_played);
+    assert!(rt; leaves(run_one(&rt, alloc, scripts_again), Left::Entries(&[(0, 1)])));
 }

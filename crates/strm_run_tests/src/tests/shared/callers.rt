@@ -1,6 +1,6 @@
 //! Several callers of one stream.
-use super::{answer, called, echo, ended};
-use crate::tests::{are_writes, check, padded, push, write};
+use super::{Left, answer, called, echo, ended, leaves};
+use crate::tests::{check, push, write};
 use std::alloc::Global;
 use std::process::Abort;
 use std::sync::Wait;
@@ -42,10 +42,7 @@ fn the_history_has_each_call_in_order_with_its_caller(rt: HostRuntime) {
     write_all(&rt, alloc, &shared, &mut seats);
     assert!(rt; calls_of(&seats, 0) == 1 && calls_of(&seats, 1) == 2);
     seats.as_mut_slice().reverse();
-    let end = ended(shared, seats, None).ok().expect(&rt, "an end");
-    let is_so = are_writes(end.history(), WRITTEN);
-    drop(end);
-    assert!(rt; is_so);
+    assert!(rt; leaves(ended(shared, seats, None), Left::Writes(WRITTEN)));
 }
 
 /// A call on the module stack of an end.
@@ -93,14 +90,14 @@ fn comes_back<R: Abort + Wait>(
     (end, ask, back): (End, Ask, &[u64]),
 ) -> bool {
     let request = request_of(rt, alloc, ask);
-    let (answer, serials) = called(rt, shared, seat, end, request);
+    let (answer, is_back) = called(rt, shared, seat, end, request, back);
     let is_so = is_answer(&answer, ask);
     drop(answer);
-    is_so && serials == padded(back)
+    is_so && is_back
 }
 
 /// Whether the last entry took these modules out, and end A is closed.
-fn is_closed(end: &Ended<Plain>, out: &[u64]) -> bool {
+pub(super) fn is_closed(end: &Ended<Plain>, out: &[u64]) -> bool {
     let Some(last) = end.history().last() else {
         return false;
     };
@@ -116,8 +113,5 @@ fn modules_come_back_to_their_caller(rt: HostRuntime) {
         check(&rt, ("calls", at), is_so);
     }
     assert!(rt; seats.push(seat).is_ok());
-    let end = ended(shared, seats, None).ok().expect(&rt, "an end");
-    let is_so = is_closed(&end, &[6, 5]);
-    drop(end);
-    assert!(rt; is_so);
+    assert!(rt; leaves(ended(shared, seats, None), Left::Closed(&[6, 5])));
 }

@@ -1,11 +1,12 @@
 //! Shared streams are made, and end when all seats are back.
-use super::{answer, echo, ended};
+use super::{Left, answer, echo, ended, leaves};
 use crate::tests::{ECHO, line, write};
 use std::alloc::Global;
 use std::process::Abort;
+use std::sync::Wait;
 use strm_head::{Answer, Reply, Request};
 use strm_history::Setup;
-use strm_module::Plain;
+use strm_module::{Boxed, Plain};
 use strm_shared::{EndFault, Ring, Seat, Shared, SharedFault};
 
 /// A number of messages, and whether a ring for so many is made for a line.
@@ -41,73 +42,72 @@ fn seats_of_another(rt: &impl Abort, alloc: Global, number: u32, seats: u32) -> 
     seats
 }
 
+/// Why a shared echo for one caller does not end with these seats in place of its own.
+fn fault_with(rt: &impl Abort, alloc: Global, seats: Vec<Seat>) -> Option<EndFault> {
+    let (shared, own) = echo(rt, alloc, 0, 1);
+    drop(own);
+    fault_of(shared, seats)
+}
+
 #[test]
-fn a_seat_for_each_caller_is_wanted(rt: HostRuntime) {
+fn its_own_seat_for_each_caller_is_wanted(rt: HostRuntime) {
     let alloc: Global = rt.alloc();
-    let (shared, seats) = echo(&rt, alloc, 0, 1);
-    drop(seats);
-    assert!(rt; fault_of(shared, Vec::new(alloc)) == Some(EndFault::Seats));
+    assert!(rt; fault_with(&rt, alloc, Vec::new(alloc)) == Some(EndFault::Seats));
+    let others = seats_of_another(&rt, alloc, 1, 1);
+    assert!(rt; fault_with(&rt, alloc, others) == Some(EndFault::Seats));
 }
 
 #[test]
 fn seats_come_back_in_any_order(rt: HostRuntime) {
-    let alloc: Global = rt.alloc();
-    let (shared, mut seats) = echo(&rt, alloc, 7, 3);
-    assert!(rt; shared.number() == 7 && shared.setup() == ECHO);
-    assert!(rt; seats.len() == 3);
+    let (shared, mut seats) = echo(&rt, rt.alloc(), 7, 3);
+    assert!(rt; shared.number() == 7 && shared.setup() == ECHO && seats.len() == 3);
     seats.as_mut_slice().reverse();
-    let end = ended(shared, seats, None).ok().expect(&rt, "an end");
-    let is_fresh = end.history().is_empty() && end.left().is_empty();
-    drop(end);
-    assert!(rt; is_fresh);
+    assert!(rt; leaves(ended(shared, seats, None), Left::Nothing));
 }
 
-#[test]
-fn a_seat_of_another_stream_is_none_of_this(rt: HostRuntime) {
-    let alloc: Global = rt.alloc();
-    let (shared, _) = echo(&rt, alloc, 0, 1);
-    let others = seats_of_another(&rt, alloc, 1, 1);
-    assert!(rt; fault_of(shared, others) == Some(EndFault::Seats));
+/// A call.
+#[derive(Clone, Copy, Drop)]
+enum Ask {
+    /// One byte is written.
+    Write,
+    /// No message waits.
+    Nread,
 }
 
-/// Whether one byte was written.
-fn is_written(answer: Answer) -> bool {
-    let is_so = matches!(&answer, Answer::Done(Reply::Write { len: 1 }));
+fn request_of(rt: &impl Abort, alloc: Global, ask: Ask) -> Request<Boxed<Plain>> {
+    match ask {
+        Ask::Write => write(rt, alloc, b"x"),
+        Ask::Nread => Request::Nread,
+    }
+}
+
+/// Whether a call was answered as it should be.
+fn is_answered(answer: Answer, ask: Ask) -> bool {
+    let is_so = match (&answer, ask) {
+        (Answer::Done(Reply::Write { len }), Ask::Write) => *len == 1,
+        (Answer::Done(Reply::Nread { messages, bytes }), Ask::Nread) => {
+            *messages == 0 && *bytes == 0
+        }
+        _ => false,
+    };
     drop(answer);
     is_so
 }
 
-/// Whether no message waits.
-fn is_empty(answer: Answer) -> bool {
-    let is_so = matches!(
-        &answer,
-        Answer::Done(Reply::Nread {
-            messages: 0,
-            bytes: 0
-        })
-    );
-    drop(answer);
-    is_so
+/// Why a shared echo for one caller does not end after a call by the last of so many callers of another one with its number.
+fn fault_after<R: Abort + Wait>(rt: &R, alloc: Global, many: u32, ask: Ask) -> Option<EndFault> {
+    let (shared, seats) = echo(rt, alloc, 0, 1);
+    let mut others = seats_of_another(rt, alloc, 0, many);
+    let mut other = others.pop().expect(rt, "a seat");
+    assert!(rt; other.caller() == many.saturating_sub(1));
+    let answer = answer(rt, &shared, &mut other, request_of(rt, alloc, ask));
+    assert!(rt; is_answered(answer, ask));
+    fault_of(shared, seats)
 }
 
 #[test]
-fn a_call_by_a_twin_of_the_seat_is_found(rt: HostRuntime) {
-    let alloc: Global = rt.alloc();
-    let (shared, seats) = echo(&rt, alloc, 0, 1);
-    let mut twins = seats_of_another(&rt, alloc, 0, 1);
-    let mut twin = twins.pop().expect(&rt, "a seat");
-    let request = write(&rt, alloc, b"x");
-    assert!(rt; is_written(answer(&rt, &shared, &mut twin, request)));
-    assert!(rt; fault_of(shared, seats) == Some(EndFault::Unfinished));
-}
-
-#[test]
-fn a_call_by_a_caller_without_a_seat_is_found(rt: HostRuntime) {
-    let alloc: Global = rt.alloc();
-    let (shared, seats) = echo(&rt, alloc, 0, 1);
-    let mut more = seats_of_another(&rt, alloc, 0, 2);
-    let mut stranger = more.pop().expect(&rt, "a seat");
-    assert!(rt; stranger.caller() == 1);
-    assert!(rt; is_empty(answer(&rt, &shared, &mut stranger, Request::Nread)));
-    assert!(rt; fault_of(shared, seats) == Some(EndFault::Unfinished));
+fn a_call_by_a_twin_of_the_seat_or_without_a_seat_is_found(rt: HostRuntime) {
+    for (many, ask) in [(1, Ask::Write), (2, Ask::Nread)] {
+        assert!(rt; fault_after(&rt, rt.alloc(), many, ask) == Some(EndFault::Unfinished));
+    }
 }

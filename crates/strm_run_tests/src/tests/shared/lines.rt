@@ -2,7 +2,7 @@
 ghost use Rattle.std.specs.Prelude.{◌≡◌, ℕ, true, None};
 ghost use Rattle.strm_history.specs.Setup.{is_fit};
 
-use super::{answer, ended, made};
+use super::{Left, answer, ended, leaves, made};
 use crate::tests::{bytes, came, data_of, line};
 use std::alloc::Global;
 use std::marker::Brand;
@@ -12,7 +12,7 @@ use strm_head::{Answer, Priority, Refusal, Reply, Request, Wanted};
 use strm_history::Kept;
 use strm_module::{Boxed, Kind, Plain};
 use strm_msg::{Errno, Message, Prot, ReadMode};
-use strm_shared::{EndFault, Feeder, Ring, Runs, Seat, Shared};
+use strm_shared::{EndFault, Ended, Feeder, Ring, Runs, Seat, Shared};
 
 /// What is done, in order, and what comes of it.
 #[derive(Clone, Copy, Drop)]
@@ -243,8 +243,8 @@ fn request_of(rt: &impl Abort, alloc: Global, step: Step) -> Option<Request<Boxe
 }
 
 /// Whether this is what a step is answered.
-fn is_answer(step: Step, answer: &Answer) -> bool {
-    match (step, answer) {
+fn is_answer(step: Step, answer: Answer) -> bool {
+    let is_so = match (step, &answer) {
         (Step::Getmsg(wanted), Answer::Done(Reply::Getmsg { dat: Some(dat), .. })) => {
             dat.as_slice() == wanted
         }
@@ -258,21 +258,29 @@ fn is_answer(step: Step, answer: &Answer) -> bool {
         (Step::Close, Answer::Done(Reply::Close { .. })) => true,
         (Step::Refused(_, wanted), Answer::Refused(refusal)) => *refusal == wanted,
         _ => false,
+    };
+    drop(answer);
+    is_so
+}
+
+/// Makes the call of a step, if it is one: whether it is answered so.
+fn asks<N: Runs<Kind>, R: Abort + Wait>(
+    rt: &R,
+    alloc: Global,
+    shared: &Shared<Plain, N>,
+    seat: &mut Seat,
+    step: Step,
+) -> bool
+    requires { (number caller : ℕ) → N.calls number caller ≡ None }
+{
+    match request_of(rt, alloc, step) {
+        Some(request) => is_answer(step, answer(rt, shared, seat, request)),
+        None => false,
     }
 }
 
-/// The message that a step offers, if it offers one, and whether it is accepted.
-fn message_of(rt: &impl Abort, alloc: Global, step: Step) -> Option<(Message, bool)> {
-    match step {
-        Step::Data(dat, is_accepted) => {
-            let m = Message::of_data(alloc, 0, dat).expect(rt, "no memory");
-            Some((m, is_accepted))
-        }
-        Step::Hangup => Some((Message::of_hangup(), true)),
-        Step::Errors(rd, wr) => Some((Message::of_error2(rd, wr), true)),
-        Step::Options(mode) => Some((Message::of_setopts(Some(mode), None, None), true)),
-        _ => None,
-    }
+fn data(rt: &impl Abort, alloc: Global, dat: &[u8]) -> Message {
+    Message::of_data(alloc, 0, dat).expect(rt, "no memory")
 }
 
 /// Whether a step goes as it should.
@@ -287,42 +295,42 @@ fn goes<N: Runs<Kind>, R: Abort + Wait>(
     requires calls { (number caller : ℕ) → N.calls number caller ≡ None }
     requires feed { (number : ℕ) → N.feed number ≡ None }
 {
-    if let Some((m, is_accepted)) = message_of(rt, alloc, step) {
-        return offers(rt, feeder, m) == is_accepted;
+    match step {
+        Step::Data(dat, is_accepted) => offers(rt, feeder, data(rt, alloc, dat)) == is_accepted,
+        Step::Hangup => offers(rt, feeder, Message::of_hangup()),
+        Step::Errors(rd, wr) => offers(rt, feeder, Message::of_error2(rd, wr)),
+        Step::Options(mode) => offers(rt, feeder, Message::of_setopts(Some(mode), None, None)),
+        _ => asks(rt, alloc, shared, seat, step),
     }
-    let Some(request) = request_of(rt, alloc, step) else {
-        return false;
-    };
-    let answer = answer(rt, shared, seat, request);
-    let is_so = is_answer(step, &answer);
-    drop(answer);
-    is_so
 }
 
 /// Whether this is the history that is wanted.
 fn is_history(history: &[Kept<Kind>], wanted: &[Option<&'static [u8]>]) -> bool {
-    if history.len() != wanted.len() {
-        return false;
-    }
     for (at, entry) in history.iter().enumerate() {
         if wanted.get(at) != Some(&came(entry)) {
             return false;
         }
     }
-    true
+    history.len() == wanted.len()
 }
 
-/// Whether this is what is left.
-fn is_left(left: &[Message], wanted: &[&'static [u8]]) -> bool {
-    if left.len() != wanted.len() {
-        return false;
-    }
-    for (m, one) in left.iter().zip(wanted) {
-        if data_of(m) != *one {
+/// Whether these data are left.
+fn are_data(left: &[Message], wanted: &[&'static [u8]]) -> bool {
+    for (at, m) in left.iter().enumerate() {
+        if wanted.get(at) != Some(&data_of(m)) {
             return false;
         }
     }
-    true
+    left.len() == wanted.len()
+}
+
+/// Whether this is what its history has and what is left.
+pub(super) fn is_line(
+    end: &Ended<Plain>,
+    history: &[Option<&'static [u8]>],
+    left: &[&'static [u8]],
+) -> bool {
+    is_history(end.history(), history) && are_data(end.left(), left)
 }
 
 /// Whether all goes as it should on a line with this ring, which the run names.
@@ -339,12 +347,8 @@ fn plays<N: Runs<Kind>, R: Abort + Wait>(rt: &R, alloc: Global, ring: Ring, row:
         assert!(rt; goes(rt, alloc, &shared, &mut seat, &mut feeder, *step));
     }
     seats.push(seat).expect(rt, "no memory");
-    let ended = ended(shared, seats, feeder.finish())
-        .ok()
-        .expect(rt, "an end");
-    let is_so = is_history(ended.history(), row.history) && is_left(ended.left(), row.left);
-    drop(ended);
-    is_so
+    let left = Left::Line(row.history, row.left);
+    leaves(ended(shared, seats, feeder.finish()), left)
 }
 
 /// Whether all goes as it should.

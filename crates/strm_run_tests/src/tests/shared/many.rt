@@ -4,7 +4,7 @@ ghost use Rattle.std.specs.Thread.{IsSend, IsSync};
 ghost use Rattle.strm_msg.specs.Kind.{is_from_line};
 ghost use Rattle.strm_history.specs.Setup.{is_fit};
 
-use super::{answer, ended, made};
+use super::{Left, answer, ended, leaves, made};
 use crate::tests::line;
 use std::alloc::Global;
 use std::marker::Brand;
@@ -93,7 +93,7 @@ fn is_number(m: &Message, next: u32) -> bool {
 }
 
 /// The numbers in order, once each, as they came in and as they are left; how many.
-fn count_in_order(ended: &Ended<Plain>) -> Option<u32> {
+pub(super) fn count_in_order(ended: &Ended<Plain>) -> Option<u32> {
     let mut next: u32 = 0;
     for kept in ended.history() {
         if let Event::Arrived(m) = &kept.entry().event {
@@ -153,12 +153,12 @@ fn read_while_fed<N: Runs<Kind> + Send + Sync, R: Abort + Threads + Wait + Sync>
     )
 }
 
-/// How many messages came in or are left, in order, once each.
-fn count_of<N: Runs<Kind> + Send + Sync, R: Abort + Threads + Wait + Sync>(
+/// Whether all messages came in or are left, in order, once each.
+fn have_come<N: Runs<Kind> + Send + Sync, R: Abort + Threads + Wait + Sync>(
     rt: &R,
     alloc: Global,
     ring: Ring,
-) -> Option<u32>
+) -> bool
     requires marks { is_fit ring.setup ≡ true }
     requires name { ring.name ≡ N.ring 0 }
     requires calls { (number caller : ℕ) → N.calls number caller ≡ None }
@@ -167,19 +167,21 @@ fn count_of<N: Runs<Kind> + Send + Sync, R: Abort + Threads + Wait + Sync>(
     let (shared, seats, feeder) = made::<Plain, N>(rt, alloc, 0, CALLERS, ring);
     let mut feeder = feeder.expect(rt, "a feeder");
     let seats = read_while_fed(rt, alloc, &shared, seats, &mut feeder);
-    let ended = ended(shared, seats, feeder.finish());
-    count_in_order(&ended.ok().expect(rt, "an end"))
+    leaves(
+        ended(shared, seats, feeder.finish()),
+        Left::Numbered(MESSAGES),
+    )
 }
 
 /// The same, on a line whose lists are never full, under the name of a ring of its own for 16 messages.
-fn count<R: Abort + Threads + Wait + Sync>(rt: &R, alloc: Global) -> Option<u32> {
+fn all_have_come<R: Abort + Threads + Wait + Sync>(rt: &R, alloc: Global) -> bool {
     let setup = line((4_294_967_295, 1), 16);
     let ring = Ring::new(alloc, setup).ok().expect(rt, "a ring");
     assert!(rt; setup.is_fit());
-    count_of::<Brand, R>(rt, alloc, ring)
+    have_come::<Brand, R>(rt, alloc, ring)
 }
 
 #[test]
 fn each_of_a_million_messages_comes_in_once_and_in_order(rt: HostRuntime) {
-    assert!(rt; count(&rt, rt.alloc()) == Some(MESSAGES));
+    assert!(rt; all_have_come(&rt, rt.alloc()));
 }

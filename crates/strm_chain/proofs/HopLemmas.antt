@@ -12,6 +12,7 @@ use Rattle.strm_msg.specs.declared.words.Side.{Side}
 use Rattle.strm_msg.specs.declared.words.Side.TheVariants.{Rd, Wr}
 use Rattle.strm_module.specs.Kinds.{OutList, Meaning}
 use Rattle.strm_qpair.specs.Pair.{QueuePair}
+use Rattle.strm_qpair.specs.End.{pair_at}
 use Rattle.strm_qpair.specs.Modules.{identity_of, identities_of}
 use Rattle.strm_qpair.specs.Head.{head_does}
 use Rattle.strm_qpair.specs.declared.driver.DriverSends.TheVariants.{Nothing, Reply, Across, Options}
@@ -140,6 +141,15 @@ module _ {K : Type 0} (means : Meaning K) where
 
   pub driver_stays : (e : End) (old new : Image K) → (end_of old e).drv ≡ [] → new ≡ old → new ≡ move means old (Place.Drv e)
   driver_stays e old new none h = h ∙ ap (move_drv means old e) (sym none)
+
+  -- a module that is not there gets and serves nothing
+  pub gets_nowhere : (image : Image K) (e : End) (i : ℕ) (side : Side) (m : Msg) → pair_at (end_of image e).modules i ≡ None → put_at means image e i side m ≡ record { image = image; outs = [] }
+  gets_nowhere image A i side m none = rw none refl
+  gets_nowhere image B i side m none = rw none refl
+
+  pub serves_nowhere : (image : Image K) (e : End) (i : ℕ) (side : Side) → pair_at (end_of image e).modules i ≡ None → serve_at means image e i side ≡ record { image = image; outs = [] }
+  serves_nowhere image A i side none = rw none refl
+  serves_nowhere image B i side none = rw none refl
 
 length-identities : {K : Type 0} (xs : List (QueuePair K)) → length (identities_of xs) ≡ length xs
 length-identities xs = length-map xs (λ s. identity_of s.shape)

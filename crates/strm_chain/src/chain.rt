@@ -57,8 +57,8 @@ impl<M: ModuleOf> Chain<M> {
     pub fn new(alloc: Global, driver: Driver, head: Marks, drv: Marks) -> Result<Chain<M>, NoMem>
         ensures { IfOk result (λ c. c.image ≡ fresh driver head drv) }
     {
-        let ends = Ends::new(alloc, driver, head, drv)?;
         let mut enabling = Enabling::new(alloc)?;
+        let ends = Ends::new(alloc, driver, head, drv)?;
         enabling.wake_all(&ends);
         Ok(Chain { ends, enabling })
     }

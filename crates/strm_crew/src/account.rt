@@ -78,10 +78,11 @@ pub(crate) fn call_on<M: ModuleOf, N: Plays<M::Kind>, R: Wait>(
     account.receipts.reserve(1)?;
     match shared.call(rt, &mut account.seat, call) {
         Called::Done {
-            answer: _,
+            answer,
             back: _,
             receipt,
         } => {
+            drop(answer);
             if let Some(receipt) = receipt {
                 account.receipts.push_reserved(receipt);
             }

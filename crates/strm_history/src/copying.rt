@@ -1,10 +1,92 @@
 //! A request as a history has it.
 ghost use Rattle.std.specs.Prelude.{◌≡◌, IfOk};
+ghost use Rattle.strm_call.specs.declared.request.Request.TheVariants as Requests;
 
 use std::alloc::Global;
-use strm_call::{Request, copy_part};
+use strm_call::{Priority, PutFlag, Request, copy_part};
 use strm_module::{Boxed, BoxedShape, ModuleOf};
-use strm_msg::NoMem;
+use strm_msg::{Bytes, NoMem};
+
+/// Copies of the control and of the data of a call. Refused for want of memory alone.
+fn copy_parts(
+    alloc: Global,
+    ctl: &Option<Bytes>,
+    dat: &Option<Bytes>,
+) -> Result<(Option<Bytes>, Option<Bytes>), NoMem>
+    ensures { IfOk result (λ copies. (copies.0 ≡ ctl.now) × (copies.1 ≡ dat.now)) }
+{
+    let ctl = copy_part(alloc, ctl)?;
+    let dat = copy_part(alloc, dat)?;
+    Ok((ctl, dat))
+}
+
+/// A putmsg of copies. Refused for want of memory alone.
+fn copy_putmsg<P>(
+    alloc: Global,
+    ctl: &Option<Bytes>,
+    dat: &Option<Bytes>,
+    flag: Priority,
+) -> Result<Request<P>, NoMem>
+    ensures { IfOk result (λ copy. copy ≡ Requests.Putmsg ctl.now dat.now flag) }
+{
+    let (ctl, dat) = copy_parts(alloc, ctl, dat)?;
+    Ok(Request::Putmsg { ctl, dat, flag })
+}
+
+/// A putpmsg of copies. Refused for want of memory alone.
+fn copy_putpmsg<P>(
+    alloc: Global,
+    ctl: &Option<Bytes>,
+    dat: &Option<Bytes>,
+    band: u8,
+    flag: PutFlag,
+) -> Result<Request<P>, NoMem>
+    ensures { IfOk result (λ copy. copy ≡ Requests.Putpmsg ctl.now dat.now band flag) }
+{
+    let (ctl, dat) = copy_parts(alloc, ctl, dat)?;
+    Ok(Request::Putpmsg {
+        ctl,
+        dat,
+        band,
+        flag,
+    })
+}
+
+/// A write of a copy. Refused for want of memory alone.
+fn copy_write<P>(alloc: Global, dat: &Bytes) -> Result<Request<P>, NoMem>
+    ensures { IfOk result (λ copy. copy ≡ Requests.Write dat.now) }
+{
+    let dat = dat.copy(alloc)?;
+    Ok(Request::Write { dat })
+}
+
+/// A push of the module's shape. Refused for want of memory alone.
+fn copy_push<M: ModuleOf>(
+    alloc: Global,
+    instance: &Boxed<M>,
+) -> Result<Request<BoxedShape<M::Kind>>, NoMem>
+    ensures { IfOk result (λ copy. copy ≡ Requests.Push instance.now) }
+{
+    let shape = instance.shape().copy(alloc)?;
+    let instance = BoxedShape::new(alloc, shape)?;
+    Ok(Request::Push { instance })
+}
+
+/// A find of a copy of the name. Refused for want of memory alone.
+fn copy_find<P>(alloc: Global, name: &Bytes) -> Result<Request<P>, NoMem>
+    ensures { IfOk result (λ copy. copy ≡ Requests.Find name.now) }
+{
+    let name = name.copy(alloc)?;
+    Ok(Request::Find { name })
+}
+
+/// An ioctl of copies. Refused for want of memory alone.
+fn copy_str<P>(alloc: Global, cmd: u32, dat: &Option<Bytes>) -> Result<Request<P>, NoMem>
+    ensures { IfOk result (λ copy. copy ≡ Requests.Str cmd dat.now) }
+{
+    let dat = copy_part(alloc, dat)?;
+    Ok(Request::Str { cmd, dat })
+}
 
 /// A request as a history has it: a copy, with the module's shape in the module's place. Refused for
 /// want of memory alone.
@@ -15,22 +97,13 @@ pub(crate) fn copy_request<M: ModuleOf>(
     ensures { IfOk result (λ copy. copy ≡ request.now) }
 {
     match request {
-        Request::Putmsg { ctl, dat, flag } => Ok(Request::Putmsg {
-            ctl: copy_part(alloc, ctl)?,
-            dat: copy_part(alloc, dat)?,
-            flag: *flag,
-        }),
+        Request::Putmsg { ctl, dat, flag } => copy_putmsg(alloc, ctl, dat, *flag),
         Request::Putpmsg {
             ctl,
             dat,
             band,
             flag,
-        } => Ok(Request::Putpmsg {
-            ctl: copy_part(alloc, ctl)?,
-            dat: copy_part(alloc, dat)?,
-            band: *band,
-            flag: *flag,
-        }),
+        } => copy_putpmsg(alloc, ctl, dat, *band, *flag),
         Request::Getmsg {
             maxctl,
             maxdat,
@@ -52,12 +125,8 @@ pub(crate) fn copy_request<M: ModuleOf>(
             flag: *flag,
         }),
         Request::Read { max } => Ok(Request::Read { max: *max }),
-        Request::Write { dat } => Ok(Request::Write {
-            dat: dat.copy(alloc)?,
-        }),
-        Request::Push { instance } => Ok(Request::Push {
-            instance: BoxedShape::new(alloc, instance.shape().copy(alloc)?)?,
-        }),
+        Request::Write { dat } => copy_write(alloc, dat),
+        Request::Push { instance } => copy_push(alloc, instance),
         Request::Nread => Ok(Request::Nread),
         Request::Peek {
             maxctl,
@@ -79,13 +148,8 @@ pub(crate) fn copy_request<M: ModuleOf>(
         Request::Pop => Ok(Request::Pop),
         Request::Look => Ok(Request::Look),
         Request::List => Ok(Request::List),
-        Request::Find { name } => Ok(Request::Find {
-            name: name.copy(alloc)?,
-        }),
-        Request::Str { cmd, dat } => Ok(Request::Str {
-            cmd: *cmd,
-            dat: copy_part(alloc, dat)?,
-        }),
+        Request::Find { name } => copy_find(alloc, name),
+        Request::Str { cmd, dat } => copy_str(alloc, *cmd, dat),
         Request::Flush { r, w } => Ok(Request::Flush { r: *r, w: *w }),
         Request::FlushBand { band, r, w } => Ok(Request::FlushBand {
             band: *band,

@@ -1,11 +1,13 @@
 //! Whether two entries are the same.
 ghost use Rattle.std.specs.Prelude.{◌≡◌, ◌↔◌, true};
+ghost use Rattle.strm_call.specs.declared.request.Request.TheVariants as Requests;
+ghost use Rattle.strm_head.specs.Begin.{changes_no_queue};
 
 use crate::entry::Entry;
 use strm_call::is_same_part;
-use strm_head::{Event, Place, Request};
+use strm_head::{Event, GetFlag, Place, Priority, PutFlag, Request, Wanted};
 use strm_module::{BoxedShape, Kind, Shape};
-use strm_msg::{Marks, Message, MsgKind};
+use strm_msg::{Bytes, Marks, Message, MsgKind};
 
 /// Kinds of module that can be told apart, as they must be where the entry of a push is compared with a receipt's.
 pub trait SameKind {
@@ -102,74 +104,141 @@ fn is_same_shape<K: SameKind>(one: &Shape<K>, other: &Shape<K>) -> bool
         && one.kind.is_same(&other.kind)
 }
 
-/// Whether two requests are the same.
-fn is_same_request<K: SameKind + Drop>(
+/// Whether as much control is asked for twice at most, or none, and as much data.
+fn are_same_bounds(
+    ctl: &Option<u16>,
+    other_ctl: &Option<u16>,
+    dat: &Option<u16>,
+    other_dat: &Option<u16>,
+) -> bool
+    ensures { result ≡ true ↔ (ctl.now ≡ other_ctl.now) × (dat.now ≡ other_dat.now) }
+{
+    ctl == other_ctl && dat == other_dat
+}
+
+/// Whether a request is a putmsg of these parts.
+fn is_putmsg<P>(
+    request: &Request<P>,
+    ctl: &Option<Bytes>,
+    dat: &Option<Bytes>,
+    flag: Priority,
+) -> bool
+    ensures { result ≡ true ↔ Requests.Putmsg ctl.now dat.now flag ≡ request.now }
+{
+    match request {
+        Request::Putmsg {
+            ctl: c,
+            dat: d,
+            flag: f,
+        } => is_same_part(ctl, c) && is_same_part(dat, d) && flag == *f,
+        _ => false,
+    }
+}
+
+/// Whether a request is a putpmsg of these parts.
+fn is_putpmsg<P>(
+    request: &Request<P>,
+    ctl: &Option<Bytes>,
+    dat: &Option<Bytes>,
+    band: u8,
+    flag: PutFlag,
+) -> bool
+    ensures { result ≡ true ↔ Requests.Putpmsg ctl.now dat.now band flag ≡ request.now }
+{
+    match request {
+        Request::Putpmsg {
+            ctl: c,
+            dat: d,
+            band: b,
+            flag: f,
+        } => is_same_part(ctl, c) && is_same_part(dat, d) && band == *b && flag == *f,
+        _ => false,
+    }
+}
+
+/// Whether a request is a getmsg of at most so much.
+fn is_getmsg<P>(
+    request: &Request<P>,
+    maxctl: &Option<u16>,
+    maxdat: &Option<u16>,
+    flag: Wanted,
+) -> bool
+    ensures { result ≡ true ↔ Requests.Getmsg maxctl.now maxdat.now flag ≡ request.now }
+{
+    match request {
+        Request::Getmsg {
+            maxctl: c,
+            maxdat: d,
+            flag: f,
+        } => are_same_bounds(maxctl, c, maxdat, d) && flag == *f,
+        _ => false,
+    }
+}
+
+/// Whether a request is a getpmsg of at most so much.
+fn is_getpmsg<P>(
+    request: &Request<P>,
+    maxctl: &Option<u16>,
+    maxdat: &Option<u16>,
+    band: u8,
+    flag: GetFlag,
+) -> bool
+    ensures { result ≡ true ↔ Requests.Getpmsg maxctl.now maxdat.now band flag ≡ request.now }
+{
+    match request {
+        Request::Getpmsg {
+            maxctl: c,
+            maxdat: d,
+            band: b,
+            flag: f,
+        } => are_same_bounds(maxctl, c, maxdat, d) && band == *b && flag == *f,
+        _ => false,
+    }
+}
+
+/// Whether a request is an ioctl of this command and data.
+fn is_str<P>(request: &Request<P>, cmd: u32, dat: &Option<Bytes>) -> bool
+    ensures { result ≡ true ↔ Requests.Str cmd dat.now ≡ request.now }
+{
+    match request {
+        Request::Str { cmd: c, dat: d } => cmd == *c && is_same_part(dat, d),
+        _ => false,
+    }
+}
+
+/// Whether a request is a flush of these sides.
+fn is_flush<P>(request: &Request<P>, r: bool, w: bool) -> bool
+    ensures { result ≡ true ↔ Requests.Flush r w ≡ request.now }
+{
+    match request {
+        Request::Flush { r: read, w: write } => r == *read && w == *write,
+        _ => false,
+    }
+}
+
+/// Whether a request is a flush of this band on these sides.
+fn is_flush_band<P>(request: &Request<P>, band: u8, r: bool, w: bool) -> bool
+    ensures { result ≡ true ↔ Requests.FlushBand band r w ≡ request.now }
+{
+    match request {
+        Request::FlushBand {
+            band: b,
+            r: read,
+            w: write,
+        } => band == *b && r == *read && w == *write,
+        _ => false,
+    }
+}
+
+/// Whether another request is the same as one that changes no queue.
+fn is_same_question<K: SameKind + Drop>(
     one: &Request<BoxedShape<K>>,
     other: &Request<BoxedShape<K>>,
 ) -> bool
+    requires { changes_no_queue one.now ≡ true }
     ensures { result ≡ true ↔ one.now ≡ other.now }
 {
     match one {
-        Request::Putmsg { ctl, dat, flag } => match other {
-            Request::Putmsg {
-                ctl: c,
-                dat: d,
-                flag: f,
-            } => is_same_part(ctl, c) && is_same_part(dat, d) && flag == f,
-            _ => false,
-        },
-        Request::Putpmsg {
-            ctl,
-            dat,
-            band,
-            flag,
-        } => match other {
-            Request::Putpmsg {
-                ctl: c,
-                dat: d,
-                band: b,
-                flag: f,
-            } => is_same_part(ctl, c) && is_same_part(dat, d) && band == b && flag == f,
-            _ => false,
-        },
-        Request::Getmsg {
-            maxctl,
-            maxdat,
-            flag,
-        } => match other {
-            Request::Getmsg {
-                maxctl: c,
-                maxdat: d,
-                flag: f,
-            } => maxctl == c && maxdat == d && flag == f,
-            _ => false,
-        },
-        Request::Getpmsg {
-            maxctl,
-            maxdat,
-            band,
-            flag,
-        } => match other {
-            Request::Getpmsg {
-                maxctl: c,
-                maxdat: d,
-                band: b,
-                flag: f,
-            } => maxctl == c && maxdat == d && band == b && flag == f,
-            _ => false,
-        },
-        Request::Read { max } => match other {
-            Request::Read { max: m } => max == m,
-            _ => false,
-        },
-        Request::Write { dat } => match other {
-            Request::Write { dat: d } => dat.as_slice() == d.as_slice(),
-            _ => false,
-        },
-        Request::Push { instance } => match other {
-            Request::Push { instance: i } => is_same_shape(instance.shape(), i.shape()),
-            _ => false,
-        },
         Request::Nread => matches!(other, Request::Nread),
         Request::Peek {
             maxctl,
@@ -180,7 +249,7 @@ fn is_same_request<K: SameKind + Drop>(
                 maxctl: c,
                 maxdat: d,
                 flag: f,
-            } => maxctl == c && maxdat == d && flag == f,
+            } => are_same_bounds(maxctl, c, maxdat, d) && flag == f,
             _ => false,
         },
         Request::SetRead { mode, prot } => match other {
@@ -197,30 +266,69 @@ fn is_same_request<K: SameKind + Drop>(
             _ => false,
         },
         Request::Getband => matches!(other, Request::Getband),
-        Request::Pop => matches!(other, Request::Pop),
         Request::Look => matches!(other, Request::Look),
         Request::List => matches!(other, Request::List),
         Request::Find { name } => match other {
             Request::Find { name: n } => name.as_slice() == n.as_slice(),
             _ => false,
         },
-        Request::Str { cmd, dat } => match other {
-            Request::Str { cmd: c, dat: d } => cmd == c && is_same_part(dat, d),
+        _ => false,
+    }
+}
+
+/// Whether two requests are the same.
+fn is_same_request<K: SameKind + Drop>(
+    one: &Request<BoxedShape<K>>,
+    other: &Request<BoxedShape<K>>,
+) -> bool
+    ensures { result ≡ true ↔ one.now ≡ other.now }
+{
+    match one {
+        Request::Putmsg { ctl, dat, flag } => is_putmsg(other, ctl, dat, *flag),
+        Request::Putpmsg {
+            ctl,
+            dat,
+            band,
+            flag,
+        } => is_putpmsg(other, ctl, dat, *band, *flag),
+        Request::Getmsg {
+            maxctl,
+            maxdat,
+            flag,
+        } => is_getmsg(other, maxctl, maxdat, *flag),
+        Request::Getpmsg {
+            maxctl,
+            maxdat,
+            band,
+            flag,
+        } => is_getpmsg(other, maxctl, maxdat, *band, *flag),
+        Request::Read { max } => match other {
+            Request::Read { max: m } => max == m,
             _ => false,
         },
-        Request::Flush { r, w } => match other {
-            Request::Flush { r: read, w: write } => r == read && w == write,
+        Request::Write { dat } => match other {
+            Request::Write { dat: d } => dat.as_slice() == d.as_slice(),
             _ => false,
         },
-        Request::FlushBand { band, r, w } => match other {
-            Request::FlushBand {
-                band: b,
-                r: read,
-                w: write,
-            } => band == b && r == read && w == write,
+        Request::Push { instance } => match other {
+            Request::Push { instance: i } => is_same_shape(instance.shape(), i.shape()),
             _ => false,
         },
+        Request::Pop => matches!(other, Request::Pop),
+        Request::Str { cmd, dat } => is_str(other, *cmd, dat),
+        Request::Flush { r, w } => is_flush(other, *r, *w),
+        Request::FlushBand { band, r, w } => is_flush_band(other, *band, *r, *w),
         Request::Close => matches!(other, Request::Close),
+        Request::Nread
+        | Request::Peek { .. }
+        | Request::SetRead { .. }
+        | Request::GetRead
+        | Request::Canput { .. }
+        | Request::Ckband { .. }
+        | Request::Getband
+        | Request::Look
+        | Request::List
+        | Request::Find { .. } => is_same_question(one, other),
     }
 }
 

@@ -1,5 +1,5 @@
 -- What holds of every module's put and service procedures, for kinds of any meaning.
-use Rattle.std.proofs.Common.{◌≡◌, ◌&&◌, not, Bool, true, false, cond, refl}
+use Rattle.std.proofs.Common.{◌≡◌, ◌&&◌, not, Bool, true, false, cond, refl, Result, Ok, Err, OnOk, OnErr, IfOk}
 use Rattle.strm_msg.specs.Kind.{is_high}
 use Rattle.strm_msg.specs.Message.{Msg}
 use Rattle.strm_msg.specs.declared.words.Side.{Side}
@@ -7,6 +7,7 @@ use Rattle.strm_module.specs.Kinds.{Meaning}
 use Rattle.strm_module.specs.Shape.{queues_on, IsSameModule}
 use Rattle.strm_module.specs.Module.{serve_of, Taken, put_of, is_queued, IsQueued}
 use Rattle.strm_module.specs.declared.shape.Shape.{Shape}
+use Rattle.strm_module.specs.declared.outs.Put.{Put}
 use Rattle.strm_module.specs.declared.outs.Put.TheVariants.{Queue, Sent}
 
 is_ordinary : (high queues : Bool) → (not high && queues) ≡ true → high ≡ false
@@ -42,3 +43,16 @@ module _ {K : Type 0} (means : Meaning K) where
         | true ↦ λ e. record { same = refl; queues = queues_too (is_high m.kind) (queues_on s side) e; ordinary = is_ordinary (is_high m.kind) (queues_on s side) e; shape = refl }
         | false ↦ λ e. tt
       ] refl
+
+  -- so the module is the same whatever a procedure answers
+  pub put_keeps : {E : Type 0} (r : Result Put E) (old new : Shape K) (side : Side) (m : Msg) → OnOk r (new ≡ (put_of means old side m).shape) → OnErr r (new ≡ old) → IsSameModule old new
+  put_keeps (Ok put) old new side m after err = rw after (put_of_same old side m)
+  put_keeps (Err fault) old new side m after err = rw err (record { serial = refl; name = refl; rd = refl; wr = refl })
+
+  pub serve_keeps : {T E : Type 0} (r : Result T E) (old new : Shape K) (side : Side) (m : Msg) → OnOk r (new ≡ (serve_of means old side m).shape) → OnErr r (new ≡ old) → IsSameModule old new
+  serve_keeps (Ok outs) old new side m after err = rw after (serve_of_same old side m)
+  serve_keeps (Err fault) old new side m after err = rw err (record { serial = refl; name = refl; rd = refl; wr = refl })
+
+  pub put_queues : {E : Type 0} (r : Result Put E) (old new : Shape K) (side : Side) (m : Msg) → IfOk r (λ put. put ≡ (put_of means old side m).answer) → OnOk r (new ≡ (put_of means old side m).shape) → IfOk r (λ put. IsQueued put side m old new)
+  put_queues (Ok put) old new side m answer after = rw (answer, after) (put_of_queued old side m)
+  put_queues (Err fault) old new side m answer after = answer

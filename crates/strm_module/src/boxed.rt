@@ -59,8 +59,7 @@ impl<M: ModuleOf> Boxed<M> {
         ensures same { IsSameModule self.old self.new }
         ensures queued { IfOk result (λ put. IsQueued put side m self.old self.new) }
     {
-        let put = self.instance.put(alloc, side, m)?;
-        Ok(put)
+        self.instance.put(alloc, side, m)
     }
 
     /// A message that was queued on a side has its turn.
@@ -70,8 +69,7 @@ impl<M: ModuleOf> Boxed<M> {
         ensures err { OnErr result (self.new ≡ self.old) }
         ensures same { IsSameModule self.old self.new }
     {
-        let outs = self.instance.serve(alloc, side, m)?;
-        Ok(outs)
+        self.instance.serve(alloc, side, m)
     }
 }
 

@@ -69,8 +69,7 @@ impl<M: ModuleOf> Instance<M> {
         ensures same { IsSameModule self.old self.new }
         ensures queued { IfOk result (λ put. IsQueued put side m self.old self.new) }
     {
-        let put = self.object.put(alloc, &mut self.shape, side, m)?;
-        Ok(put)
+        self.object.put(alloc, &mut self.shape, side, m)
     }
 
     /// A message that was queued on a side has its turn: the object's service procedure has it
@@ -83,7 +82,6 @@ impl<M: ModuleOf> Instance<M> {
         ensures err { OnErr result (self.new ≡ self.old) }
         ensures same { IsSameModule self.old self.new }
     {
-        let outs = self.object.serve(alloc, &mut self.shape, side, m)?;
-        Ok(outs)
+        self.object.serve(alloc, &mut self.shape, side, m)
     }
 }

@@ -7,7 +7,7 @@ use strm_call::More;
 use strm_msg::{Bytes, Message, MsgKind, NoMem};
 
 /// What is given of a message, which parts stay, and the message that they make.
-#[derive(Debug, Drop)]
+#[derive(Drop)]
 pub(crate) struct Cut {
     pub(crate) ctl: Option<Bytes>,
     pub(crate) dat: Option<Bytes>,

@@ -2,3 +2,4 @@ pub mod PairLemmas
 pub mod EndLemmas
 pub mod WaitLemmas
 pub mod NextLemmas
+pub mod HeadLemmas

@@ -47,16 +47,24 @@ fn queue_of(alloc: Global, marks: Option<Marks>) -> Option<BandQueue>
     }
 }
 
+/// Flushes all bands of a queue, or the one that is named.
+pub(crate) fn flush_bands(queue: &mut BandQueue, band: Option<u8>)
+    ensures messages { queue.new.messages ≡ flushed band queue.old.messages }
+    ensures marks { queue.new.marks ≡ queue.old.marks }
+{
+    match band {
+        Some(b) => queue.flush_band(b),
+        None => queue.flush(),
+    }
+}
+
 /// Flushes a queue that may be missing.
 fn flush_queue(queue: &mut Option<BandQueue>, band: Option<u8>)
     ensures messages { messages_in queue.new ≡ flushed band (messages_in queue.old) }
     ensures marks { marks_in queue.new ≡ marks_in queue.old }
 {
     if let Some(queue) = queue {
-        match band {
-            Some(b) => queue.flush_band(b),
-            None => queue.flush(),
-        }
+        flush_bands(queue, band);
     }
 }
 

@@ -164,6 +164,23 @@ fn returned<K: Drop, N: Plays<K>>(
     Ok(all)
 }
 
+/// What callers and feeders leave, in order of the streams. Refused for want of memory alone.
+fn by_stream<K: Drop, N: Plays<K>>(
+    alloc: Global,
+    played: Vec<Played<K, N>>,
+    offered: Vec<Offered<K, N>>,
+    many: usize,
+) -> Result<(Vec<Vec<Account<K, N>>>, Vec<Option<Offered<K, N>>>), NoMem>
+    requires { length N.run.setups ≡ many }
+    ensures seats { IfOk result (λ all. AreSeatsPlayed N.run all.0.items) }
+    ensures offered { IfOk result (λ all. length all.1.items ≡ many) }
+{
+    let columns = returned(alloc, played)?;
+    let accounts = transposed(alloc, columns, many)?;
+    let offered = offered_on(alloc, offered, many)?;
+    Ok((accounts, offered))
+}
+
 /// Ends a run: the transcript, where each stream ended, and its history holds each receipt.
 pub(crate) fn finish<M: ModuleOf, N: Plays<M::Kind>>(
     alloc: Global,
@@ -179,9 +196,10 @@ where
     ensures logs { IfOk result (λ transcript. AreLogs M.Kind.means N.run transcript.streams.items) }
     ensures late { IfErr result (λ fault. IsLate fault) }
 {
-    let columns = returned(alloc, played)?;
-    let accounts = transposed(alloc, columns, many)?;
-    let offered = offered_on(alloc, offered, many)?;
+    let Ok((accounts, offered)) = by_stream(alloc, played, offered, many) else {
+        drop(streams);
+        return Err(RunFault::NoMem);
+    };
     let logs = end_all(alloc, streams, accounts, offered)?;
     Ok(Transcript { streams: logs })
 }

@@ -8,7 +8,7 @@ use strm_crew::{Of, Plays};
 use strm_history::Setup;
 use strm_module::ModuleOf;
 use strm_msg::NoMem;
-use strm_shared::{Feeder, Ring, Seat, Shared, SharedFault};
+use strm_shared::{Feeder, Ring, Seat, Shared};
 
 /// A ring for each stream, in order of the setups. Refused for want of memory alone.
 pub(crate) fn rings_of(alloc: Global, setups: &[Setup]) -> Result<Vec<Ring>, NoMem>
@@ -25,13 +25,13 @@ pub(crate) fn rings_of(alloc: Global, setups: &[Setup]) -> Result<Vec<Ring>, NoM
     Ok(rings)
 }
 
-/// One stream more that was made, with its seats, and its feeder if it has one. Refused for want of memory
-/// alone.
-fn keep<M: ModuleOf, N: Plays<M::Kind>>(
-    streams: &mut Vec<Shared<M, Of<N>>>,
-    seats: &mut Vec<Vec<Seat>>,
-    feeders: &mut Vec<Option<Feeder<M::Kind, Of<N>>>>,
-    made: Result<(Shared<M, Of<N>>, Vec<Seat>, Option<Feeder<M::Kind, Of<N>>>), SharedFault>,
+/// One stream more that was made, with its seats, and its feeder if it has one: whatever these are, each has a list. Refused for
+/// want of memory alone.
+fn keep<S: Drop, T: Drop, F: Drop, E: Drop>(
+    streams: &mut Vec<S>,
+    seats: &mut Vec<T>,
+    feeders: &mut Vec<F>,
+    made: Result<(S, T, F), E>,
 ) -> Result<(), NoMem>
     ensures streams { OnOk result (IfOk made (λ one. streams.new.items ≡ streams.old.items ++ one.0 ∷ [])) }
     ensures seats { OnOk result (IfOk made (λ one. seats.new.items ≡ seats.old.items ++ one.1 ∷ [])) }

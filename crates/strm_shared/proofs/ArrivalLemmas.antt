@@ -1,5 +1,5 @@
 -- What stands under the lock, with one message or one call more.
-use Rattle.std.proofs.Common.{◌≡◌, ℕ, ◌+◌, ◌++◌, Option, None, List, [], ◌∷◌, append-nil, refl, sym, ◌∙◌, ap, subst}
+use Rattle.std.proofs.Common.{◌≡◌, ℕ, ◌+◌, ◌++◌, Option, Some, None, List, [], ◌∷◌, append-nil, refl, sym, ◌∙◌, ap, subst}
 use Rattle.std.proofs.lemmas.List.Concat.{flat_map-append}
 use Rattle.strm_msg.specs.Message.{Msg}
 use Rattle.strm_msg.specs.declared.words.End.{End}
@@ -71,3 +71,16 @@ module _ {K : Type 0} (means : Meaning K) where
           of = ap (λ (i : InletValue). i.number) left ∙ was.of;
           fed = ap (λ (i : InletValue). i.is_fed) left ∙ was.fed ∙ sym (ap (λ s. is_line s.driver) enters.setup);
         }
+
+-- a message that has left the inlet and is held back leaves what stands under the lock as it was
+pub held_locked : {K : Type 0} (calls : ℕ → ℕ → Option (List (End × Event (Shape K)))) (number : ℕ) (old new : LogValue K) (m same : Msg) (turns : TurnsValue) (inlet taken after : InletValue) → same ≡ m → new ≡ old → taken ≡ record inlet { came = inlet.came ++ m ∷ []; held = None } → ((before : List Msg) → taken.came ≡ before ++ same ∷ [] → after ≡ record taken { came = before; held = Some same }) → IsLocked (calls number) number old turns inlet → IsLocked (calls number) number new turns after
+held_locked calls number old new m same turns inlet taken after is kept left held was =
+    let last : taken.came ≡ inlet.came ++ same ∷ [] = ap (λ (i : InletValue). i.came) left ∙ ap (λ (x : Msg). inlet.came ++ x ∷ []) (sym is) in
+    let back = held inlet.came last in
+    rw kept
+    (record {
+      in_turn = was.in_turn;
+      came_in = was.came_in ∙ sym (ap (λ (i : InletValue). i.came) back);
+      of = ap (λ (i : InletValue). i.number) back ∙ ap (λ (i : InletValue). i.number) left ∙ was.of;
+      fed = ap (λ (i : InletValue). i.is_fed) back ∙ ap (λ (i : InletValue). i.is_fed) left ∙ was.fed;
+    })

@@ -1,5 +1,6 @@
 -- Histories whose calls are in turn, with one entry more.
-use Rattle.std.proofs.Common.{◌≡◌, ℕ, zero, suc, ◌+◌, ◌<◌, ◌==◌, ◌++◌, Bool, true, false, cond, if◌then◌else◌, ◌&&◌, Option, Some, None, List, [], ◌∷◌, All, length, take, slice_get, get_or, set, replicate, Err, IsErrOf, refl, sym, ◌∙◌, ap, subst, arith}
+use Rattle.std.proofs.Common.{◌≡◌, ℕ, zero, suc, ◌+◌, ◌<◌, ◌==◌, ◌++◌, Bool, true, false, cond, if◌then◌else◌, ◌&&◌, Option, Some, None, List, [], ◌∷◌, All, length, take, slice_get, get_or, set, replicate, Result, Ok, Err, IsErrOf, refl, sym, ◌∙◌, ap, subst, arith}
+use Rattle.std.specs.Prelude.{IfErr, IfOk, OnOk}
 use Rattle.std.proofs.lemmas.List.{length-append, length-set, get_or-set_same, get_or-set_other, get_or-replicate, length-replicate, append-nil, map-append}
 use Rattle.std.proofs.lemmas.List.Elements.{All-push, filter-append}
 use Rattle.std.proofs.lemmas.Option.{same_Some}
@@ -12,6 +13,7 @@ use Rattle.strm_head.specs.declared.event.Event.{Event}
 use Rattle.strm_head.specs.declared.event.Event.TheVariants.{Asked}
 use Rattle.strm_history.specs.declared.entry.Who.TheVariants.{Caller, Line}
 use Rattle.strm_history.specs.declared.entry.Entry.{Entry}
+use Rattle.strm_shared.specs.declared.fault.EndFault.{EndFault}
 use Rattle.strm_shared.specs.declared.fault.EndFault.TheVariants as EndFaults
 use Rattle.strm_history.specs.declared.call.Call.{Call}
 use Rattle.strm_history.specs.declared.call.Called.{Called}
@@ -167,9 +169,24 @@ counts_agree calls counts history seats are all i d below =
     let has = and_parts _ _ (all i d below) in
     sym (are.counts_are s.caller (ltb-true s.caller (length counts) has.0)) ∙ eqb-true _ s.calls has.1
 
--- an end that is unfinished, or that is refused for a call without a receipt, is not refused for its seats
-pub no_receipt_apart : {T C : Type 0} → IsErrOf {T = T} (Err EndFaults.NoReceipt) EndFaults.Seats → C
-no_receipt_apart h = cc
+-- a fault told by one function is that of another
+pub same_fault : {S T E : Type 0} (fault other : E) → IsErrOf {T = S} (Err fault) other → IsErrOf {T = T} (Err fault) other
+same_fault fault other h = cc
 
-pub unfinished_apart : {T C : Type 0} → IsErrOf {T = T} (Err EndFaults.Unfinished) EndFaults.Seats → C
-unfinished_apart h = cc
+-- what holds of a result follows from what is known of it
+pub if_ok_more : {T E : Type 0} (P Q : T → Type 0) (result : Result T E) → ((t : T) → P t → Q t) → IfOk result P → IfOk result Q
+if_ok_more P Q (Ok t) step known = step t known
+if_ok_more P Q (Err fault) step known = tt
+
+pub on_ok : {T E P : Type 0} (result : Result T E) → P → OnOk result P
+on_ok (Ok t) holds = holds
+on_ok (Err fault) holds = tt
+
+-- a result that is refused for want of memory alone is refused for nothing else
+pub no_memory_seats : {T C : Type 0} (result : Result T EndFault) → IfErr result (λ fault. fault ≡ EndFaults.NoMem) → IsErrOf result EndFaults.Seats → C
+no_memory_seats (Ok t) known is = absurd cc
+no_memory_seats (Err fault) known is = absurd cc
+
+pub no_memory_receipt : {T C : Type 0} (result : Result T EndFault) → IfErr result (λ fault. fault ≡ EndFaults.NoMem) → IsErrOf result EndFaults.NoReceipt → C
+no_memory_receipt (Ok t) known is = absurd cc
+no_memory_receipt (Err fault) known is = absurd cc

@@ -1,11 +1,20 @@
 //! What must agree before a shared stream has ended.
-ghost use Rattle.std.specs.Prelude.{◌≡◌, ◌↔◌, ◌<◌, ℕ, true, Any};
+ghost use Rattle.std.specs.Prelude.{◌≡◌, ◌↔◌, ◌<◌, ◌++◌, ℕ, true, All, Any, IfErr, IfOk, OnOk, IsErrOf, length};
+ghost use Rattle.strm_history.specs.Setup.{opened};
+ghost use Rattle.strm_history.specs.History.{arrivals, Legal};
+ghost use Rattle.strm_shared.specs.Feed.{accepted_of};
 ghost use Rattle.strm_shared.specs.Ending.{is_fed, AreSeats, AreShown};
+ghost use Rattle.strm_shared.specs.Turns.{has_count, AreInTurn};
 
+use crate::ended::{Ended, places_of};
+use crate::fault::EndFault;
 use crate::feeder::FeedEnd;
+use crate::locked::Locked;
 use crate::runs::Runs;
 use crate::seat::Seat;
+use std::alloc::Global;
 use strm_history::Setup;
+use strm_module::ModuleOf;
 
 /// Whether a caller has a seat among these.
 fn is_seated(caller: u32, seats: &[Seat]) -> bool
@@ -27,7 +36,7 @@ fn are_seated(callers: u32, seats: &[Seat]) -> bool
 }
 
 /// Whether these are the seats of a stream, one for each caller.
-pub(crate) fn are_seats(number: u32, callers: u32, seats: &[Seat]) -> bool
+fn are_seats(number: u32, callers: u32, seats: &[Seat]) -> bool
     ensures { result ≡ true ↔ AreSeats number callers seats.now }
 {
     seats.len() == callers as usize
@@ -36,18 +45,82 @@ pub(crate) fn are_seats(number: u32, callers: u32, seats: &[Seat]) -> bool
 }
 
 /// Whether each call that was made from these seats has a receipt.
-pub(crate) fn are_shown(seats: &[Seat]) -> bool
+fn are_shown(seats: &[Seat]) -> bool
     ensures { result ≡ true ↔ AreShown seats.now }
 {
     seats.iter().all(|s| s.is_shown())
 }
 
 /// Whether a line's feeder has ended; the other drivers have none.
-pub(crate) fn is_fed<K, N: Runs<K>>(number: u32, setup: Setup, feed: &Option<FeedEnd<K, N>>) -> bool
+fn is_fed<K, N: Runs<K>>(number: u32, setup: Setup, feed: &Option<FeedEnd<K, N>>) -> bool
     ensures { result ≡ is_fed number setup feed.now }
 {
     match feed {
         Some(feed) => feed.number() == number,
         None => !setup.is_line(),
     }
+}
+
+/// Whether a shared stream has ended, by what stood under its lock, its seats and its feed; or what refuses that, but for want
+/// of memory.
+pub(crate) fn have_ended<M: ModuleOf, N: Runs<M::Kind>>(
+    number: u32,
+    setup: Setup,
+    callers: u32,
+    locked: &Locked<M, N>,
+    seats: &[Seat],
+    feed: &Option<FeedEnd<M::Kind, N>>,
+) -> Result<(), EndFault>
+    ensures of { OnOk result ((locked.now.number ≡ number) × (locked.now.log.setup ≡ setup)) }
+    ensures agree { OnOk result ((locked.now.turns.in_turn ≡ true) × (length locked.now.turns.counts ≡ callers) × All (λ seat. has_count seat locked.now.turns.counts ≡ true) seats.now) }
+    ensures fed { OnOk result (is_fed number setup feed.now ≡ true) }
+    ensures seated { OnOk result (AreSeats number callers seats.now) }
+    ensures shown { OnOk result (AreShown seats.now) }
+    ensures seats { IsErrOf result EndFault.Seats ↔ (AreSeats number callers seats.now → ⊥) }
+    ensures no_receipt { IsErrOf result EndFault.NoReceipt → (AreSeats number callers seats.now) × (is_fed number setup feed.now ≡ true) × (AreShown seats.now → ⊥) }
+    ensures memory { IsErrOf result EndFault.NoMem → ⊥ }
+{
+    if !are_seats(number, callers, seats) {
+        return Err(EndFault::Seats);
+    }
+    if !locked.is_of(number, setup) || !is_fed(number, setup, feed) {
+        return Err(EndFault::Unfinished);
+    }
+    if !locked.do_agree(callers, seats) {
+        return Err(EndFault::Unfinished);
+    }
+    if !are_shown(seats) {
+        return Err(EndFault::NoReceipt);
+    }
+    Ok(())
+}
+
+/// What is left of a shared stream that has ended. Refused for want of memory alone.
+pub(crate) fn left_of<M: ModuleOf, N: Runs<M::Kind>>(
+    alloc: Global,
+    callers: u32,
+    locked: Locked<M, N>,
+    feed: Option<FeedEnd<M::Kind, N>>,
+) -> Result<Ended<M>, EndFault>
+    requires in_turn { locked.turns.in_turn ≡ true }
+    requires counts { length locked.turns.counts ≡ callers }
+    requires fed { is_fed locked.number locked.log.setup feed ≡ true }
+    ensures legal { IfOk result (λ ended. Legal M.Kind.means (opened locked.log.setup) ended.history ended.stream) }
+    ensures in_turn { IfOk result (λ ended. AreInTurn (N.calls locked.number) locked.turns.counts ended.history) }
+    ensures arrived { IfOk result (λ ended. arrivals ended.history ++ ended.left ≡ accepted_of feed) }
+    ensures memory { IfErr result (λ fault. fault ≡ EndFault.NoMem) }
+{
+    let (log, turns, inlet) = locked.into_parts();
+    drop(turns);
+    let Ok(left) = inlet.drain(alloc, feed) else {
+        drop(log);
+        return Err(EndFault::NoMem);
+    };
+    let (history, stream) = log.into_parts();
+    let Ok(places) = places_of(alloc, callers, history.as_slice()) else {
+        drop(history);
+        drop(stream);
+        return Err(EndFault::NoMem);
+    };
+    Ok(Ended::new(history, stream, left, places))
 }

@@ -1,5 +1,5 @@
 //! What stands under the lock of a shared stream.
-ghost use Rattle.std.specs.Prelude.{◌≡◌, ◌↔◌, ◌+◌, ◌<◌, ◌^◌, true, false, [], IfOk, replicate};
+ghost use Rattle.std.specs.Prelude.{◌≡◌, ◌↔◌, ◌+◌, ◌<◌, ◌^◌, true, false, [], All, IfOk, length, replicate};
 ghost use Rattle.strm_head.specs.Step.{is_line};
 ghost use Rattle.strm_head.specs.declared.event.Event.TheVariants.{Asked};
 ghost use Rattle.strm_history.specs.History.{arrivals};
@@ -8,7 +8,7 @@ ghost use Rattle.strm_history.specs.Log.{CallsBy};
 ghost use Rattle.strm_shared.specs.Runs.{IsNextOf};
 ghost use Rattle.strm_shared.specs.Inlet.{fresh_inlet};
 ghost use Rattle.strm_shared.specs.Ending.{room_of, Counted};
-ghost use Rattle.strm_shared.specs.Turns.{turned, AreInTurn};
+ghost use Rattle.strm_shared.specs.Turns.{has_count, turned, AreInTurn};
 ghost use Rattle.strm_shared.specs.Arrivals.{Intakes, CallsAfter, ComesIn};
 
 use crate::inlet::Inlet;
@@ -45,7 +45,7 @@ impl<M: ModuleOf, N: Runs<M::Kind>> Model for Locked<M, N> {
 }
 
 /// What became of the next message of a line.
-#[derive(Clone, Copy, Debug, PartialEq, Eq)]
+#[derive(Clone, Copy)]
 pub(crate) enum Intake {
     /// It came in.
     Entered,
@@ -88,6 +88,13 @@ impl<M: ModuleOf, N: Runs<M::Kind>> Locked<M, N> {
         ensures { result ≡ true ↔ (self.now.number ≡ number) × (self.now.log.setup ≡ setup) }
     {
         self.number == number && self.log.setup() == setup
+    }
+
+    /// Whether the calls are in turn, those of as many callers, and each seat counts as many as its caller has made.
+    pub(crate) fn do_agree(&self, callers: u32, seats: &[Seat]) -> bool
+        ensures { result ≡ true ↔ (self.now.turns.in_turn ≡ true) × (length self.now.turns.counts ≡ callers) × All (λ seat. has_count seat self.now.turns.counts ≡ true) seats.now }
+    {
+        self.turns.do_agree(callers, seats)
     }
 
     /// The next message of the line comes in, if there is one and it can; else it is held back, and nothing is changed.

@@ -9,8 +9,8 @@ ghost use Rattle.strm_shared.specs.Runs.{IsNextOf};
 ghost use Rattle.strm_shared.specs.Ending.{fresh_seats, has_seat, is_fed, AreSeats, AreShown, CountsAgree, Counted, HandsBack, Shows};
 ghost use Rattle.strm_shared.specs.Turns.{AreFirstOf};
 
-use crate::ended::{Ended, places_of};
-use crate::ending::{are_seats, are_shown, is_fed};
+use crate::ended::Ended;
+use crate::ending::{have_ended, left_of};
 use crate::fault::{EndFault, SharedFault};
 use crate::feeder::{FeedEnd, Feeder};
 use crate::locked::Locked;
@@ -76,10 +76,14 @@ impl<M: ModuleOf, N: Runs<M::Kind>> Shared<M, N> {
     {
         let setup = ring.setup();
         let (inlet, feeder) = ring.into_ends(number);
-        let (Ok(all), Ok(locked)) = (
-            seats_of(alloc, number, seats),
-            Locked::new(alloc, number, setup, seats, inlet),
-        ) else {
+        let Ok(all) = seats_of(alloc, number, seats) else {
+            drop(inlet);
+            drop(feeder);
+            return Err(SharedFault::NoMem);
+        };
+        let Ok(locked) = Locked::new(alloc, number, setup, seats, inlet) else {
+            drop(all);
+            drop(feeder);
             return Err(SharedFault::NoMem);
         };
         let shared = Shared {
@@ -168,47 +172,15 @@ impl<M: ModuleOf, N: Runs<M::Kind>> Shared<M, N> {
             alloc,
             locked,
         } = self;
-        if !are_seats(number, callers, seats.as_slice()) {
-            drop(locked);
-            drop(feed);
-            return Err(EndFault::Seats);
-        }
         let locked = locked.into_inner();
-        if !locked.is_of(number, setup) {
-            drop(locked);
-            drop(feed);
-            return Err(EndFault::Unfinished);
+        match have_ended(number, setup, callers, &locked, seats.as_slice(), &feed) {
+            Ok(()) => {}
+            Err(fault) => {
+                drop(locked);
+                drop(feed);
+                return Err(fault);
+            }
         }
-        let (log, turns, inlet) = locked.into_parts();
-        if !is_fed(number, setup, &feed) {
-            drop(log);
-            drop(inlet);
-            drop(feed);
-            return Err(EndFault::Unfinished);
-        }
-        if !turns.do_agree(callers, seats.as_slice()) {
-            drop(log);
-            drop(inlet);
-            drop(feed);
-            return Err(EndFault::Unfinished);
-        }
-        if !are_shown(seats.as_slice()) {
-            drop(log);
-            drop(inlet);
-            drop(feed);
-            return Err(EndFault::NoReceipt);
-        }
-        let (history, stream) = log.into_parts();
-        let Ok(left) = inlet.drain(alloc, feed) else {
-            drop(history);
-            drop(stream);
-            return Err(EndFault::NoMem);
-        };
-        let Ok(places) = places_of(alloc, callers, history.as_slice()) else {
-            drop(history);
-            drop(stream);
-            return Err(EndFault::NoMem);
-        };
-        Ok(Ended::new(history, stream, left, places))
+        left_of(alloc, callers, locked, feed)
     }
 }

@@ -5,7 +5,7 @@ use Rattle.clap.specs.declared.builder.action.ArgAction.TheVariants.{SetTrue}
 use Rattle.clap.specs.declared.builder.arg.Arg.{Arg}
 use Rattle.clap.specs.declared.builder.command.Command.{Command}
 use Rattle.clap.specs.declared.builder.command.Command.TheViews.{out-Command as fields_of}
-use Rattle.clap.specs.Words.{App, IsPlain, Rule, Text, args_of, first_of, matches_of, new_app, new_rule, one_of, with_rule}
+use Rattle.clap.specs.Words.{App, IsPlain, IsPlainArg, Rule, Text, app_of, args_of, first_of, groups_of, matches_of, new_app, new_rule, one_of, rule_of, with_rule}
 use Rattle.clap.specs.declared.builder.value_parser.ValueParser.TheVariants as parsers
 use Rattle.strm_run.specs.declared.judge.TheConstants.{MOST_WORKERS}
 use Rattle.strsh.specs.declared.options.TheConstants.{DEFAULT_WORKERS}
@@ -53,6 +53,19 @@ AsksFor (Some text) workers =
 abbrev pub AsksForChart : Option Text → Bool → Type 0
 AsksForChart None chart = chart ≡ false
 AsksForChart (Some word) chart = (word ≡ codes "true" → chart ≡ true) × (word ≡ codes "false" → chart ≡ false)
+
+-- an argument that is read by this rule, belongs to its own command, and excludes nothing
+pub record IsArg (rule : Rule) (arg : Arg) : Type 0 where
+  pub rule_is : rule_of arg ≡ rule
+  pub local : arg.global ≡ false
+  pub plain : IsPlainArg arg
+
+-- a command of the program's name that has no arguments yet
+pub record IsBare (command : Command) : Type 0 where
+  pub app_is : app_of command ≡ new_app (codes "strsh")
+  pub no_args : args_of command ≡ []
+  pub no_groups : groups_of command ≡ []
+  pub local : (fields_of command).has_globals ≡ false
 
 -- a command has the three arguments, of which the first takes these numbers, and nothing excludes anything
 pub record HasThree (command : Command) : Type 0 where

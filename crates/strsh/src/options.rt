@@ -3,7 +3,7 @@ ghost use Rattle.std.specs.Prelude.{◌≡◌, ◌≤◌, map, string_bytes, IfO
 ghost use Rattle.clap.specs.Words.{FailsBy, app_of, fault_of, kind_of};
 ghost use Rattle.clap.specs.declared.error.kind.ErrorKind.TheVariants.{OutOfMemory};
 ghost use Rattle.strm_run.specs.declared.judge.TheConstants.{MOST_WORKERS};
-ghost use Rattle.strsh.specs.CommandLine.{AsksFor, AsksForChart, HasThree, chart_word, command_line, file_text, workers_text};
+ghost use Rattle.strsh.specs.CommandLine.{AsksFor, AsksForChart, HasThree, IsArg, IsBare, chart_rule, chart_word, command_line, file_rule, file_text, workers_rule, workers_text};
 
 use clap::{Arg, ArgAction, Command, Error, value_parser};
 use std::alloc::Global;
@@ -36,31 +36,59 @@ pub struct Options<'a> {
     pub path: &'a str,
 }
 
+/// `--workers N`.
+fn workers<'a>(alloc: Global) -> Arg<'a>
+    ensures { IsArg workers_rule result }
+{
+    Arg::new(alloc, "workers")
+        .long("workers")
+        .value_name("N")
+        .value_parser(value_parser!(u32).range(1..=i64::from(MOST_WORKERS)))
+        .default_value("4")
+        .help("How many worker threads make the calls, 1 to 64")
+}
+
+/// `--chart`.
+fn chart<'a>(alloc: Global) -> Arg<'a>
+    ensures { IsArg chart_rule result }
+{
+    Arg::new(alloc, "chart")
+        .long("chart")
+        .action(ArgAction::SetTrue)
+        .help("Draws a sequence chart of each stream, in place of a transcript")
+}
+
+/// `FILE`.
+fn file<'a>(alloc: Global) -> Arg<'a>
+    ensures { IsArg file_rule result }
+{
+    Arg::new(alloc, "FILE").required(true).help("The script")
+}
+
+/// A command without arguments. Refused for want of memory alone.
+fn bare_command<'a>(alloc: Global) -> Result<Command<'a>, Error>
+    ensures bare { IfOk result IsBare }
+    ensures memory { IfErr result (λ error. kind_of error ≡ OutOfMemory) }
+{
+    Ok(
+        Command::new(alloc, "strsh")
+            .bin_name("strsh")?
+            .about(ABOUT)
+            .after_help(EXAMPLE),
+    )
+}
+
 /// The command line that is understood: `strsh [--workers N] [--chart] FILE`. Refused for want of memory alone.
 fn command<'a>(alloc: Global) -> Result<Command<'a>, Error>
     ensures line { IfOk result (λ command. app_of command ≡ command_line) }
     ensures three { IfOk result HasThree }
     ensures memory { IfErr result (λ error. kind_of error ≡ OutOfMemory) }
 {
-    let workers = Arg::new(alloc, "workers")
-        .long("workers")
-        .value_name("N")
-        .value_parser(value_parser!(u32).range(1..=i64::from(MOST_WORKERS)))
-        .default_value("4")
-        .help("How many worker threads make the calls, 1 to 64");
-    let chart = Arg::new(alloc, "chart")
-        .long("chart")
-        .action(ArgAction::SetTrue)
-        .help("Draws a sequence chart of each stream, in place of a transcript");
-    let file = Arg::new(alloc, "FILE").required(true).help("The script");
     Ok(
-        Command::new(alloc, "strsh")
-            .bin_name("strsh")?
-            .about(ABOUT)
-            .after_help(EXAMPLE)
-            .arg(workers)?
-            .arg(chart)?
-            .arg(file)?,
+        bare_command(alloc)?
+            .arg(workers(alloc))?
+            .arg(chart(alloc))?
+            .arg(file(alloc))?,
     )
 }
 

@@ -29,7 +29,6 @@ impl<M: ModuleOf> Chain<M> {
     }
 
     /// A message at a spot.
-    #[tactic(auto, unfolding(crate::specs::Hop::carry))]
     fn handed_in(&self, spot: Spot, m: Message) -> Hop
         ensures { carry M.Kind.means self.now.image result ≡ deliver M.Kind.means self.now.image spot m }
     {

@@ -1,15 +1,16 @@
 //! The stream head of an end.
-ghost use Rattle.std.specs.Prelude.{◌≡◌, ◌∷◌, [], ◌<◌, ◌≤◌, OnOk, OnErr, IfOk, IfErr, IsOk, IsSome, IsNone, MatchOption, drop};
+ghost use Rattle.std.specs.Prelude.{◌≡◌, ◌∷◌, [], ◌<◌, ◌≤◌, OnOk, OnErr, IfOk, IfErr, IsOk, IsSome, IsNone, MatchOption, None, drop};
 ghost use Rattle.strm_msg.specs.Message.{rank_of};
 ghost use Rattle.strm_queue.specs.Queue.{put_in, put_back_in};
 ghost use Rattle.strm_queue.specs.Room.{room_for};
 ghost use Rattle.strm_qpair.specs.End.{KeepsRoom, SpendsOne, in_head, in_state};
 ghost use Rattle.strm_qpair.specs.Modules.{SameEnd};
-ghost use Rattle.strm_qpair.specs.Head.{marks_set, with_options, error_flush, head_does};
+ghost use Rattle.strm_qpair.specs.Head.{marks_set, with_options, flush_down, error_flush, head_does};
 ghost use Rattle.strm_qpair.specs.Change.{with_mode, begun, undone, ended};
 ghost use Rattle.strm_qpair.specs.Pair.{flushed_if};
 
 use super::StreamEnd;
+use crate::pair::flush_bands;
 use crate::record::Record;
 use std::alloc::Global;
 use strm_module::ModuleOf;
@@ -22,10 +23,7 @@ pub(super) fn flush_list(queue: &mut BandQueue, is_named: bool, band: Option<u8>
     ensures marks { queue.new.marks ≡ queue.old.marks }
 {
     if is_named {
-        match band {
-            Some(b) => queue.flush_band(b),
-            None => queue.flush(),
-        }
+        flush_bands(queue, band);
     }
 }
 
@@ -37,8 +35,22 @@ pub(super) fn put_in_list(queue: &mut BandQueue, m: Message) -> Result<(), NoMem
 {
     match queue.put(m) {
         Ok(()) => Ok(()),
-        Err(_) => Err(NoMem),
+        Err(m) => {
+            drop(m);
+            Err(NoMem)
+        }
     }
+}
+
+/// Puts a message into the head's list, and sends nothing down. Refused for want of memory alone: then nothing is changed.
+fn queue_up(queue: &mut BandQueue, m: Message) -> Result<Option<Message>, NoMem>
+    ensures ok { OnOk result (queue.new.messages ≡ put_in queue.old.messages m) }
+    ensures sends { IfOk result (λ sends. sends ≡ None) }
+    ensures err { OnErr result (queue.new.messages ≡ queue.old.messages) }
+    ensures marks { queue.new.marks ≡ queue.old.marks }
+{
+    put_in_list(queue, m)?;
+    Ok(None)
 }
 
 /// Sets the marks of a list, where they are given and the low one is below the high one.
@@ -49,6 +61,17 @@ fn set_fit_marks(queue: &mut BandQueue, marks: Option<(u32, u32)>)
         if let Some(marks) = Marks::new(hi, lo) {
             queue.set_marks(marks);
         }
+    }
+}
+
+/// What is left of a flush that came up, for the write queues below.
+fn flush_down(w: bool, band: Option<u8>) -> Option<Message>
+    ensures { result ≡ flush_down w band }
+{
+    if w {
+        Some(Message::of_flush(false, true, band))
+    } else {
+        None
     }
 }
 
@@ -72,17 +95,16 @@ impl<M: ModuleOf> StreamEnd<M> {
         ensures same { SameEnd self.old.state self.new.state }
     {
         if !self.is_open {
+            drop(m);
             return Ok(None);
         }
         match m.kind {
-            MsgKind::MData | MsgKind::MProto => {
-                put_in_list(&mut self.head, m)?;
-                Ok(None)
-            }
+            MsgKind::MData | MsgKind::MProto => queue_up(&mut self.head, m),
             MsgKind::MPcproto => {
                 if !self.head.has_pcproto() {
-                    put_in_list(&mut self.head, m)?;
+                    return queue_up(&mut self.head, m);
                 }
+                drop(m);
                 Ok(None)
             }
             MsgKind::MIocack { id, .. } | MsgKind::MIocnak { id, .. } => {
@@ -90,23 +112,26 @@ impl<M: ModuleOf> StreamEnd<M> {
                 Ok(None)
             }
             MsgKind::MFlush { r, w, band } => {
+                drop(m);
                 flush_list(&mut self.head, r, band);
-                Ok(if w {
-                    Some(Message::of_flush(false, true, band))
-                } else {
-                    None
-                })
+                Ok(flush_down(w, band))
             }
             MsgKind::MHangup => {
+                drop(m);
                 self.state.hung = true;
                 Ok(None)
             }
             MsgKind::MError { rd, wr } => {
+                drop(m);
                 self.state.set_errors(rd, wr);
                 Ok(error_flush(rd, wr))
             }
-            MsgKind::MIoctl { .. } => Ok(None),
+            MsgKind::MIoctl { .. } => {
+                drop(m);
+                Ok(None)
+            }
             MsgKind::MSetopts { mode, prot, marks } => {
+                drop(m);
                 self.set_options(mode, prot, marks);
                 Ok(None)
             }

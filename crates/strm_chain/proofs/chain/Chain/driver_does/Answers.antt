@@ -39,3 +39,18 @@ returns-clause-grows g c =
     let put = c.wake.ensures.put (omega (arith, was, grow)) in
     let less : length c.wake.new.self.run.items + length (held_by old queue) ≤ length c.self.inside.enabling.run.items + length (held_by new queue) = omega (arith, put, was) in
     count_put old new queue (length c.self.inside.enabling.run.items) (length c.wake.new.self.run.items) (options_of b c.args.m) (options_driven b sends) (driver_differs old c.args.end new c.args.m c.driver_does-answer.ensures.same e) less (driver_sets_less old new c.args.end c.args.m sends calm e sent)))
+
+pub returns-clause-state : goal.returns-clause-state
+returns-clause-state g c = rw (← c.self.view_is) c.driver_does-answer.ensures.state
+
+pub returns-clause-sends : goal.returns-clause-sends
+returns-clause-sends g c = rw (← c.self.view_is) c.driver_does-answer.ensures.sends
+
+pub returns-clause-err : goal.returns-clause-err
+returns-clause-err g c = rw (← c.self.view_is) c.driver_does-answer.ensures.err
+
+pub returns-clause-same : goal.returns-clause-same
+returns-clause-same g c = rw (← c.self.view_is) c.driver_does-answer.ensures.same
+
+pub returns-clause-given : goal.returns-clause-given
+returns-clause-given g c = rw (← c.self.view_is) c.wake.ensures.given

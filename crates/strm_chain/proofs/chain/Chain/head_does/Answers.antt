@@ -61,3 +61,33 @@ returns-clause-grows g c =
     let put = c.wake.ensures.put (omega (arith, was, grow)) in
     let less : length c.wake.new.self.run.items + length (held_by old queue) ≤ length c.self.inside.enabling.run.items + length (held_by new queue) = omega (arith, put, was) in
     rw (← c.self.view_is) (count_put old new queue (length c.self.inside.enabling.run.items) (length c.wake.new.self.run.items) (options_of b c.args.m) 0 (head_differs old c.args.end new c.args.m none c.head_does-answer.ensures.same e) less (head_sets_less b old new c.args.end c.args.m calm e)))
+
+pub returns-clause-state : goal.returns-clause-state
+returns-clause-state g c = rw (← c.self.view_is) c.head_does-answer.ensures.state
+
+pub returns-clause-sends : goal.returns-clause-sends
+returns-clause-sends g c = rw (← c.self.view_is) c.head_does-answer.ensures.sends
+
+pub returns-clause-err : goal.returns-clause-err
+returns-clause-err g c = rw (← c.self.view_is) c.head_does-answer.ensures.err
+
+pub returns-clause-same : goal.returns-clause-same
+returns-clause-same g c = rw (← c.self.view_is) c.head_does-answer.ensures.same
+
+pub returns-then-sets-clause-state : goal.returns-then-sets-clause-state
+returns-then-sets-clause-state g c = rw (← c.self.view_is) c.head_does-answer.ensures.state
+
+pub returns-then-sets-clause-sends : goal.returns-then-sets-clause-sends
+returns-then-sets-clause-sends g c = rw (← c.self.view_is) c.head_does-answer.ensures.sends
+
+pub returns-then-sets-clause-err : goal.returns-then-sets-clause-err
+returns-then-sets-clause-err g c = rw (← c.self.view_is) c.head_does-answer.ensures.err
+
+pub returns-then-sets-clause-same : goal.returns-then-sets-clause-same
+returns-then-sets-clause-same g c = rw (← c.self.view_is) c.head_does-answer.ensures.same
+
+pub returns-clause-given : goal.returns-clause-given
+returns-clause-given g c = rw (← c.self.view_is) c.wake.ensures.given
+
+pub returns-then-sets-clause-given : goal.returns-then-sets-clause-given
+returns-then-sets-clause-given g c = rw (← c.self.view_is) c.wake_behind.ensures.given

@@ -11,3 +11,21 @@ pub returns-in-Wr-clause-image : goal.returns-in-Wr-clause-image
 returns-in-Wr-clause-image g c =
     let none : c.args.hop.ahead ≡ 0 = omega arith in
     rw (← carries_to_driver g.M.Kind.Kinds.means c.args.self.now.image c.args.hop c.in-Wr.is none, ← c.reserve.ensures.items) c.to_driver.ensures.image
+
+pub returns-in-Rd-clause-err : goal.returns-in-Rd-clause-err
+returns-in-Rd-clause-err g c = c.to_head.ensures.err
+
+pub returns-in-Rd-clause-same : goal.returns-in-Rd-clause-same
+returns-in-Rd-clause-same g c = c.to_head.ensures.same
+
+pub returns-in-Rd-clause-given : goal.returns-in-Rd-clause-given
+returns-in-Rd-clause-given g c = c.to_head.ensures.given
+
+pub returns-in-Wr-clause-err : goal.returns-in-Wr-clause-err
+returns-in-Wr-clause-err g c = c.to_driver.ensures.err
+
+pub returns-in-Wr-clause-same : goal.returns-in-Wr-clause-same
+returns-in-Wr-clause-same g c = c.to_driver.ensures.same
+
+pub returns-in-Wr-clause-given : goal.returns-in-Wr-clause-given
+returns-in-Wr-clause-given g c = c.to_driver.ensures.given

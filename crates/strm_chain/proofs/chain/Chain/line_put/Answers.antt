@@ -19,3 +19,27 @@ invariant_of-self g c =
       c.wake.ensures.ready old c.len-before.ensures c.self.invariant.0 differs,
       c.wake.ensures.places (places_same old new c.self.inside.enabling.run.items (ways_of_same old new differs.same) c.self.invariant.1),
     )
+
+pub returns-clause-ok : goal.returns-clause-ok
+returns-clause-ok g c = rw (← c.self.view_is) c.line_put-answer.ensures.ok
+
+pub returns-clause-err : goal.returns-clause-err
+returns-clause-err g c = rw (← c.self.view_is) c.line_put-answer.ensures.err
+
+pub returns-clause-back : goal.returns-clause-back
+returns-clause-back g c = c.line_put-answer.ensures.back
+
+pub returns-clause-enough : goal.returns-clause-enough
+returns-clause-enough g c = rw (← c.self.view_is) c.line_put-answer.ensures.enough
+
+pub returns-clause-spent : goal.returns-clause-spent
+returns-clause-spent g c = rw (← c.self.view_is) c.line_put-answer.ensures.spent
+
+pub returns-clause-unspent : goal.returns-clause-unspent
+returns-clause-unspent g c = rw (← c.self.view_is) c.line_put-answer.ensures.unspent
+
+pub returns-clause-room_a : goal.returns-clause-room_a
+returns-clause-room_a g c = rw (← c.self.view_is) c.line_put-answer.ensures.room_a
+
+pub returns-clause-room_b : goal.returns-clause-room_b
+returns-clause-room_b g c = rw (← c.self.view_is) c.line_put-answer.ensures.room_b

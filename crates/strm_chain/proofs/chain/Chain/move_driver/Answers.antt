@@ -14,6 +14,7 @@ use Rattle.strm_ends.specs.Count.{answers_options}
 use Rattle.strm_chain.specs.Count.{options_carried, are_calm_hops}
 use Rattle.strm_chain.proofs.CaseLemmas.{on_ok}
 use Rattle.strm_chain.proofs.CountLemmas.{one_calm, hop_adds}
+use Rattle.strm_chain.proofs.QuietLemmas.{same_trans}
 use Rattle.strm_chain.proofs.chain.Chain.move_driver.Goals as goal
 
 pub returns-in-Some-clause-ok : goal.returns-in-Some-clause-ok
@@ -49,3 +50,19 @@ returns-in-Some-clause-moves g c =
     let none = ap (options_carried mid) c.requires.empty in
     on_ok c.carry_all.result _ _ c.carry_all.ensures.grows
     (λ grow kinds enabled. let taken = c.in-Some.ensures.moves enabled in let more = grow kinds hops in omega (arith, taken, more, set, one, none))
+
+pub returns-in-Some-clause-same : goal.returns-in-Some-clause-same
+returns-in-Some-clause-same g c =
+    same_trans c.args.self.now.image c.take_driver.new.self.image c.carry_all.new.self.image c.take_driver.ensures.same c.carry_all.ensures.same
+
+pub returns-in-Some-clause-given : goal.returns-in-Some-clause-given
+returns-in-Some-clause-given g c = c.carry_all.ensures.given ∙ c.take_driver.ensures.given
+
+pub returns-in-None-clause-same : goal.returns-in-None-clause-same
+returns-in-None-clause-same g c = c.take_driver.ensures.same
+
+pub returns-in-None-clause-given : goal.returns-in-None-clause-given
+returns-in-None-clause-given g c = c.take_driver.ensures.given
+
+pub returns-in-None-clause-moves : goal.returns-in-None-clause-moves
+returns-in-None-clause-moves g c = λ kinds enabled. c.in-None.ensures.rests enabled

@@ -13,6 +13,7 @@ use Rattle.strm_ends.specs.Count.{answers_options}
 use Rattle.strm_chain.specs.Count.{options_carried, are_calm_hops}
 use Rattle.strm_chain.proofs.CaseLemmas.{on_ok}
 use Rattle.strm_chain.proofs.CountLemmas.{outs_calm, outs_set}
+use Rattle.strm_chain.proofs.QuietLemmas.{same_trans}
 use Rattle.strm_chain.proofs.chain.Chain.move_module.Goals as goal
 
 pub returns-clause-ok : goal.returns-clause-ok
@@ -48,3 +49,16 @@ returns-clause-moves g c =
     let same : options_sent (answers_options mid.driver) sent ≡ options_sent (answers_options old.driver) sent = rw (c.serve_at.ensures.same.driver) refl in
     let none = ap (options_carried mid) c.requires.empty in
     omega (arith, served, more, set, same, none))
+
+pub returns-clause-same : goal.returns-clause-same
+returns-clause-same g c =
+    same_trans c.args.self.now.image c.serve_at.new.self.image c.carry_all.new.self.image c.serve_at.ensures.same c.carry_all.ensures.same
+
+pub returns-clause-given : goal.returns-clause-given
+returns-clause-given g c = c.carry_all.ensures.given ∙ c.serve_at.ensures.given
+
+pub returns-in_err-outs-clause-same : goal.returns-in_err-outs-clause-same
+returns-in_err-outs-clause-same g c = c.serve_at.ensures.same
+
+pub returns-in_err-outs-clause-given : goal.returns-in_err-outs-clause-given
+returns-in_err-outs-clause-given g c = c.serve_at.ensures.given

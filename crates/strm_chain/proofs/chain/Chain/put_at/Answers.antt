@@ -3,16 +3,19 @@ use Rattle.strm_ends.specs.Held.{DiffersIn}
 use Rattle.strm_ends.proofs.NextLemmas.{ways_of_same}
 use Rattle.strm_chain.proofs.CaseLemmas.{on_result}
 use Rattle.strm_chain.proofs.EnablingLemmas.{places_same}
-use Rattle.std.proofs.Common.{◌≡◌, ◌∙◌, false, sym}
+use Rattle.std.proofs.Common.{◌≡◌, ◌∙◌, false}
 use Rattle.strm_ends.specs.Held.{is_flush}
 use Rattle.strm_ends.proofs.FrameLemmas.{gets_differs, same_differs}
 use Rattle.strm_ends.specs.Held.{module_place}
-use Rattle.std.proofs.Common.{◌+◌, ◌≤◌, length, ap, arith}
+use Rattle.std.proofs.Common.{◌+◌, ◌≤◌, length, arith}
 use Rattle.strm_module.specs.Calm.{options_of, options_sent}
 use Rattle.strm_ends.specs.Count.{answers_options}
 use Rattle.strm_ends.specs.Held.{held_by}
 use Rattle.strm_chain.proofs.CaseLemmas.{if_ok}
 use Rattle.strm_chain.proofs.CountLemmas.{gets_grows, gets_sets_less, count_put}
+use Rattle.std.proofs.Common.{refl, sym, ap}
+use Rattle.strm_chain.specs.Deliver.{Passing}
+use Rattle.strm_chain.proofs.HopLemmas.{gets_nowhere}
 use Rattle.strm_chain.proofs.chain.Chain.put_at.Goals as goal
 
 pub invariant_of-self-2 : goal.invariant_of-self-2
@@ -46,3 +49,47 @@ returns-clause-grows g c =
     let put = c.wake.ensures.put (omega (arith, was, now, grow)) in
     let less : length c.wake.new.self.run.items + length (held_by old queue) ≤ length c.self.inside.enabling.run.items + length (held_by new queue) = omega (arith, put, was, now) in
     count_put old new queue (length c.self.inside.enabling.run.items) (length c.wake.new.self.run.items) (options_of b c.args.m) (options_sent b outs.items) (gets_differs g.M.Kind.Kinds.means old c.args.end new c.args.i c.args.side c.args.m c.put_at-answer.ensures.same calm_kind e) less (gets_sets_less g.M.Kind.Kinds.means b old new c.args.end c.args.i c.args.side c.args.m outs.items kinds calm e sent)))
+
+pub returns-clause-image : goal.returns-clause-image
+returns-clause-image g c = rw (← c.self.view_is) c.put_at-answer.ensures.state
+
+pub returns-clause-outs : goal.returns-clause-outs
+returns-clause-outs g c = rw (← c.self.view_is) c.put_at-answer.ensures.outs
+
+pub returns-clause-err : goal.returns-clause-err
+returns-clause-err g c = rw (← c.self.view_is) c.put_at-answer.ensures.err
+
+pub returns-clause-same : goal.returns-clause-same
+returns-clause-same g c = rw (← c.self.view_is) c.put_at-answer.ensures.same
+
+pub returns-clause-given : goal.returns-clause-given
+returns-clause-given g c = rw (← c.self.view_is) c.wake.ensures.given
+
+pub returns-then-flushes-clause-image : goal.returns-then-flushes-clause-image
+returns-then-flushes-clause-image g c = rw (← c.self.view_is) c.put_at-answer.ensures.state
+
+pub returns-then-flushes-clause-outs : goal.returns-then-flushes-clause-outs
+returns-then-flushes-clause-outs g c = rw (← c.self.view_is) c.put_at-answer.ensures.outs
+
+pub returns-then-flushes-clause-err : goal.returns-then-flushes-clause-err
+returns-then-flushes-clause-err g c = rw (← c.self.view_is) c.put_at-answer.ensures.err
+
+pub returns-then-flushes-clause-same : goal.returns-then-flushes-clause-same
+returns-then-flushes-clause-same g c = rw (← c.self.view_is) c.put_at-answer.ensures.same
+
+pub returns-then-flushes-clause-given : goal.returns-then-flushes-clause-given
+returns-then-flushes-clause-given g c = rw (← c.self.view_is) c.wake_all.ensures.given
+
+pub returns-in_default-clause-image : goal.returns-in_default-clause-image
+returns-in_default-clause-image g c =
+    sym (ap (λ (p : Passing _). p.image) (gets_nowhere g.M.Kind.Kinds.means c.args.self.now.image c.args.end c.args.i c.args.side c.args.m c.in_default.ensures.none))
+
+pub returns-in_default-clause-outs : goal.returns-in_default-clause-outs
+returns-in_default-clause-outs g c =
+    rw c.new.ensures (sym (ap (λ (p : Passing _). p.outs) (gets_nowhere g.M.Kind.Kinds.means c.args.self.now.image c.args.end c.args.i c.args.side c.args.m c.in_default.ensures.none)))
+
+pub returns-in_default-clause-err : goal.returns-in_default-clause-err
+returns-in_default-clause-err g c = tt
+
+pub returns-in_default-clause-given : goal.returns-in_default-clause-given
+returns-in_default-clause-given g c = refl

@@ -17,3 +17,27 @@ invariant_of-self g c =
       c.wake.ensures.ready old c.len-before.ensures c.self.invariant.0 differs,
       c.wake.ensures.places (places_same old new c.self.inside.enabling.run.items (ways_of_same old new differs.same) c.self.invariant.1),
     )
+
+pub returns-clause-ok : goal.returns-clause-ok
+returns-clause-ok g c = rw (← c.self.view_is) c.put_back_head-answer.ensures.ok
+
+pub returns-clause-err : goal.returns-clause-err
+returns-clause-err g c = rw (← c.self.view_is) c.put_back_head-answer.ensures.err
+
+pub returns-clause-back : goal.returns-clause-back
+returns-clause-back g c = c.put_back_head-answer.ensures.back
+
+pub returns-clause-enough : goal.returns-clause-enough
+returns-clause-enough g c = rw (← c.self.view_is) c.put_back_head-answer.ensures.enough
+
+pub returns-clause-spent : goal.returns-clause-spent
+returns-clause-spent g c = rw (← c.self.view_is) c.put_back_head-answer.ensures.spent
+
+pub returns-clause-unspent : goal.returns-clause-unspent
+returns-clause-unspent g c = rw (← c.self.view_is) c.put_back_head-answer.ensures.unspent
+
+pub returns-clause-room : goal.returns-clause-room
+returns-clause-room g c = rw (← c.self.view_is) c.put_back_head-answer.ensures.room
+
+pub returns-clause-line_room : goal.returns-clause-line_room
+returns-clause-line_room g c = rw (← c.self.view_is) c.put_back_head-answer.ensures.line_room

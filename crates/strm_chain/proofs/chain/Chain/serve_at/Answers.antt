@@ -2,7 +2,7 @@ use Rattle.strm_ends.specs.Held.{DiffersIn}
 use Rattle.strm_ends.proofs.NextLemmas.{ways_of_same}
 use Rattle.strm_ends.proofs.FrameLemmas.{serves_differs}
 use Rattle.strm_chain.proofs.EnablingLemmas.{places_same}
-use Rattle.std.proofs.Common.{◌≡◌, ◌∙◌, true, length, ap}
+use Rattle.std.proofs.Common.{◌≡◌, ◌∙◌, true, length}
 use Rattle.strm_qpair.specs.Modules.{HoldsOrdinary}
 use Rattle.strm_ends.specs.Image.{end_of}
 use Rattle.strm_ends.specs.declared.place.NextQueue.TheVariants.{Of}
@@ -11,6 +11,9 @@ use Rattle.strm_module.specs.Calm.{options_sent}
 use Rattle.strm_ends.specs.Count.{answers_options}
 use Rattle.strm_chain.specs.Enabled.{ChainValue, is_enabled}
 use Rattle.strm_chain.proofs.CountLemmas.{serves_one, serves_sets_less, count_take}
+use Rattle.std.proofs.Common.{refl, sym, ap}
+use Rattle.strm_chain.specs.Deliver.{Passing}
+use Rattle.strm_chain.proofs.HopLemmas.{serves_nowhere}
 use Rattle.strm_chain.proofs.chain.Chain.serve_at.Goals as goal
 
 pub invariant_of-self : goal.invariant_of-self
@@ -36,3 +39,41 @@ returns-in-Ok-clause-moves g c =
     let served = serves_one g.M.Kind.Kinds.means old new c.args.end c.args.i c.args.side kinds ordinary c.in-Ok.ensures.state in
     let b = answers_options old.driver in
     rw (← c.self.view_is) (count_take old new queue (length c.self.inside.enabling.run.items) (length c.wake.new.self.run.items) (options_sent b c.in-Ok.outs.items) (serves_differs g.M.Kind.Kinds.means old c.args.end new c.args.i c.args.side c.serve_at.ensures.same c.in-Ok.ensures.state) served less (serves_sets_less g.M.Kind.Kinds.means b old new c.args.end c.args.i c.args.side c.in-Ok.outs.items kinds c.in-Ok.ensures.state c.in-Ok.ensures.outs))
+
+pub returns-in-Ok-clause-image : goal.returns-in-Ok-clause-image
+returns-in-Ok-clause-image g c = rw (← c.self.view_is) c.in-Ok.ensures.state
+
+pub returns-in-Ok-clause-outs : goal.returns-in-Ok-clause-outs
+returns-in-Ok-clause-outs g c = rw (← c.self.view_is) c.in-Ok.ensures.outs
+
+pub returns-in-Ok-clause-same : goal.returns-in-Ok-clause-same
+returns-in-Ok-clause-same g c = rw (← c.self.view_is) c.serve_at.ensures.same
+
+pub returns-in-Ok-clause-given : goal.returns-in-Ok-clause-given
+returns-in-Ok-clause-given g c = rw (← c.self.view_is) c.wake.ensures.given
+
+pub returns-in-Err-clause-image : goal.returns-in-Err-clause-image
+returns-in-Err-clause-image g c = tt
+
+pub returns-in-Err-clause-outs : goal.returns-in-Err-clause-outs
+returns-in-Err-clause-outs g c = tt
+
+pub returns-in-Err-clause-same : goal.returns-in-Err-clause-same
+returns-in-Err-clause-same g c = rw (← c.self.view_is) c.serve_at.ensures.same
+
+pub returns-in-Err-clause-given : goal.returns-in-Err-clause-given
+returns-in-Err-clause-given g c = rw (← c.self.view_is) c.wake_all.ensures.given
+
+pub returns-in-Err-clause-moves : goal.returns-in-Err-clause-moves
+returns-in-Err-clause-moves g c = tt
+
+pub returns-in_default-clause-image : goal.returns-in_default-clause-image
+returns-in_default-clause-image g c =
+    sym (ap (λ (p : Passing _). p.image) (serves_nowhere g.M.Kind.Kinds.means c.args.self.now.image c.args.end c.args.i c.args.side c.in_default.ensures.none))
+
+pub returns-in_default-clause-outs : goal.returns-in_default-clause-outs
+returns-in_default-clause-outs g c =
+    rw c.new.ensures (sym (ap (λ (p : Passing _). p.outs) (serves_nowhere g.M.Kind.Kinds.means c.args.self.now.image c.args.end c.args.i c.args.side c.in_default.ensures.none)))
+
+pub returns-in_default-clause-given : goal.returns-in_default-clause-given
+returns-in_default-clause-given g c = refl

@@ -1,4 +1,4 @@
-use Rattle.std.proofs.Common.{◌≡◌, ◌+◌, ◌∷◌, ◌++◌, [], true, false, length, length-append, ◌∙◌, ap, sym, arith}
+use Rattle.std.proofs.Common.{◌≡◌, ◌+◌, ◌∷◌, ◌++◌, [], true, false, length, length-append, ◌∙◌, ap, sym, refl, arith}
 use Rattle.strm_ends.specs.Flow.{may}
 use Rattle.strm_ends.specs.Count.{message_count, place_count, options_count}
 use Rattle.strm_chain.specs.Enabled.{ChainValue}
@@ -75,3 +75,48 @@ returns-clause-most g c =
     let options = ap options_count began in
     let given : c.looks-looks.result ≡ c.loop-place.self.run.given = c.looks-looks.ensures ∙ ap (λ (v : ChainValue _). v.run.given) c.self-3.view_is ∙ ap (λ (v : ChainValue _). v.run.given) c.in_default.ensures.still in
     omega (arith, most, looked, set, places, messages, options, given)
+
+pub returns-then-is_broken-clause-moves : goal.returns-then-is_broken-clause-moves
+returns-then-is_broken-clause-moves g c = tt
+
+pub returns-then-is_broken-clause-quiet : goal.returns-then-is_broken-clause-quiet
+returns-then-is_broken-clause-quiet g c = tt
+
+pub returns-then-is_broken-clause-looks : goal.returns-then-is_broken-clause-looks
+returns-then-is_broken-clause-looks g c = tt
+
+pub returns-then-is_broken-clause-few : goal.returns-then-is_broken-clause-few
+returns-then-is_broken-clause-few g c = tt
+
+pub returns-then-is_broken-clause-most : goal.returns-then-is_broken-clause-most
+returns-then-is_broken-clause-most g c = tt
+
+pub returns-then-is_broken-clause-none : goal.returns-then-is_broken-clause-none
+returns-then-is_broken-clause-none g c = tt
+
+pub returns-then-is_broken-clause-whole : goal.returns-then-is_broken-clause-whole
+returns-then-is_broken-clause-whole g c = tt
+
+pub returns-then-is_broken-clause-same : goal.returns-then-is_broken-clause-same
+returns-then-is_broken-clause-same g c = tt
+
+pub returns-clause-moves : goal.returns-clause-moves
+returns-clause-moves g c = rw (c.look.ensures.image, ← c.restart.ensures.image) c.loop-place.invariant.leads
+
+pub returns-clause-same : goal.returns-clause-same
+returns-clause-same g c = rw (c.look.ensures.image, ← c.restart.ensures.image) c.loop-place.invariant.same
+
+pub returns-clause-quiet : goal.returns-clause-quiet
+returns-clause-quiet g c = rw c.look.ensures.image c.in_default.ensures.quiet
+
+pub returns-clause-none : goal.returns-clause-none
+returns-clause-none g c = c.in_default.ensures.none
+
+pub returns-clause-whole : goal.returns-clause-whole
+returns-clause-whole g c = rw (← c.restart.ensures.image) c.loop-place.invariant.whole
+
+pub returns-clause-refused : goal.returns-clause-refused
+returns-clause-refused g c = tt
+
+pub returns-clause-still : goal.returns-clause-still
+returns-clause-still g c = λ _ _. refl

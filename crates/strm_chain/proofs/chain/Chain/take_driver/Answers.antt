@@ -48,3 +48,15 @@ returns-clause-rests g c =
     let held = ap (λ i. options_held b (held_by i (Of place))) e.1 in
     let long = ap (λ i. length (held_by i (Of place))) e.1 in
     count_take old new (Of place) (length c.self.inside.enabling.run.items) (length c.wake.new.self.run.items) 0 (same_differs old new (Of place) e.1) (record { fewer = omega (arith, long); one = omega (arith, long) }) less (omega (arith, held))))
+
+pub returns-clause-some : goal.returns-clause-some
+returns-clause-some g c = rw (← c.self.view_is) c.take_driver-first.ensures.some
+
+pub returns-clause-none : goal.returns-clause-none
+returns-clause-none g c = rw (← c.self.view_is) c.take_driver-first.ensures.none
+
+pub returns-clause-same : goal.returns-clause-same
+returns-clause-same g c = rw (← c.self.view_is) c.take_driver-first.ensures.same
+
+pub returns-clause-given : goal.returns-clause-given
+returns-clause-given g c = rw (← c.self.view_is) c.wake.ensures.given

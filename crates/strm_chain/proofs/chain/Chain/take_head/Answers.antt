@@ -14,3 +14,15 @@ invariant_of-self g c =
       c.wake.ensures.ready old c.len-before.ensures c.self.invariant.0 differs,
       c.wake.ensures.places (places_same old new c.self.inside.enabling.run.items (ways_of_same old new differs.same) c.self.invariant.1),
     )
+
+pub returns-clause-first : goal.returns-clause-first
+returns-clause-first g c = rw (← c.self.view_is) c.take_head-first.ensures.first
+
+pub returns-clause-image : goal.returns-clause-image
+returns-clause-image g c = rw (← c.self.view_is) c.take_head-first.ensures.image
+
+pub returns-clause-room : goal.returns-clause-room
+returns-clause-room g c = rw (← c.self.view_is) c.take_head-first.ensures.room
+
+pub returns-clause-line_room : goal.returns-clause-line_room
+returns-clause-line_room g c = rw (← c.self.view_is) c.take_head-first.ensures.line_room

@@ -122,3 +122,45 @@ returns-in-Across-clause-grows g c =
       omega (arith, grow, by, set, one),
       rw (c.push_front_reserved-in-Across.ensures.items, c.up-in-Across.ensures) (one_calm (up_hop c.args.head_sent c.partner_of-partner.result c.count-across.result m) c.args.hops.now.items still rest),
     )
+
+pub returns-in-Nothing-clause-err : goal.returns-in-Nothing-clause-err
+returns-in-Nothing-clause-err g c = tt
+
+pub returns-in-Nothing-clause-same : goal.returns-in-Nothing-clause-same
+returns-in-Nothing-clause-same g c = c.driver_does.ensures.same
+
+pub returns-in-Nothing-clause-given : goal.returns-in-Nothing-clause-given
+returns-in-Nothing-clause-given g c = c.driver_does.ensures.given
+
+pub returns-in-Reply-clause-err : goal.returns-in-Reply-clause-err
+returns-in-Reply-clause-err g c = tt
+
+pub returns-in-Reply-clause-same : goal.returns-in-Reply-clause-same
+returns-in-Reply-clause-same g c = c.driver_does.ensures.same
+
+pub returns-in-Reply-clause-given : goal.returns-in-Reply-clause-given
+returns-in-Reply-clause-given g c = c.driver_does.ensures.given
+
+pub returns-in-Across-clause-err : goal.returns-in-Across-clause-err
+returns-in-Across-clause-err g c = tt
+
+pub returns-in-Across-clause-same : goal.returns-in-Across-clause-same
+returns-in-Across-clause-same g c = c.driver_does.ensures.same
+
+pub returns-in-Across-clause-given : goal.returns-in-Across-clause-given
+returns-in-Across-clause-given g c = c.driver_does.ensures.given
+
+pub returns-in-Options-clause-err : goal.returns-in-Options-clause-err
+returns-in-Options-clause-err g c = tt
+
+pub returns-in-Options-clause-same : goal.returns-in-Options-clause-same
+returns-in-Options-clause-same g c = c.driver_does.ensures.same
+
+pub returns-in-Options-clause-given : goal.returns-in-Options-clause-given
+returns-in-Options-clause-given g c = c.driver_does.ensures.given
+
+pub returns-in_err-driver_does-clause-same : goal.returns-in_err-driver_does-clause-same
+returns-in_err-driver_does-clause-same g c = c.driver_does.ensures.same
+
+pub returns-in_err-driver_does-clause-given : goal.returns-in_err-driver_does-clause-given
+returns-in_err-driver_does-clause-given g c = c.driver_does.ensures.given

@@ -46,3 +46,36 @@ returns-in-Some-clause-grows g c =
     λ kinds calm rest.
     let nothing : Some c.in-Some.m ≡ None = sym c.in-Some.is ∙ c.in_ok-sends.ensures.sends ∙ (head_calm (end_of c.args.self.now.image c.args.end) c.args.m calm).0 in
     cc
+
+pub returns-then-head_sent-clause-err : goal.returns-then-head_sent-clause-err
+returns-then-head_sent-clause-err g c = tt
+
+pub returns-then-head_sent-clause-same : goal.returns-then-head_sent-clause-same
+returns-then-head_sent-clause-same g c = c.head_does.ensures.same
+
+pub returns-then-head_sent-clause-given : goal.returns-then-head_sent-clause-given
+returns-then-head_sent-clause-given g c = c.head_does.ensures.given
+
+pub returns-in-Some-clause-err : goal.returns-in-Some-clause-err
+returns-in-Some-clause-err g c = tt
+
+pub returns-in-Some-clause-same : goal.returns-in-Some-clause-same
+returns-in-Some-clause-same g c = c.head_does.ensures.same
+
+pub returns-in-Some-clause-given : goal.returns-in-Some-clause-given
+returns-in-Some-clause-given g c = c.head_does.ensures.given
+
+pub returns-in-None-clause-err : goal.returns-in-None-clause-err
+returns-in-None-clause-err g c = tt
+
+pub returns-in-None-clause-same : goal.returns-in-None-clause-same
+returns-in-None-clause-same g c = c.head_does.ensures.same
+
+pub returns-in-None-clause-given : goal.returns-in-None-clause-given
+returns-in-None-clause-given g c = c.head_does.ensures.given
+
+pub returns-in_err-sends-clause-same : goal.returns-in_err-sends-clause-same
+returns-in_err-sends-clause-same g c = c.head_does.ensures.same
+
+pub returns-in_err-sends-clause-given : goal.returns-in_err-sends-clause-given
+returns-in_err-sends-clause-given g c = c.head_does.ensures.given

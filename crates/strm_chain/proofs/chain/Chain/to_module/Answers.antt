@@ -47,3 +47,18 @@ returns-clause-grows g c =
       rw (c.push_outs.ensures.items, c.in_ok-outs.ensures.outs)
           (outs_calm h.head_sent h.side h.end i (h.ahead - 1) (put_at means old h.end i h.side h.m).outs c.args.hops.now.items outs rest),
     )
+
+pub returns-clause-err : goal.returns-clause-err
+returns-clause-err g c = tt
+
+pub returns-clause-same : goal.returns-clause-same
+returns-clause-same g c = c.put_at.ensures.same
+
+pub returns-clause-given : goal.returns-clause-given
+returns-clause-given g c = c.put_at.ensures.given
+
+pub returns-in_err-outs-clause-same : goal.returns-in_err-outs-clause-same
+returns-in_err-outs-clause-same g c = c.put_at.ensures.same
+
+pub returns-in_err-outs-clause-given : goal.returns-in_err-outs-clause-given
+returns-in_err-outs-clause-given g c = c.put_at.ensures.given

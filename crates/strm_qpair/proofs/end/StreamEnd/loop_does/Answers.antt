@@ -26,3 +26,24 @@ returns-in_ok-put_in_list-in-MData-clause-same g c =
       modules = refl;
       ids = record { next = refl; pending = refl; kept = λ _. refl };
     })
+
+pub returns-in-MFlush-clause-state : goal.returns-in-MFlush-clause-state
+returns-in-MFlush-clause-state g c = rw (← c.m.view_is, c.in-MFlush.is) c.flush_driver.ensures.state
+
+pub returns-in-MFlush-clause-sends : goal.returns-in-MFlush-clause-sends
+returns-in-MFlush-clause-sends g c = rw (← c.m.view_is, c.in-MFlush.is) c.flush_back.ensures
+
+pub returns-in-MFlush-clause-same : goal.returns-in-MFlush-clause-same
+returns-in-MFlush-clause-same g c = c.flush_driver.ensures.same
+
+pub returns-in-MFlush-clause-err : goal.returns-in-MFlush-clause-err
+returns-in-MFlush-clause-err g c = tt
+
+pub returns-in-MIoctl-clause-err : goal.returns-in-MIoctl-clause-err
+returns-in-MIoctl-clause-err g c = tt
+
+pub returns-in-MPcproto-clause-err : goal.returns-in-MPcproto-clause-err
+returns-in-MPcproto-clause-err g c = tt
+
+pub returns-in_default-clause-err : goal.returns-in_default-clause-err
+returns-in_default-clause-err g c = tt

@@ -1,0 +1,55 @@
+use Rattle.std.proofs.Common.{◌≡◌, ◌∙◌, false, sym, refl}
+use Rattle.strm_chain.proofs.QuietLemmas.{same_end, same_trans}
+use Rattle.strm_chain.proofs.chain.Chain.deliver.Goals as goal
+
+pub returns-then-is_broken-clause-ok : goal.returns-then-is_broken-clause-ok
+returns-then-is_broken-clause-ok g c = tt
+
+pub returns-then-is_broken-clause-whole : goal.returns-then-is_broken-clause-whole
+returns-then-is_broken-clause-whole g c = tt
+
+pub returns-then-is_broken-clause-same : goal.returns-then-is_broken-clause-same
+returns-then-is_broken-clause-same g c = tt
+
+pub returns-then-is_broken-clause-refused : goal.returns-then-is_broken-clause-refused
+returns-then-is_broken-clause-refused g c =
+    let image = c.self.inside.ends.image in
+    rw (← c.self.view_is)
+    (record { is_broken = sym c.is_broken.ensures ∙ c.if-is_broken.true; driver = refl; on_a = same_end image.a; on_b = same_end image.b; again = λ _. refl })
+
+pub returns-in-Err-clause-ok : goal.returns-in-Err-clause-ok
+returns-in-Err-clause-ok g c = tt
+
+pub returns-in-Err-clause-whole : goal.returns-in-Err-clause-whole
+returns-in-Err-clause-whole g c = tt
+
+pub returns-in-Err-clause-same : goal.returns-in-Err-clause-same
+returns-in-Err-clause-same g c = tt
+
+pub returns-in-Err-carry_all-clause-ok : goal.returns-in-Err-carry_all-clause-ok
+returns-in-Err-carry_all-clause-ok g c = tt
+
+pub returns-in-Err-carry_all-clause-whole : goal.returns-in-Err-carry_all-clause-whole
+returns-in-Err-carry_all-clause-whole g c = tt
+
+pub returns-in-Err-carry_all-clause-same : goal.returns-in-Err-carry_all-clause-same
+returns-in-Err-carry_all-clause-same g c = tt
+
+pub returns-in-Err-clause-refused : goal.returns-in-Err-clause-refused
+returns-in-Err-clause-refused g c =
+    let whole : c.args.self.now.image.broken ≡ false = rw (← c.self.view_is) (sym c.is_broken.ensures ∙ c.if-is_broken.false) in
+    record { was_whole = whole; image = c.in-Err.ensures.err }
+
+pub returns-in-Ok-carry_all-clause-ok : goal.returns-in-Ok-carry_all-clause-ok
+returns-in-Ok-carry_all-clause-ok g c =
+    c.in-Ok-carry_all.ensures.ok ∙ (rw c.new-hops.ensures.items at c.in-Ok.ensures.image) ∙ c.handed_in-hop.ensures
+
+pub returns-in-Ok-carry_all-clause-whole : goal.returns-in-Ok-carry_all-clause-whole
+returns-in-Ok-carry_all-clause-whole g c = rw (← c.self.view_is) (sym c.is_broken.ensures ∙ c.if-is_broken.false)
+
+pub returns-in-Ok-carry_all-clause-same : goal.returns-in-Ok-carry_all-clause-same
+returns-in-Ok-carry_all-clause-same g c =
+    same_trans c.args.self.now.image c.hop.new.self.image c.carry_all.new.self.image c.hop.ensures.same c.carry_all.ensures.same
+
+pub returns-in-Ok-carry_all-clause-refused : goal.returns-in-Ok-carry_all-clause-refused
+returns-in-Ok-carry_all-clause-refused g c = tt

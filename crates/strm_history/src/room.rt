@@ -14,7 +14,7 @@ use crate::receipt::Receipt;
 use crate::serials::{AllSerials, Serials, room_for_serials};
 use std::alloc::Global;
 use std::marker::Model;
-use strm_head::{Answer, Event, Moves, Reply};
+use strm_head::{Answer, BoxedMessage, Event, Moves, Reply};
 use strm_module::{Boxed, ModuleOf};
 use strm_msg::{End, Message, NoMem};
 use strm_once::Cell;
@@ -78,7 +78,7 @@ pub(crate) fn room_for_arrival<K: Drop>(alloc: Global, m: &Message) -> Result<Bo
     let entry = Entry {
         who: Who::Line,
         end: End::A,
-        event: Event::Arrived(m.copy(alloc)?),
+        event: Event::Arrived(BoxedMessage::new(alloc, m.copy(alloc)?)?),
         answer: Answer::Broke,
         moves: Moves::new(alloc),
         looks: 0,

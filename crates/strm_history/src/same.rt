@@ -341,7 +341,9 @@ fn is_same_event<K: SameKind + Drop>(
 {
     match (one, other) {
         (Event::Asked(one), Event::Asked(other)) => is_same_request(one, other),
-        (Event::Arrived(one), Event::Arrived(other)) => is_same_message(one, other),
+        (Event::Arrived(one), Event::Arrived(other)) => {
+            is_same_message(one.message(), other.message())
+        }
         _ => false,
     }
 }

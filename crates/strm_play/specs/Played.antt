@@ -32,17 +32,21 @@ abbrev pub messages_for : List (ℕ × List Msg) → ℕ → List Msg
 messages_for [] number = []
 messages_for (feed ∷ feeds) number = if feed.0 == number then feed.1 else messages_for feeds number
 
--- the plan is what the script spells, and what is left of it are its names; each stream that it declares has a log, in order,
--- with a legal history that has each process's calls there, in order, and in which what came in is of the stream's feed
-pub record IsPlayed {K : Type 0} (means : Meaning K) (words : KindWords K) (bytes : List ℕ) (outcome : Outcome K) : Type 0 where
-  pub plan : Plan K
-  pub spells : spelt words bytes ≡ Ok (plan_view plan)
+-- what is left of a plan that was played are its names; each stream that it declares has a log, in order, with a legal history that
+-- has each process's calls there, in order, and in which what came in is of the stream's feed
+pub record IsPlayedPlan {K : Type 0} (means : Meaning K) (plan : Plan K) (outcome : Outcome K) : Type 0 where
   pub streams : outcome.plan.streams ≡ plan.streams
   pub names : names_of outcome.plan.processes.items ≡ names_of plan.processes.items
   pub many : length outcome.transcript.streams.items ≡ length (setups_of plan)
   pub legal : (k : ℕ) (setup : Setup) (log : StreamLog K) → k < length (setups_of plan) → IsLegal means (get_or (setups_of plan) k setup) (get_or outcome.transcript.streams.items k log)
   pub calls : (k caller : ℕ) (log : StreamLog K) → k < length (setups_of plan) → map asked_of (own caller (get_or outcome.transcript.streams.items k log).history.items) ≡ calls_on k (calls_of plan caller)
   pub arrivals : (k : ℕ) (log : StreamLog K) → k < length (setups_of plan) → IsFed (messages_for (map fed plan.feeds.items) k) (get_or outcome.transcript.streams.items k log)
+
+-- the plan is what the script spells, and it was played
+pub record IsPlayed {K : Type 0} (means : Meaning K) (words : KindWords K) (bytes : List ℕ) (outcome : Outcome K) : Type 0 where
+  pub plan : Plan K
+  pub spells : spelt words bytes ≡ Ok (plan_view plan)
+  pub played : IsPlayedPlan means plan outcome
 
 -- which faults the run of a script may have with so many workers: `Workers` where they are not 1 to `MOST_WORKERS`, and then no other
 -- but want of memory, which may come before the run; never `NoSuch`, as a script names nothing that it has not declared

@@ -9,5 +9,5 @@ mod pushing;
 
 pub use fault::PlayFault;
 pub use handing::{Handed, hand_over};
-pub use playing::{Outcome, play};
+pub use playing::{Outcome, play, play_plan};
 pub use pushing::PlayModule;

@@ -2,7 +2,9 @@
 ghost use Rattle.std.specs.Prelude.{◌≡◌, true, IfOk, IfErr};
 ghost use Rattle.strm_crew.specs.Run.{CallsFit};
 ghost use Rattle.strm_run.specs.There.{is_crew};
-ghost use Rattle.strm_play.specs.Played.{IsPlayed, IsFaultOf};
+ghost use Rattle.strm_plan.specs.Plan.{plan_view};
+ghost use Rattle.strm_plan.specs.Sound.{IsSound};
+ghost use Rattle.strm_play.specs.Played.{IsPlayed, IsPlayedPlan, IsFaultOf, may_have};
 
 use crate::fault::PlayFault;
 use crate::handing::{Handed, hand_over};
@@ -13,7 +15,7 @@ use std::thread::Threads;
 use strm_history::SameKind;
 use strm_module::Kind;
 use strm_plan::{Plan, ReadKind, parse};
-use strm_run::{Gate, Transcript, run};
+use strm_run::{Gate, RunFault, Transcript, run};
 
 /// What is left of a script that was played.
 #[derive(Drop)]
@@ -33,7 +35,38 @@ impl Gate for Open {
     fn after(&self, _: u32, _: u64) {}
 }
 
-/// Plays a script with as many worker threads as are asked for, 1 to `MOST_WORKERS`: its streams are made, the
+/// Plays a plan that was read (`parse`), as `play` plays a script, so that the text need not be kept while it is played.
+///
+/// Refused as a run is: with `Workers` exactly where there are not 1 to `MOST_WORKERS` of them, but for want of memory
+/// before, and never with `NoSuch`.
+pub fn play_plan<M: PlayModule, R: Threads + Wait + Sync>(
+    rt: &R,
+    alloc: Global,
+    plan: Plan<M::Kind>,
+    workers: u32,
+) -> Result<Outcome<M::Kind>, RunFault>
+where
+    M::Kind: SameKind + Send + Sync,
+    requires fits { CallsFit M.row M.Kind.row M.Kind.Kinds }
+    requires sound { IsSound (plan_view plan) }
+    ensures played { IfOk result (λ outcome. IsPlayedPlan M.Kind.means plan outcome) }
+    ensures workers { IfOk result (λ _. is_crew workers ≡ true) }
+    ensures fault { IfErr result (λ fault. may_have workers fault ≡ true) }
+{
+    let Handed {
+        plan: names,
+        setups,
+        scripts,
+        feeds,
+    } = hand_over::<M>(alloc, plan)?;
+    let transcript = run(rt, alloc, setups, scripts, feeds, workers, &Open)?;
+    Ok(Outcome {
+        plan: names,
+        transcript,
+    })
+}
+
+/// Plays a script with as many workers as are asked for, 1 to `MOST_WORKERS`: its streams are made, the
 /// calls of its processes are made on them, and its feeds come in beside. It returns when all threads have ended.
 ///
 /// The modules are of type `M`, and of the kinds that its vocabulary has words for: `play::<Plain, _>` plays what
@@ -56,12 +89,5 @@ where
     ensures fault { IfErr result (λ fault. IsFaultOf M.Kind.words bytes.now workers fault) }
 {
     let plan = parse::<M::Kind>(alloc, bytes)?;
-    let Handed {
-        plan,
-        setups,
-        scripts,
-        feeds,
-    } = hand_over::<M>(alloc, plan)?;
-    let transcript = run(rt, alloc, setups, scripts, feeds, workers, &Open)?;
-    Ok(Outcome { plan, transcript })
+    Ok(play_plan::<M, R>(rt, alloc, plan, workers)?)
 }

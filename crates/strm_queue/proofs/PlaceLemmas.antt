@@ -2,6 +2,7 @@
 use Rattle.std.proofs.Common.{◌≡◌, ℕ, ◌+◌, ◌<◌, ◌≤◌, ◌==◌, ◌&&◌, nat_le, nat_lt, not, true, false, cond, List, [], ◌∷◌, ◌++◌, length, get_or, set, take, filter, insert, ap, refl, sym, suc, zero, arith, append_assoc, length-append, ◌⊎◌, inl, inr, ◌∙◌, subst}
 use Rattle.std.specs.Prelude.{if◌then◌else◌}
 use Rattle.std.specs.List.{list_all}
+use Rattle.std.specs.List.Sorted.{IsPartitionedBy}
 use Rattle.std.specs.Cmp.Derive.{both_true}
 use Rattle.std.proofs.lemmas.Bool.{ltb-true, ltb-false, lt-ltb, eqb-true, eq-eqb}
 use Rattle.std.proofs.lemmas.Bool.Decides.{nat_tests}
@@ -55,6 +56,17 @@ place_or_absent rank (lane ∷ lanes) h =
                 inr (both_true other (absent_below rank lane.rank lanes at_most (lanes_fall lane lanes h)))
           ] refl
     ] refl
+
+-- the lanes above a rank stand before the others
+pub ranks_part : (rank : ℕ) (lanes : List Ranked) → is_laned lanes ≡ true → IsPartitionedBy (λ (lane : Ranked). nat_lt rank lane.rank) lanes
+ranks_part rank [] h i j d le less above = absurd (omega arith)
+ranks_part rank (lane ∷ lanes) h zero zero d le less above = above
+ranks_part rank (lane ∷ lanes) h zero (suc j) d le less above =
+    let under = ltb-true (get_or lanes j d).rank lane.rank (all_get (λ (other : Ranked). nat_lt other.rank lane.rank) lanes j d (lanes_fall lane lanes h) (omega arith)) in
+    let over = ltb-true rank (get_or lanes j d).rank above in
+    lt-ltb rank lane.rank (omega (arith, under, over))
+ranks_part rank (lane ∷ lanes) h (suc i) zero d le less above = absurd (omega arith)
+ranks_part rank (lane ∷ lanes) h (suc i) (suc j) d le less above = ranks_part rank lanes (lanes_after lane lanes h) i j d (omega arith) (omega arith) above
 
 -- a lane changed at its place, of the same rank
 module _ (new d : Ranked) where

@@ -21,15 +21,11 @@ pub(crate) fn rank_of(m: &Message) -> u16
 
 /// How many lanes stand before the place of a rank.
 fn place_of(lanes: &[Lane], rank: u16) -> usize
+    requires { is_laned lanes.now ≡ true }
     ensures value { result ≡ place_of rank lanes.now }
     ensures within { result ≤ length lanes.now }
 {
-    for (i, lane) in lanes.iter().enumerate() {
-        if lane.rank() <= rank {
-            return i;
-        }
-    }
-    lanes.len()
+    lanes.partition_point(|lane| lane.rank() > rank)
 }
 
 /// Whether the lane of a rank stands there.

@@ -139,6 +139,9 @@ impl BandQueue {
     pub fn first(&self) -> Option<&Message>
         ensures { option_copied result ≡ slice_get self.now.messages 0 }
     {
+        if self.len == 0 {
+            return None;
+        }
         first(self.lanes.as_slice())
     }
 

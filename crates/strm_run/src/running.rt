@@ -66,9 +66,9 @@ where
 /// Plays scripts on streams that all callers share, and gives what is left of each stream.
 ///
 /// Streams are numbered from 0 in the order of their setups, callers in that of their scripts. Caller `i`
-/// is played by worker `i` modulo `workers`, each a thread of its own, and the callers of a worker one
-/// after another. Each feed has a thread of its own, which is started with the workers and offers each
-/// message once. Round each call the gate is called. What comes back from a call is dropped after it,
+/// is played by worker `i` modulo `workers`, and the callers of a worker one after another. Worker 0 is the
+/// thread that calls; each other that has a caller is a thread of its own. Each feed has a thread of its own
+/// too, which is started with the workers and offers each message once. Round each call the gate is called. What comes back from a call is dropped after it,
 /// outside of the lock.
 ///
 /// To be called with setups of which each can be made (`are_setups`), with messages that come from lines

@@ -27,6 +27,22 @@ fn work<M: ModuleOf, N: Plays<M::Kind>, R: Wait, G: Gate>(
     Ok(all)
 }
 
+/// Plays the scripts of the first worker, if there is one.
+fn work_first<M: ModuleOf, N: Plays<M::Kind>, R: Wait, G: Gate>(
+    rt: &R,
+    alloc: Global,
+    streams: &Streams<M, N>,
+    crew: Option<Vec<Player<M, N>>>,
+    gate: &G,
+) -> Result<Vec<Played<M::Kind, N>>, NoMem>
+    requires { CallsDoFit M.row M.Kind.row M.Kind.Kinds }
+{
+    match crew {
+        Some(crew) => work(rt, alloc, streams, crew, gate),
+        None => Ok(Vec::new(alloc)),
+    }
+}
+
 /// What two parts of a run leave, one behind the other; want of memory, where one of them met it.
 fn both<T: Drop>(
     first: Result<Vec<T>, NoMem>,
@@ -38,7 +54,8 @@ fn both<T: Drop>(
     Ok(all)
 }
 
-/// Starts a thread for each worker, and waits for all that were started, also where one could not be: then no more are.
+/// Plays the scripts of the first worker here, and those of each other in a thread of its own, if it has some. Waits for all
+/// that were started, also where one could not be: then no more are, and nothing is played here.
 fn play_all<M: ModuleOf, N: Plays<M::Kind> + Send + Sync, R: Threads + Wait + Sync, G: Gate>(
     rt: &R,
     alloc: Global,
@@ -58,7 +75,12 @@ where
         {
             let mut handles = Vec::new(alloc);
             let mut played = Ok(Vec::new(alloc));
-            for crew in crews {
+            let mut others = crews.into_iter();
+            let first = others.next();
+            for crew in others {
+                if crew.is_empty() {
+                    continue;
+                }
                 let Ok(()) = handles.reserve(1) else {
                     played = Err(NoMem);
                     break;
@@ -72,6 +94,9 @@ where
                     break;
                 };
                 handles.push_reserved(handle);
+            }
+            if played.is_ok() {
+                played = work_first(rt, alloc, streams, first, gate);
             }
             for handle in handles {
                 played = both(played, handle.join(rt));

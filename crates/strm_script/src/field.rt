@@ -6,6 +6,7 @@ ghost use Rattle.strm_script.specs.Fields.{spaced};
 ghost use Rattle.strm_script.specs.ReadBack.{FieldsAreReadBack};
 ghost use Rattle.strm_script.specs.Replies.{name_fields};
 
+use itoa::Buffer;
 use std::io::{self, Write};
 use strm_call::Name;
 use strm_msg::Bytes;
@@ -30,10 +31,13 @@ pub fn put_part<W: Write>(w: &mut W, bytes: &[u8]) -> io::Result<()>
 }
 
 /// Writes a number behind a space. Refused where the writer is, and with its error.
+#[tactic(auto, using(strm_text::proofs::WriteLemmas::appends_then))]
 pub fn put_number<W: Write>(w: &mut W, n: u64) -> io::Result<()>
     ensures { OnOk result (Appends (W.contents w.old) (W.contents w.new) (spaced (says.Number n ∷ []))) }
 {
-    write!(w, " {n}")
+    let mut digits = Buffer::new();
+    w.write_all(b" ")?;
+    w.write_all(digits.format(n).as_bytes())
 }
 
 /// Writes two numbers with a stroke between them.

@@ -159,7 +159,7 @@ fn put_said<W: Write>(w: &mut W, answer: &Answer) -> io::Result<()>
 pub fn put_answer<W: Write>(w: &mut W, answer: &Answer) -> io::Result<()>
     ensures { OnOk result (Appends (W.contents w.old) (W.contents w.new) (answer_text answer.now)) }
 {
-    put_word(w, b":")?;
+    w.write_all(b" :")?;
     put_said(w, answer)?;
     w.write_all(b"\n")
 }

@@ -85,12 +85,15 @@ impl From<LoadFault> for Fault {
     }
 }
 
-impl From<PlayFault> for Fault {
-    fn from(fault: PlayFault) -> Self {
-        match fault {
-            PlayFault::Script(fault) => Fault::Script(fault),
-            PlayFault::Run(fault) => Fault::Run(fault),
-        }
+impl From<ScriptFault> for Fault {
+    fn from(fault: ScriptFault) -> Self {
+        Fault::Script(fault)
+    }
+}
+
+impl From<RunFault> for Fault {
+    fn from(fault: RunFault) -> Self {
+        Fault::Run(fault)
     }
 }
 

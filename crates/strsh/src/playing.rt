@@ -1,7 +1,8 @@
 //! A script is played, and its transcript or chart printed.
-ghost use Rattle.std.specs.Prelude.{if◌then◌else◌, OnOk};
+ghost use Rattle.std.specs.Prelude.{if◌then◌else◌, IfOk, OnOk};
 ghost use Rattle.std.specs.Io.KnownBytes.{Appends};
 ghost use Rattle.strm_plan.specs.Plan.{plan_view};
+ghost use Rattle.strm_plan.specs.Sound.{IsSound};
 ghost use Rattle.strm_script.specs.Fields.{builtin_spelling};
 ghost use Rattle.strm_script.specs.Lines.{transcript_text};
 ghost use Rattle.strm_chart.specs.Chart.{chart_text};
@@ -15,13 +16,25 @@ use std::rt::Files;
 use std::sync::Wait;
 use std::thread::Threads;
 use strm_chart::chart;
-use strm_module::Plain;
-use strm_play::{Outcome, play};
+use strm_module::{Kind, Plain};
+use strm_plan::{Plan, parse};
+use strm_play::{Outcome, play_plan};
 use strm_script::{LoadFault, load, print};
+
+/// How much is printed at once, in bytes.
+const BUFFER: usize = 65_536;
 
 /// The bytes of the script at a path.
 fn script<R: Files>(rt: &R, alloc: Global, path: &str) -> Result<Vec<u8>, LoadFault> {
     load(alloc, fs::open(rt, path)?)
+}
+
+/// The plan that the script at a path spells. Its text is dropped before the plan is played.
+fn plan_at<R: Files>(rt: &R, alloc: Global, path: &str) -> Result<Plan<Kind>, Fault>
+    ensures { IfOk result (λ plan. IsSound (plan_view plan)) }
+{
+    let bytes = script(rt, alloc, path)?;
+    Ok(parse(alloc, bytes.as_slice())?)
 }
 
 /// Writes what is left of a script that was played: as a chart where one is asked for, and else as a transcript.
@@ -56,7 +69,7 @@ fn put_out<R: Print>(
     outcome: &Outcome,
     as_chart: bool,
 ) -> Result<(), Fault> {
-    let Ok(mut out) = BufWriter::new(alloc, io::writer(rt)) else {
+    let Ok(mut out) = BufWriter::with_capacity(alloc, BUFFER, io::writer(rt)) else {
         return Err(Fault::no_memory());
     };
     put(outcome, as_chart, &mut out).map_err(|_| Fault::Write)
@@ -72,7 +85,7 @@ pub fn serve<R: Files + Print + Threads + Wait + AllocGlobal + Sync>(
 ) -> Result<(), Fault> {
     let alloc = rt.alloc();
     let options = Options::read(alloc, words)?;
-    let bytes = script(rt, alloc, options.path)?;
-    let outcome = play::<Plain, R>(rt, alloc, bytes.as_slice(), options.workers)?;
+    let plan = plan_at(rt, alloc, options.path)?;
+    let outcome = play_plan::<Plain, R>(rt, alloc, plan, options.workers)?;
     put_out(rt, alloc, &outcome, options.chart)
 }

@@ -5,7 +5,7 @@ use std::alloc::Global;
 use std::process::Abort;
 use strm_call::{Answer, Reply};
 use strm_chart::chart;
-use strm_head::{Event, Place};
+use strm_head::{BoxedMessage, Event, Place};
 use strm_history::{Entry, Kept, Serials, Who};
 use strm_module::Kind;
 use strm_msg::End::A;
@@ -33,7 +33,7 @@ fn came(
     let entry = Entry {
         who: Who::Line,
         end: A,
-        event: Event::Arrived(m),
+        event: Event::Arrived(BoxedMessage::new(alloc, m).expect(rt, "no memory")),
         answer,
         moves: moves.into(),
         looks: 0,

@@ -8,7 +8,7 @@ use std::alloc::Global;
 use std::io::{self, ErrorKind, Write};
 use std::process::Abort;
 use strm_call::{Acknowledged, Answer, Name, Refusal, Reply, Request};
-use strm_head::{Event, MOST_MODULES, Moves};
+use strm_head::{BoxedMessage, Event, MOST_MODULES, Moves};
 use strm_history::{Entry, Kept, Serials, Who};
 use strm_module::Kind;
 use strm_msg::End::{A, B};
@@ -199,6 +199,7 @@ fn step(
 
 /// A message that came in.
 fn came(rt: &impl Abort, alloc: Global, m: Message, answer: Answer) -> Kept<Kind> {
+    let m = BoxedMessage::new(alloc, m).expect(rt, "no memory");
     step(rt, alloc, (Who::Line, A), Event::Arrived(m), answer)
 }
 

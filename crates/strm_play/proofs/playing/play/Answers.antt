@@ -1,59 +1,8 @@
-use Rattle.std.proofs.Common.{[], length, get_or, rules, arith, refl, ap, ◌∙◌}
-use Rattle.strm_crew.specs.Scripts.{calls_on}
-use Rattle.strm_run.specs.There.{is_crew}
-use Rattle.strm_run.specs.declared.fault.RunFault.TheVariants as runs
+use Rattle.std.proofs.Common.{rules}
 use Rattle.strm_play.specs.Played.{IsFaultOfRun}
-use Rattle.strm_play.proofs.FaultLemmas.{may_be, unless_false}
-use Rattle.strm_play.proofs.PlanLemmas.{all_there, setups_meet, feeds_meet, few_setups, few_scripts, script_calls, fed_of_plan}
 use Rattle.strm_play.proofs.playing.play.Goals as goal
 
-pub returns-in_err-plan-2-clause-fault : goal.returns-in_err-plan-2-clause-fault
-returns-in_err-plan-2-clause-fault g c =
-    let told : IsFaultOfRun g.M.Kind.ReadKind.words c.args.bytes.now c.args.workers runs.NoMem = record { plan = c.in_ok-plan.plan; spells = c.in_ok-plan.ensures.spells; may = refl } in
+pub returns-in_err-play_plan-clause-fault : goal.returns-in_err-play_plan-clause-fault
+returns-in_err-play_plan-clause-fault g c =
+    let told : IsFaultOfRun g.M.Kind.ReadKind.words c.args.bytes.now c.args.workers c.in_err-play_plan.field-0.0 = record { plan = c.in_ok-plan.plan; spells = c.in_ok-plan.ensures.spells; may = c.in_err-play_plan.ensures.fault } in
     search rules
-
-pub run-requires-clause-few : goal.run-requires-clause-few
-run-requires-clause-few g c κs within = (
-  few_setups _ _ c.in_ok-plan.plan.streams.entries c.in_ok-plan-2.ensures.setups c.in_ok-plan.ensures.sound.few_streams (omega arith),
-  few_scripts _ _ c.in_ok-plan.plan.processes.items c.in_ok-plan-2.ensures.scripts c.in_ok-plan.ensures.sound.few_processes (omega arith),
-)
-
-pub run-requires-clause-setups : goal.run-requires-clause-setups
-run-requires-clause-setups g c κs within =
-    rw c.in_ok-plan-2.ensures.setups (setups_meet c.in_ok-plan.plan.streams.entries c.in_ok-plan.ensures.sound.setups)
-
-pub run-requires-clause-feeds : goal.run-requires-clause-feeds
-run-requires-clause-feeds g c κs within =
-    feeds_meet _ c.in_ok-plan.plan.feeds.items c.in_ok-plan-2.ensures.feeds c.in_ok-plan.ensures.sound.messages
-
-pub returns-in_err-transcript-clause-fault : goal.returns-in_err-transcript-clause-fault
-returns-in_err-transcript-clause-fault g c =
-    let handed = c.in_ok-plan-2.ensures in
-    let sound = c.in_ok-plan.ensures.sound in
-    let there = all_there c.in_ok-plan.plan.streams.entries _ c.in_ok-plan.plan.processes.items _ c.in_ok-plan.plan.feeds.items handed.scripts handed.feeds sound.calls sound.lines sound.once in
-    let ran = c.in_err-transcript.ensures in
-    let told : IsFaultOfRun g.M.Kind.ReadKind.words c.args.bytes.now c.args.workers c.in_err-transcript.field-0.0 = record {
-      plan = c.in_ok-plan.plan;
-      spells = c.in_ok-plan.ensures.spells;
-      may = may_be c.args.workers c.in_err-transcript.field-0.0 _ refl ran.workers ran.no_such (rw handed.setups there);
-    } in
-    search rules
-
-pub returns-clause-workers : goal.returns-clause-workers
-returns-clause-workers g c = unless_false (is_crew c.args.workers) (λ out. let told = c.in_ok-transcript.ensures.workers.1 out in absurd cc)
-
-pub returns-clause-played : goal.returns-clause-played
-returns-clause-played g c =
-    let handed = c.in_ok-plan-2.ensures in
-    let ran = c.in_ok-transcript.ensures in
-    let as_many = ap (λ l. length l) handed.setups in
-    record {
-      plan = c.in_ok-plan.plan;
-      spells = c.in_ok-plan.ensures.spells;
-      streams = handed.streams;
-      names = handed.names;
-      many = ran.many ∙ as_many;
-      legal = λ k setup log under. rw (← handed.setups) (ran.legal k setup log (rw as_many under));
-      calls = λ k caller log under. ran.calls k caller log (rw as_many under) ∙ ap (λ calls. calls_on k calls) (script_calls _ caller ∙ ap (λ all. get_or all caller []) handed.scripts);
-      arrivals = λ k log under. fed_of_plan _ _ c.in_ok-plan.plan.feeds.items k handed.feeds (ran.arrivals k log (rw as_many under));
-    }

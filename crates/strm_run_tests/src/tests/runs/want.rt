@@ -37,26 +37,26 @@ fn fill(rt: &impl Abort, alloc: Global) -> Vec<Vec<u8>> {
 
 const WRITE: &[Row] = &[(0, A, Ask::Write(b"x"))];
 
-/// A run of one write.
-fn run_one<R: Abort + Threads + Wait + Sync>(
+/// A run of two writes, of which the second is a thread's.
+fn run_two<R: Abort + Threads + Wait + Sync>(
     rt: &R,
     alloc: Global,
     scripts: Vec<Script<Boxed<Plain>>>,
 ) -> Result<Transcript<Kind>, RunFault> {
-    run_of(rt, alloc, &[ECHO], scripts, &[], 1, &Open)
+    run_of(rt, alloc, &[ECHO], scripts, &[], 2, &Open)
 }
 
 #[test]
 fn want_of_a_thread_is_want_of_memory(rt: HostRuntime) {
     let alloc: Global = rt.alloc();
-    let scripts = scripts_of(&rt, alloc, &[WRITE]);
-    let scripts_again = scripts_of(&rt, alloc, &[WRITE]);
+    let scripts = scripts_of(&rt, alloc, &[WRITE, WRITE]);
+    let scripts_again = scripts_of(&rt, alloc, &[WRITE, WRITE]);
     let spare: Vec<u8> = Vec::with_capacity(alloc, 100_000).expect(&rt, "no memory");
     let taken = fill(&rt, alloc);
     drop(spare);
-    let refused = fault_in(run_one(&rt, alloc, scripts));
+    let refused = fault_in(run_two(&rt, alloc, scripts));
     let small: Vec<u8> = Vec::with_capacity(alloc, 10_000).expect(&rt, "memory that is small");
     drop(taken);
     assert!(rt; refused == Some(RunFault::NoMem) && small.is_empty());
-    assert!(rt; leaves(run_one(&rt, alloc, scripts_again), Left::Entries(&[(0, 1)])));
+    assert!(rt; leaves(run_two(&rt, alloc, scripts_again), Left::Entries(&[(0, 2)])));
 }

@@ -7,7 +7,7 @@ ghost use Rattle.port_sequence.specs.Sequence.{numbered_action, judged_action, f
 use std::alloc::Global;
 use strm_history::SameKind;
 use strm_module::{Instance, Kinds, MakeFault, ModuleOf, Outs, Shape, pass_on, reply};
-use strm_msg::{Bytes, Message, MsgKind, NoMem, Side};
+use strm_msg::{BoxedMessage, Bytes, Message, MsgKind, NoMem, Side};
 
 /// Numbers data messages on their way down with one byte in front, 0 to 255 and again, and judges those on their way up by theirs: they go
 /// on without it, and what was skipped before them is counted as lost. An ioctl of command 1 is answered with that count.
@@ -33,7 +33,7 @@ fn bytes_of(part: &Option<Bytes>) -> &[u8]
 
 impl Sequence {
     /// Data on its way down gets the next number in front.
-    fn number(&mut self, alloc: Global, m: Message) -> Result<Outs, NoMem>
+    fn number(&mut self, alloc: Global, m: BoxedMessage) -> Result<Outs, NoMem>
         requires { m.kind ≡ MData }
         ensures outs { IfOk result (λ outs. outs.items ≡ (numbered_action self.old m).outs) }
         ensures kept { OnOk result (self.new ≡ (numbered_action self.old m).kind) }
@@ -43,11 +43,11 @@ impl Sequence {
         bytes.extend_from_slice(bytes_of(&m.dat))?;
         self.down = self.down.wrapping_add(1);
         let dat = Some(bytes.into());
-        Ok(pass_on(Side::Wr, Message { dat, ..m }))
+        Ok(pass_on(Side::Wr, m.with_dat(dat)))
     }
 
     /// Data on its way up goes on without its number, if it has one.
-    fn judge(&mut self, alloc: Global, m: Message) -> Result<Outs, NoMem>
+    fn judge(&mut self, alloc: Global, m: BoxedMessage) -> Result<Outs, NoMem>
         ensures outs { IfOk result (λ outs. outs.items ≡ (judged_action self.old m (unwrap_or m.dat [])).outs) }
         ensures kept { OnOk result (self.new ≡ (judged_action self.old m (unwrap_or m.dat [])).kind) }
         ensures err { OnErr result (self.new ≡ self.old) }
@@ -60,7 +60,7 @@ impl Sequence {
         self.up = number.wrapping_add(1);
         self.lost = self.lost.saturating_add(u64::from(skipped));
         let dat = Some(rest);
-        Ok(pass_on(Side::Rd, Message { dat, ..m }))
+        Ok(pass_on(Side::Rd, m.with_dat(dat)))
     }
 }
 
@@ -69,12 +69,12 @@ impl Kinds for Sequence {
 
     ghost means = { sequence };
 
-    fn process(&mut self, alloc: Global, side: Side, m: Message) -> Result<Outs, NoMem> {
+    fn process(&mut self, alloc: Global, side: Side, m: BoxedMessage) -> Result<Outs, NoMem> {
         match (side, m.kind) {
             (Side::Wr, MsgKind::MData) => self.number(alloc, m),
             (Side::Rd, MsgKind::MData) => self.judge(alloc, m),
             (Side::Wr, MsgKind::MIoctl { id, cmd: 1 }) => {
-                Ok(reply(Message::of_ack(id, self.lost, None)))
+                Ok(reply(m.becoming(Message::of_ack(id, self.lost, None))))
             }
             _ => Ok(pass_on(side, m)),
         }

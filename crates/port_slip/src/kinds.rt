@@ -10,7 +10,7 @@ ghost use Rattle.port_slip.specs.declared.kinds.SlipKind.TheVariants as SlipKind
 use crate::framing::{begun, first_datagram, frame};
 use std::alloc::{AllocError, Global};
 use strm_module::{Kind, Kinds, Outs, both, pass_on};
-use strm_msg::{Bytes, Message, MsgKind, NoMem, Side as Sides};
+use strm_msg::{BoxedMessage, Bytes, Message, MsgKind, NoMem, Side as Sides};
 
 /// The most bytes that are kept of a frame that has not ended: each byte of a datagram takes two at
 /// most.
@@ -69,9 +69,9 @@ fn unfinished(alloc: Global, bytes: &[u8]) -> Result<Vec<u8>, AllocError>
     Vec::from_slice(alloc, &frame[..MOST_KEPT.min(frame.len())])
 }
 
-/// A datagram on its way up.
-fn data_up(band: u8, datagram: Vec<u8>) -> (Sides, Message)
-    ensures { result ≡ (Side.Rd, data_msg band datagram.items) }
+/// A datagram on its way up, in a box of its own. Refused for want of memory alone.
+fn data_up(alloc: Global, band: u8, datagram: Vec<u8>) -> Result<(Sides, BoxedMessage), NoMem>
+    ensures { IfOk result (λ out. out ≡ (Side.Rd, data_msg band datagram.items)) }
 {
     let m = Message {
         kind: MsgKind::MData,
@@ -79,7 +79,7 @@ fn data_up(band: u8, datagram: Vec<u8>) -> (Sides, Message)
         ctl: None,
         dat: Some(datagram.into()),
     };
-    (Sides::Rd, m)
+    Ok((Sides::Rd, BoxedMessage::new(alloc, m)?))
 }
 
 /// The first two datagrams go up, and the rest is kept.
@@ -91,11 +91,12 @@ fn receive(alloc: Global, band: u8, bytes: &[u8]) -> Result<(Outs, Vec<u8>), NoM
         return Ok((Outs::new(), unfinished(alloc, bytes)?));
     };
     let Some((second, rest)) = first_datagram(alloc, rest)? else {
-        let (side, m) = data_up(band, first);
+        let (side, m) = data_up(alloc, band, first)?;
         return Ok((pass_on(side, m), unfinished(alloc, rest)?));
     };
-    let outs = both(data_up(band, first), data_up(band, second));
-    Ok((outs, Vec::from_slice(alloc, rest)?))
+    let first = data_up(alloc, band, first)?;
+    let second = data_up(alloc, band, second)?;
+    Ok((both(first, second), Vec::from_slice(alloc, rest)?))
 }
 
 /// Data on its way up is put behind what was kept.
@@ -122,7 +123,12 @@ fn let_by(alloc: Global, kept: &mut Bytes, kind: MsgKind)
 }
 
 /// What SLIP makes of a message.
-fn process_slip(alloc: Global, kept: &mut Bytes, side: Sides, m: Message) -> Result<Outs, NoMem>
+fn process_slip(
+    alloc: Global,
+    kept: &mut Bytes,
+    side: Sides,
+    m: BoxedMessage,
+) -> Result<Outs, NoMem>
     ensures outs { IfOk result (λ outs. outs.items ≡ (slip_action kept.old side m.kind m).outs) }
     ensures kept { OnOk result (SlipKind.Slip kept.new ≡ (slip_action kept.old side m.kind m).kind) }
     ensures err { OnErr result (kept.new ≡ kept.old) }
@@ -130,7 +136,7 @@ fn process_slip(alloc: Global, kept: &mut Bytes, side: Sides, m: Message) -> Res
     match (side, m.kind) {
         (Sides::Wr, MsgKind::MData) => {
             let dat = framed_part(alloc, &m.dat)?;
-            Ok(pass_on(side, Message { dat, ..m }))
+            Ok(pass_on(side, m.with_dat(dat)))
         }
         (Sides::Rd, MsgKind::MData) => receive_behind(alloc, kept, &m),
         _ => {
@@ -145,7 +151,7 @@ impl Kinds for SlipKind {
 
     ghost means = { slip };
 
-    fn process(&mut self, alloc: Global, side: Sides, m: Message) -> Result<Outs, NoMem> {
+    fn process(&mut self, alloc: Global, side: Sides, m: BoxedMessage) -> Result<Outs, NoMem> {
         match self {
             SlipKind::Builtin { kind } => kind.process(alloc, side, m),
             SlipKind::Slip { kept } => process_slip(alloc, kept, side, m),

@@ -93,7 +93,11 @@ fn plays(rt: &impl Abort, alloc: Global, chain: &mut Chain<ByShape>, step: Step)
 /// Whether this is what comes up at end B, or nothing does where nothing is wanted.
 fn comes_up<M: ModuleOf>(chain: &mut Chain<M>, want: Option<Message>) -> bool {
     let found = chain.take_head(End::B);
-    let is_so = found == want;
+    let is_so = match (&found, &want) {
+        (Some(m), Some(n)) => **m == *n,
+        (None, None) => true,
+        _ => false,
+    };
     drop(found);
     drop(want);
     is_so

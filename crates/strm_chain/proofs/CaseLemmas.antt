@@ -24,3 +24,8 @@ if_some None P C p f = p
 pub if_none : {T : Type 0} (o : Option T) (P C : Type 0) → IfNone o P → (P → C) → IfNone o C
 if_none (Some t) P C p f = p
 if_none None P C p f = f p
+
+-- what holds, holds of a refusal too
+pub always : {T E : Type 0} (r : Result T E) (P : Type 0) → P → OnErr r P
+always (Ok t) P p = tt
+always (Err e) P p = p

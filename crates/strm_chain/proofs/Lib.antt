@@ -2,6 +2,7 @@ pub mod CaseLemmas
 pub mod NumberLemmas
 pub mod EnablingLemmas
 pub mod HopLemmas
+pub mod StillLemmas
 pub mod LoadLemmas
 pub mod QuietLemmas
 pub mod SameLemmas

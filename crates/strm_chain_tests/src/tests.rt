@@ -9,7 +9,7 @@ use std::sync::Arc;
 use std::sync::atomic::{AtomicU64, Ordering};
 use strm_chain::{Chain, ChainFault, Driver, Place, Spot};
 use strm_module::{Boxed, Instance, Kind, Kinds, Module, ModuleOf, Plain, Shape};
-use strm_msg::{Bytes, End, Errno, Marks, Message, NoMem, Prot, ReadMode};
+use strm_msg::{BoxedMessage, Bytes, End, Errno, Marks, Message, NoMem, Prot, ReadMode};
 
 mod enabled;
 mod faults;
@@ -216,6 +216,11 @@ fn message(rt: &impl Abort, alloc: Global, sample: Sample) -> Message {
     made(rt, alloc, sample).expect(rt, "no memory for a message")
 }
 
+/// The same message in a box.
+fn boxed_message(rt: &impl Abort, alloc: Global, sample: Sample) -> BoxedMessage {
+    BoxedMessage::new(alloc, message(rt, alloc, sample)).expect(rt, "no memory for a box")
+}
+
 /// The message that is wanted, if any is.
 fn wanted(rt: &impl Abort, alloc: Global, want: Option<Sample>) -> Option<Message> {
     match want {
@@ -225,15 +230,19 @@ fn wanted(rt: &impl Abort, alloc: Global, want: Option<Sample>) -> Option<Messag
 }
 
 /// Whether two messages are equal, or none is there where none is wanted. They are dropped by name, which is one call each.
-fn are_same(found: Option<Message>, want: Option<Message>) -> bool {
-    let is_so = found == want;
+fn are_same(found: Option<BoxedMessage>, want: Option<Message>) -> bool {
+    let is_so = match (&found, &want) {
+        (Some(m), Some(n)) => **m == *n,
+        (None, None) => true,
+        _ => false,
+    };
     drop(found);
     drop(want);
     is_so
 }
 
 /// Whether a message was taken and none came back.
-fn is_taken(answer: Result<(), Message>) -> bool {
+fn is_taken(answer: Result<(), BoxedMessage>) -> bool {
     let is_so = answer.is_ok();
     drop(answer);
     is_so

@@ -9,7 +9,7 @@ ghost use Rattle.strm_head.specs.Inside.{IsKept};
 use crate::outcome::Arrived;
 use strm_chain::{Chain, ChainFault, Driver, Spot, deliver};
 use strm_module::ModuleOf;
-use strm_msg::{End, Message};
+use strm_msg::{BoxedMessage, End, Message};
 
 /// Whether a message can come in.
 fn can_arrive<M: ModuleOf>(chain: &Chain<M>, m: &Message) -> bool
@@ -49,6 +49,23 @@ fn send_up<M: ModuleOf>(chain: &mut Chain<M>, m: Message) -> Result<(), Arrived>
     }
 }
 
+/// An ordinary message waits in the line's list. It comes back for want of memory alone.
+fn wait_below<M: ModuleOf>(chain: &mut Chain<M>, m: Message) -> Result<(), Arrived>
+    requires can { can_arrive chain.old.image Ends.A m ≡ true }
+    requires ordinary { is_high m.kind ≡ false }
+    ensures image { OnOk result (chain.new.image ≡ arrived_of M.Kind.means chain.old.image Ends.A m) }
+    ensures err { IfErr result (λ arrived. NotIn M.Kind.means chain.old.image m arrived chain.new.image) }
+{
+    let m = match BoxedMessage::try_new(chain.alloc(), m) {
+        Ok(m) => m,
+        Err(m) => return Err(Arrived::NoMem(m)),
+    };
+    match chain.line_put(m) {
+        Ok(()) => Ok(()),
+        Err(m) => Err(Arrived::NoMem(m.into_message())),
+    }
+}
+
 /// A message that can come in does so: an ordinary one waits in the line's list, a high one goes up.
 fn take_in<M: ModuleOf>(chain: &mut Chain<M>, m: Message) -> Result<(), Arrived>
     requires can { can_arrive chain.old.image Ends.A m ≡ true }
@@ -58,10 +75,7 @@ fn take_in<M: ModuleOf>(chain: &mut Chain<M>, m: Message) -> Result<(), Arrived>
     if m.is_high() {
         return send_up(chain, m);
     }
-    match chain.line_put(m) {
-        Ok(()) => Ok(()),
-        Err(m) => Err(Arrived::NoMem(m)),
-    }
+    wait_below(chain, m)
 }
 
 /// A message comes in from a line, and what must move moves.

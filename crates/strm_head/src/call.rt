@@ -22,7 +22,7 @@ use strm_ioctl::{
     push_refusal, str_refusal,
 };
 use strm_module::{Boxed, ModuleOf};
-use strm_msg::{End, Errno, Message, NoMem};
+use strm_msg::{BoxedMessage, End, Errno, Message, NoMem};
 use strm_msgio::{
     getmsg_refusal, getpmsg_refusal, putmsg_refusal, putpmsg_refusal, read_refusal, write_refusal,
 };
@@ -203,12 +203,22 @@ fn finish<M: ModuleOf>(chain: &mut Chain<M>, end: End, reply: Twins) -> Answered
     }
 }
 
+/// A message without its box, where there is one. Takes no memory.
+fn unboxed(kept: Option<BoxedMessage>) -> Option<Message>
+    ensures { result ≡ kept }
+{
+    match kept {
+        Some(m) => Some(m.into_message()),
+        None => None,
+    }
+}
+
 /// The answer to an ioctl that a head has kept, and an equal one. Refused for want of memory alone.
-fn answer_of(alloc: Global, kept: &Option<Message>) -> Result<Acknowledged, NoMem>
+fn answer_of(alloc: Global, kept: &Option<BoxedMessage>) -> Result<Acknowledged, NoMem>
     ensures { IfOk result (λ answer. answer ≡ acknowledged kept.now) }
 {
     match kept {
-        Some(m) => Ok(acknowledged(Some(m.copy(alloc)?))),
+        Some(m) => Ok(acknowledged(Some(Message::copy(m, alloc)?))),
         None => Ok(Acknowledged::Timeout),
     }
 }
@@ -228,7 +238,7 @@ fn finish_ioctl<M: ModuleOf>(chain: &mut Chain<M>, end: End) -> Answered
         Ok(twin) => twin,
         Err(_) => return broken(chain),
     };
-    let answer = acknowledged(chain.end_ioctl(end));
+    let answer = acknowledged(unboxed(chain.end_ioctl(end)));
     Answered::done(
         Twins::new(Reply::Str { answer }, Reply::Str { answer: twin }),
         settled,

@@ -15,7 +15,7 @@ mod stream;
 
 pub use answered::Answered;
 pub use call::refusals_are_in_order;
-pub use event::{BoxedMessage, Event};
+pub use event::Event;
 pub use fault::NewFault;
 pub use outcome::{Arrived, Outcome};
 pub use stream::Stream;

@@ -14,9 +14,9 @@ use crate::receipt::Receipt;
 use crate::serials::{AllSerials, Serials, room_for_serials};
 use std::alloc::Global;
 use std::marker::Model;
-use strm_head::{Answer, BoxedMessage, Event, Moves, Reply};
+use strm_head::{Answer, Event, Moves, Reply};
 use strm_module::{Boxed, ModuleOf};
-use strm_msg::{End, Message, NoMem};
+use strm_msg::{BoxedMessage, End, Message, NoMem};
 use strm_once::Cell;
 
 /// Room for the entry of a call, found before the call is made: the entry, in its box, but for what becomes of the call.

@@ -341,9 +341,7 @@ fn is_same_event<K: SameKind + Drop>(
 {
     match (one, other) {
         (Event::Asked(one), Event::Asked(other)) => is_same_request(one, other),
-        (Event::Arrived(one), Event::Arrived(other)) => {
-            is_same_message(one.message(), other.message())
-        }
+        (Event::Arrived(one), Event::Arrived(other)) => { is_same_message(one, other) }
         _ => false,
     }
 }

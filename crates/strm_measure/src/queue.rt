@@ -2,7 +2,7 @@
 use std::alloc::Global;
 use std::rt::Clock;
 use std::time::Instant;
-use strm_msg::{Message, NoMem};
+use strm_msg::{BoxedMessage, Message, NoMem};
 use strm_queue::{BandQueue, Marks};
 
 /// How many messages wait, in turn.
@@ -17,7 +17,7 @@ const BANDS: u32 = 8;
 /// Puts a message of one byte, whose band hangs on its number.
 fn put(alloc: Global, queue: &mut BandQueue, number: u32) -> Result<(), NoMem> {
     let band = (number % BANDS) as u8;
-    let m = Message::of_data(alloc, band, b"x")?;
+    let m = BoxedMessage::new(alloc, Message::of_data(alloc, band, b"x")?)?;
     match queue.put(m) {
         Ok(()) => Ok(()),
         Err(m) => {

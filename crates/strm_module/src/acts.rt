@@ -10,7 +10,7 @@ use crate::bytes;
 use crate::kind::MOST_KEPT;
 use crate::outs::{Outs, both, pass_on, reply};
 use std::alloc::Global;
-use strm_msg::{Bytes, Message, MsgKind, NoMem, Side};
+use strm_msg::{BoxedMessage, Bytes, Message, MsgKind, NoMem, Side};
 
 /// A part mapped byte by byte, where there is one.
 fn mapped_part(
@@ -51,14 +51,14 @@ pub(crate) fn act_table(
     alloc: Global,
     table: &[u8; 256],
     side: Side,
-    m: Message,
+    m: BoxedMessage,
 ) -> Result<Outs, NoMem>
     ensures { IfOk result (λ outs. outs.items ≡ (table_action table.now side m.kind m).outs) }
 {
     match (side, m.kind) {
         (Side::Wr, MsgKind::MData) => {
             let dat = mapped_part(alloc, table, &m.dat)?;
-            Ok(pass_on(side, Message { dat, ..m }))
+            Ok(pass_on(side, m.with_dat(dat)))
         }
         (Side::Wr, MsgKind::MIoctl { id, cmd: 3 }) => {
             let dat = mapped_part(alloc, table, &m.dat)?;
@@ -66,43 +66,48 @@ pub(crate) fn act_table(
                 Some(bytes) => bytes.len() as u64,
                 None => 0,
             };
-            Ok(reply(Message::of_ack(id, rval, dat)))
+            Ok(reply(m.becoming(Message::of_ack(id, rval, dat))))
         }
         _ => Ok(pass_on(side, m)),
     }
 }
 
 /// Turns LF into CR LF on the way down, and back on the way up.
-pub(crate) fn act_crnl(alloc: Global, side: Side, m: Message) -> Result<Outs, NoMem>
+pub(crate) fn act_crnl(alloc: Global, side: Side, m: BoxedMessage) -> Result<Outs, NoMem>
     ensures { IfOk result (λ outs. outs.items ≡ (crnl_action side m.kind m).outs) }
 {
     match (side, m.kind) {
         (Side::Wr, MsgKind::MData) => {
             let dat = part_with_cr(alloc, &m.dat)?;
-            Ok(pass_on(side, Message { dat, ..m }))
+            Ok(pass_on(side, m.with_dat(dat)))
         }
         (Side::Rd, MsgKind::MData) => {
             let dat = part_without_cr(alloc, &m.dat)?;
-            Ok(pass_on(side, Message { dat, ..m }))
+            Ok(pass_on(side, m.with_dat(dat)))
         }
         _ => Ok(pass_on(side, m)),
     }
 }
 
-/// A message of data of band 0.
-fn data_up(bytes: Vec<u8>) -> Outs
+/// Data of band 0 goes up, in the box of another message.
+fn data_up(m: BoxedMessage, bytes: Vec<u8>) -> Outs
     ensures { result.items ≡ (Side.Rd, data_msg 0 bytes.items) ∷ [] }
 {
-    reply(Message {
+    reply(m.becoming(Message {
         kind: MsgKind::MData,
         band: 0,
         ctl: None,
         dat: Some(bytes.into()),
-    })
+    }))
 }
 
-/// Sends whole lines up and keeps what follows them.
-fn split_lines(alloc: Global, partial: &mut Bytes, mut all: Vec<u8>) -> Result<Outs, NoMem>
+/// Sends whole lines up, in the box of the message that came last, and keeps what follows them; too long a rest goes up too.
+fn split_lines(
+    alloc: Global,
+    partial: &mut Bytes,
+    m: BoxedMessage,
+    mut all: Vec<u8>,
+) -> Result<Outs, NoMem>
     ensures outs { IfOk result (λ outs. outs.items ≡ (line_splits all.items).outs) }
     ensures kept { OnOk result (Kind.Line partial.new ≡ (line_splits all.items).kind) }
     ensures err { OnErr result (partial.new ≡ partial.old) }
@@ -110,7 +115,7 @@ fn split_lines(alloc: Global, partial: &mut Bytes, mut all: Vec<u8>) -> Result<O
     let rest = bytes::rest_len(&all);
     if rest > MOST_KEPT {
         *partial = Vec::new(alloc).into();
-        return Ok(data_up(all));
+        return Ok(data_up(m, all));
     }
     let whole = all.len() - rest;
     *partial = Bytes::from_slice(alloc, &all[whole..])?;
@@ -118,7 +123,7 @@ fn split_lines(alloc: Global, partial: &mut Bytes, mut all: Vec<u8>) -> Result<O
         return Ok(Outs::new());
     }
     all.truncate(whole);
-    Ok(data_up(all))
+    Ok(data_up(m, all))
 }
 
 /// Puts data of band 0 on its way up behind what was kept.
@@ -126,7 +131,7 @@ pub(crate) fn act_line(
     alloc: Global,
     partial: &mut Bytes,
     side: Side,
-    m: Message,
+    m: BoxedMessage,
 ) -> Result<Outs, NoMem>
     ensures outs { IfOk result (λ outs. outs.items ≡ (line_action partial.old side m.kind m).outs) }
     ensures kept { OnOk result (Kind.Line partial.new
@@ -139,14 +144,14 @@ pub(crate) fn act_line(
                 Some(more) => bytes::joined(alloc, partial.as_slice(), more.as_slice())?,
                 None => Vec::from_slice(alloc, partial.as_slice())?,
             };
-            split_lines(alloc, partial, all)
+            split_lines(alloc, partial, m, all)
         }
         _ => Ok(pass_on(side, m)),
     }
 }
 
 /// Counts data on its way down, and answers ioctls 1 and 2 with the count.
-pub(crate) fn act_count(n: &mut u64, side: Side, m: Message) -> Outs
+pub(crate) fn act_count(n: &mut u64, side: Side, m: BoxedMessage) -> Outs
     ensures outs { result.items ≡ (count_action n.old side m.kind m).outs }
     ensures kept { Kind.Count n.new ≡ (count_action n.old side m.kind m).kind }
 {
@@ -155,28 +160,30 @@ pub(crate) fn act_count(n: &mut u64, side: Side, m: Message) -> Outs
             *n = n.saturating_add(1);
             pass_on(side, m)
         }
-        (Side::Wr, MsgKind::MIoctl { id, cmd: 1 }) => reply(Message::of_ack(id, *n, None)),
+        (Side::Wr, MsgKind::MIoctl { id, cmd: 1 }) => {
+            reply(m.becoming(Message::of_ack(id, *n, None)))
+        }
         (Side::Wr, MsgKind::MIoctl { id, cmd: 2 }) => {
             let counted = *n;
             *n = 0;
-            reply(Message::of_ack(id, counted, None))
+            reply(m.becoming(Message::of_ack(id, counted, None)))
         }
         _ => pass_on(side, m),
     }
 }
 
 /// Puts data and protocol messages on their way down into a band.
-pub(crate) fn act_band(b: u8, side: Side, m: Message) -> Outs
+pub(crate) fn act_band(b: u8, side: Side, m: BoxedMessage) -> Outs
     ensures { result.items ≡ (band_action b side m.kind m).outs }
 {
     match (side, m.kind) {
-        (Side::Wr, MsgKind::MData | MsgKind::MProto) => pass_on(side, Message { band: b, ..m }),
+        (Side::Wr, MsgKind::MData | MsgKind::MProto) => pass_on(side, m.with_band(b)),
         _ => pass_on(side, m),
     }
 }
 
 /// Sends data on its way down up too.
-pub(crate) fn act_tee(alloc: Global, side: Side, m: Message) -> Result<Outs, NoMem>
+pub(crate) fn act_tee(alloc: Global, side: Side, m: BoxedMessage) -> Result<Outs, NoMem>
     ensures { IfOk result (λ outs. outs.items ≡ (tee_action side m.kind m).outs) }
 {
     match (side, m.kind) {
@@ -189,21 +196,22 @@ pub(crate) fn act_tee(alloc: Global, side: Side, m: Message) -> Result<Outs, NoM
 }
 
 /// Sends data of a message on in two, where it is of more than `n` bytes: its first `n` bytes, then the rest.
-fn split_data(alloc: Global, n: usize, m: Message) -> Result<Outs, NoMem>
+fn split_data(alloc: Global, n: usize, m: BoxedMessage) -> Result<Outs, NoMem>
     ensures { IfOk result (λ outs. outs.items ≡ (split_action n Side.Wr MData m).outs) }
 {
     match &m.dat {
         Some(bytes) if bytes.len() > n => {
             let first = Message::of_data(alloc, m.band, &bytes.as_slice()[..n])?;
+            let first = BoxedMessage::new(alloc, first)?;
             let rest = Message::of_data(alloc, m.band, &bytes.as_slice()[n..])?;
-            Ok(both((Side::Wr, first), (Side::Wr, rest)))
+            Ok(both((Side::Wr, first), (Side::Wr, m.becoming(rest))))
         }
         _ => Ok(pass_on(Side::Wr, m)),
     }
 }
 
 /// Sends data of more than `n` bytes on its way down on in two messages.
-pub(crate) fn act_split(alloc: Global, n: usize, side: Side, m: Message) -> Result<Outs, NoMem>
+pub(crate) fn act_split(alloc: Global, n: usize, side: Side, m: BoxedMessage) -> Result<Outs, NoMem>
     ensures { IfOk result (λ outs. outs.items ≡ (split_action n side m.kind m).outs) }
 {
     match (side, m.kind) {
@@ -213,7 +221,7 @@ pub(crate) fn act_split(alloc: Global, n: usize, side: Side, m: Message) -> Resu
 }
 
 /// Drops data on its way down.
-pub(crate) fn act_mute(side: Side, m: Message) -> Outs
+pub(crate) fn act_mute(side: Side, m: BoxedMessage) -> Outs
     ensures { result.items ≡ (mute_action side m.kind m).outs }
 {
     match (side, m.kind) {

@@ -10,7 +10,7 @@ use crate::outs::{Outs, Put};
 use crate::shape::Shape;
 use std::alloc::Global;
 use std::marker::Model;
-use strm_msg::{Message, NoMem, Side};
+use strm_msg::{BoxedMessage, NoMem, Side};
 
 /// A module in a box, so that whoever hands it on moves a pointer. A contract sees the shape.
 #[derive(Drop)]
@@ -52,7 +52,7 @@ impl<M: ModuleOf> Boxed<M> {
     }
 
     /// A message comes to the module on a side.
-    pub fn put(&mut self, alloc: Global, side: Side, m: Message) -> Result<Put, NoMem>
+    pub fn put(&mut self, alloc: Global, side: Side, m: BoxedMessage) -> Result<Put, NoMem>
         ensures answer { IfOk result (λ put. put ≡ (put_of M.Kind.means self.old side m).answer) }
         ensures after { OnOk result (self.new ≡ (put_of M.Kind.means self.old side m).shape) }
         ensures err { OnErr result (self.new ≡ self.old) }
@@ -63,7 +63,7 @@ impl<M: ModuleOf> Boxed<M> {
     }
 
     /// A message that was queued on a side has its turn.
-    pub fn serve(&mut self, alloc: Global, side: Side, m: Message) -> Result<Outs, NoMem>
+    pub fn serve(&mut self, alloc: Global, side: Side, m: BoxedMessage) -> Result<Outs, NoMem>
         ensures outs { IfOk result (λ outs. outs.items ≡ (serve_of M.Kind.means self.old side m).outs) }
         ensures after { OnOk result (self.new ≡ (serve_of M.Kind.means self.old side m).shape) }
         ensures err { OnErr result (self.new ≡ self.old) }

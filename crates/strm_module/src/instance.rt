@@ -8,7 +8,7 @@ use crate::outs::{Outs, Put};
 use crate::shape::Shape;
 use std::alloc::Global;
 use std::marker::Model;
-use strm_msg::{Message, NoMem, Side};
+use strm_msg::{BoxedMessage, NoMem, Side};
 
 /// A module as it is handed to a stream: its shape, and the object that acts for it, which stay
 /// together. A contract sees the shape.
@@ -62,7 +62,7 @@ impl<M: ModuleOf> Instance<M> {
     /// A message comes to the module on a side: the object's put procedure has it (put(9E)).
     ///
     /// Refused for want of memory alone: then the shape is as before, and the message is dropped.
-    pub fn put(&mut self, alloc: Global, side: Side, m: Message) -> Result<Put, NoMem>
+    pub fn put(&mut self, alloc: Global, side: Side, m: BoxedMessage) -> Result<Put, NoMem>
         ensures answer { IfOk result (λ put. put ≡ (put_of M.Kind.means self.old side m).answer) }
         ensures after { OnOk result (self.new ≡ (put_of M.Kind.means self.old side m).shape) }
         ensures err { OnErr result (self.new ≡ self.old) }
@@ -76,7 +76,7 @@ impl<M: ModuleOf> Instance<M> {
     /// (srv(9E)).
     ///
     /// Refused for want of memory alone: then the shape is as before, and the message is dropped.
-    pub fn serve(&mut self, alloc: Global, side: Side, m: Message) -> Result<Outs, NoMem>
+    pub fn serve(&mut self, alloc: Global, side: Side, m: BoxedMessage) -> Result<Outs, NoMem>
         ensures outs { IfOk result (λ outs. outs.items ≡ (serve_of M.Kind.means self.old side m).outs) }
         ensures after { OnOk result (self.new ≡ (serve_of M.Kind.means self.old side m).shape) }
         ensures err { OnErr result (self.new ≡ self.old) }

@@ -8,7 +8,7 @@ use crate::acts::{
 use crate::outs::{Outs, pass_on};
 use crate::vocabulary::Kinds;
 use std::alloc::Global;
-use strm_msg::{Bytes, Class, Message, MsgKind, NoMem, Side};
+use strm_msg::{BoxedMessage, Bytes, Class, MsgKind, NoMem, Side};
 
 /// The longest unfinished line that is kept, in bytes.
 pub const MOST_KEPT: usize = 4096;
@@ -65,7 +65,7 @@ pub enum Kind {
 }
 
 /// An ordinary message, by the kind of the module.
-fn act(alloc: Global, kind: &mut Kind, side: Side, m: Message) -> Result<Outs, NoMem>
+fn act(alloc: Global, kind: &mut Kind, side: Side, m: BoxedMessage) -> Result<Outs, NoMem>
     ensures outs { IfOk result (λ outs. outs.items ≡ (ordinary_action kind.old side m).outs) }
     ensures kept { OnOk result (kind.new ≡ (ordinary_action kind.old side m).kind) }
     ensures err { OnErr result (kind.new ≡ kind.old) }
@@ -106,7 +106,7 @@ impl Kinds for Kind {
 
     ghost means = { builtin };
 
-    fn process(&mut self, alloc: Global, side: Side, m: Message) -> Result<Outs, NoMem> {
+    fn process(&mut self, alloc: Global, side: Side, m: BoxedMessage) -> Result<Outs, NoMem> {
         match m.class() {
             Class::High => {
                 flush(alloc, self, m.kind);

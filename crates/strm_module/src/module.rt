@@ -8,7 +8,7 @@ use crate::outs::{Outs, Put};
 use crate::shape::Shape;
 use crate::vocabulary::Kinds;
 use std::alloc::Global;
-use strm_msg::{Message, NoMem, Side};
+use strm_msg::{BoxedMessage, NoMem, Side};
 
 /// A module's put and service procedures (qinit(9S)), for kinds of any vocabulary. Implement this
 /// for the objects of a discipline that you port; for one of the built-in kinds implement `Module`,
@@ -76,7 +76,7 @@ pub trait ModuleOf: Send + Drop {
         alloc: Global,
         shape: &mut Shape<Self::Kind>,
         side: Side,
-        m: Message,
+        m: BoxedMessage,
     ) -> Result<Put, NoMem>
         ensures answer { IfOk result (λ put. put ≡ (put_of Self.Kind.means shape.old side m).answer) }
         ensures after { OnOk result (shape.new ≡ (put_of Self.Kind.means shape.old side m).shape) }
@@ -93,7 +93,7 @@ pub trait ModuleOf: Send + Drop {
         alloc: Global,
         shape: &mut Shape<Self::Kind>,
         side: Side,
-        m: Message,
+        m: BoxedMessage,
     ) -> Result<Outs, NoMem>
         ensures outs { IfOk result (λ outs. outs.items ≡ (serve_of Self.Kind.means shape.old side m).outs) }
         ensures after { OnOk result (shape.new ≡ (serve_of Self.Kind.means shape.old side m).shape) }
@@ -117,7 +117,7 @@ pub trait Module: Send + Drop {
         alloc: Global,
         shape: &mut Shape,
         side: Side,
-        m: Message,
+        m: BoxedMessage,
     ) -> Result<Put, NoMem>
         ensures answer { IfOk result (λ put. put ≡ (put_of builtin shape.old side m).answer) }
         ensures after { OnOk result (shape.new ≡ (put_of builtin shape.old side m).shape) }
@@ -134,7 +134,7 @@ pub trait Module: Send + Drop {
         alloc: Global,
         shape: &mut Shape,
         side: Side,
-        m: Message,
+        m: BoxedMessage,
     ) -> Result<Outs, NoMem>
         ensures outs { IfOk result (λ outs. outs.items ≡ (serve_of builtin shape.old side m).outs) }
         ensures after { OnOk result (shape.new ≡ (serve_of builtin shape.old side m).shape) }
@@ -151,7 +151,7 @@ impl Module for Box<dyn Module> {
         alloc: Global,
         shape: &mut Shape,
         side: Side,
-        m: Message,
+        m: BoxedMessage,
     ) -> Result<Put, NoMem> {
         (**self).put(alloc, shape, side, m)
     }
@@ -161,7 +161,7 @@ impl Module for Box<dyn Module> {
         alloc: Global,
         shape: &mut Shape,
         side: Side,
-        m: Message,
+        m: BoxedMessage,
     ) -> Result<Outs, NoMem> {
         (**self).serve(alloc, shape, side, m)
     }
@@ -176,7 +176,7 @@ impl<M: Module> ModuleOf for M {
         alloc: Global,
         shape: &mut Shape,
         side: Side,
-        m: Message,
+        m: BoxedMessage,
     ) -> Result<Put, NoMem> {
         Module::put(self, alloc, shape, side, m)
     }
@@ -186,7 +186,7 @@ impl<M: Module> ModuleOf for M {
         alloc: Global,
         shape: &mut Shape,
         side: Side,
-        m: Message,
+        m: BoxedMessage,
     ) -> Result<Outs, NoMem> {
         Module::serve(self, alloc, shape, side, m)
     }

@@ -1,47 +1,81 @@
 //! What a module answers and sends.
 ghost use Rattle.std.specs.Prelude.{◌≡◌, [], ◌∷◌};
 ghost use Rattle.strm_msg.specs.declared.words.Side.TheVariants as Side;
+ghost use Rattle.strm_module.specs.Kinds.{placed};
 
-use arrayvec::ArrayVec;
-use strm_msg::{Message, Side as Sides};
+use std::marker::Model;
+use strm_msg::{BoxedMessage, Side as Sides};
 
 /// What a module sends: at most two messages, in the order in which they leave, each with its side.
 /// `Wr` goes down, to the next module or the driver, and `Rd` goes up, to the next module or the
-/// head. `Outs::new()` sends nothing.
-pub type Outs = ArrayVec<(Sides, Message), 2>;
+/// head. `Outs::new()` sends nothing; `pass_on`, `reply` and `both` make one. A contract sees a list, `items`.
+#[derive(Debug, Drop)]
+pub struct Outs {
+    first: Option<(Sides, BoxedMessage)>,
+    second: Option<(Sides, BoxedMessage)>,
+}
+
+impl Model for Outs {
+    ghost use Rattle.strm_module.specs.Kinds.{Sends, placed};
+
+    ghost Value = { Sends };
+
+    ghost view = { λ outs. record { items = placed outs.first outs.second } };
+}
+
+impl Outs {
+    /// Nothing is sent.
+    pub fn new() -> Self
+        ensures { result.items ≡ [] }
+    {
+        Outs {
+            first: None,
+            second: None,
+        }
+    }
+
+    /// The messages, each with its side, in the order in which they leave.
+    pub fn into_parts(self) -> (Option<(Sides, BoxedMessage)>, Option<(Sides, BoxedMessage)>)
+        ensures { placed result.0 result.1 ≡ self.items }
+    {
+        let Outs { first, second } = self;
+        (first, second)
+    }
+}
 
 /// What a module does with a message that comes to it.
-#[derive(Debug, Drop, PartialEq, Eq)]
+#[derive(Debug, Drop)]
 pub enum Put {
     /// The message waits in the module's queue of the side on which it came. It is handed to
     /// `serve` once the queue ahead has room.
-    Queue(Message),
+    Queue(BoxedMessage),
     /// This is sent at once, and nothing waits.
     Sent(Outs),
 }
 
 /// One message, on along a side (putnext(9F)).
-pub fn pass_on(side: Sides, m: Message) -> Outs
+pub fn pass_on(side: Sides, m: BoxedMessage) -> Outs
     ensures { result.items ≡ (side, m) ∷ [] }
 {
-    let mut outs = Outs::new();
-    outs.push((side, m));
-    outs
+    Outs {
+        first: Some((side, m)),
+        second: None,
+    }
 }
 
 /// One message, back up: the answer to one that came down (qreply(9F)).
-pub fn reply(m: Message) -> Outs
+pub fn reply(m: BoxedMessage) -> Outs
     ensures { result.items ≡ (Side.Rd, m) ∷ [] }
 {
     pass_on(Sides::Rd, m)
 }
 
 /// Two messages, in this order.
-pub fn both(first: (Sides, Message), second: (Sides, Message)) -> Outs
+pub fn both(first: (Sides, BoxedMessage), second: (Sides, BoxedMessage)) -> Outs
     ensures { result.items ≡ first ∷ (second ∷ []) }
 {
-    let mut outs = Outs::new();
-    outs.push(first);
-    outs.push(second);
-    outs
+    Outs {
+        first: Some(first),
+        second: Some(second),
+    }
 }

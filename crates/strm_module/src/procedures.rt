@@ -9,14 +9,14 @@ use crate::outs::{Outs, Put};
 use crate::shape::Shape;
 use crate::vocabulary::Kinds;
 use std::alloc::Global;
-use strm_msg::{Class, Message, NoMem, Side as Sides};
+use strm_msg::{BoxedMessage, Class, NoMem, Side as Sides};
 
 impl<K: Kinds> Shape<K> {
     /// What a module of this shape does with a message that comes to it on a side (put(9E)): an
     /// ordinary one is queued where the side has marks, and any other is served at once.
     ///
     /// Refused for want of memory alone: then the shape is as before, and the message is dropped.
-    pub fn put(&mut self, alloc: Global, side: Sides, m: Message) -> Result<Put, NoMem>
+    pub fn put(&mut self, alloc: Global, side: Sides, m: BoxedMessage) -> Result<Put, NoMem>
         ensures answer { IfOk result (λ put. put ≡ (put_of K.means self.old side m).answer) }
         ensures after { OnOk result (self.new ≡ (put_of K.means self.old side m).shape) }
         ensures err { OnErr result (self.new ≡ self.old) }
@@ -32,7 +32,7 @@ impl<K: Kinds> Shape<K> {
     /// What a module of this shape does with a message that was queued on a side (srv(9E)).
     ///
     /// Refused for want of memory alone: then the shape is as before, and the message is dropped.
-    pub fn serve(&mut self, alloc: Global, side: Sides, m: Message) -> Result<Outs, NoMem>
+    pub fn serve(&mut self, alloc: Global, side: Sides, m: BoxedMessage) -> Result<Outs, NoMem>
         ensures outs { IfOk result (λ outs. outs.items ≡ (serve_of K.means self.old side m).outs) }
         ensures after { OnOk result (self.new ≡ (serve_of K.means self.old side m).shape) }
         ensures err { OnErr result (self.new ≡ self.old) }

@@ -4,7 +4,7 @@ ghost use Rattle.strm_module.specs.Kinds.{all_go_up};
 
 use crate::outs::Outs;
 use std::alloc::Global;
-use strm_msg::{Message, NoMem, Side};
+use strm_msg::{BoxedMessage, NoMem, Side};
 
 /// The kinds of module that a program has: plain data with a meaning. `Kind` has those that are built in; a type of
 /// your own has the disciplines that you port.
@@ -26,10 +26,11 @@ pub trait Kinds: Drop {
     ghost means: { Meaning Self };
 
     /// A message is processed: one that came and is not queued, or one that was queued and has its
-    /// turn. `side` is the side on which it came. What comes up is only sent further up.
+    /// turn. `side` is the side on which it came. What comes up is only sent further up. It comes in its box, in which what is
+    /// made of it can go on without memory.
     ///
     /// Refused for want of memory alone: then the kind is as before, and the message is dropped.
-    fn process(&mut self, alloc: Global, side: Side, m: Message) -> Result<Outs, NoMem>
+    fn process(&mut self, alloc: Global, side: Side, m: BoxedMessage) -> Result<Outs, NoMem>
         ensures outs { IfOk result (λ outs. outs.items ≡ (means self.old side m).outs) }
         ensures kept { OnOk result (self.new ≡ (means self.old side m).kind) }
         ensures err { OnErr result (self.new ≡ self.old) }

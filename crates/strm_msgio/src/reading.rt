@@ -12,7 +12,7 @@ use std::alloc::Global;
 use strm_call::{Refusal, Reply, Twins};
 use strm_chain::Chain;
 use strm_module::ModuleOf;
-use strm_msg::{Bytes, End, Message, NoMem, Prot, ReadMode};
+use strm_msg::{BoxedMessage, Bytes, End, Message, NoMem, Prot, ReadMode};
 use strm_queue::BandQueue;
 
 /// The bytes of the messages that a read gives whole, and how many messages they are.
@@ -226,6 +226,7 @@ fn replace_front<M: ModuleOf>(
         take_away(chain, end, gone);
         return Ok(());
     };
+    let rest = BoxedMessage::new(chain.alloc(), rest)?;
     chain.head_room(end, rest.rank())?;
     take_away(chain, end, gone);
     chain.put_back_head(end, rest).unwrap();

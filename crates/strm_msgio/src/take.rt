@@ -16,7 +16,7 @@ use std::alloc::Global;
 use strm_call::{GetFlag, More, Peeked, Priority, Received, Refusal, Reply, Twins, Wanted};
 use strm_chain::Chain;
 use strm_module::ModuleOf;
-use strm_msg::{Bytes, End, Message, NoMem};
+use strm_msg::{BoxedMessage, Bytes, End, Message, NoMem};
 
 /// What is given of a first message, with an equal reply, and what stays of the message.
 #[derive(Drop)]
@@ -167,6 +167,7 @@ fn replace_first<M: ModuleOf>(
         drop(chain.take_head(end));
         return Ok(());
     };
+    let rest = BoxedMessage::new(chain.alloc(), rest)?;
     if let Err(wanting) = chain.head_room(end, rest.rank()) {
         drop(rest);
         return Err(wanting);

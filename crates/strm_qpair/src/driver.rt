@@ -1,5 +1,5 @@
 //! The driver at the bottom of a stream.
-use strm_msg::{Message, Prot, ReadMode};
+use strm_msg::{BoxedMessage, Prot, ReadMode};
 
 /// What stands at the bottom of a stream.
 #[derive(Clone, Copy, Debug, PartialEq, Eq)]
@@ -15,14 +15,14 @@ pub enum Driver {
 }
 
 /// What a driver sends at once, when a message comes to it from above.
-#[derive(Debug, Drop, PartialEq, Eq)]
+#[derive(Debug, Drop)]
 pub enum DriverSends {
     /// Nothing.
     Nothing,
     /// A message back up the end on which the other came (qreply(9F)).
-    Reply(Message),
+    Reply(BoxedMessage),
     /// A message on, up the read side that what came down this end goes up.
-    Across(Message),
+    Across(BoxedMessage),
     /// Options up the end on which the ioctl came that asked for them, and then its ack, without value and data.
     Options {
         /// How read treats the bounds of messages, where it is given.

@@ -13,7 +13,7 @@ use arrayvec::ArrayVec;
 use std::alloc::Global;
 use std::marker::Model;
 use strm_module::{Boxed, ModuleOf, Outs, Shape};
-use strm_msg::{Message, NoMem, Prot, ReadMode, Side};
+use strm_msg::{BoxedMessage, Message, NoMem, Prot, ReadMode, Side};
 use strm_queue::{BandQueue, Marks};
 
 mod canput;
@@ -143,7 +143,13 @@ impl<M: ModuleOf> StreamEnd<M> {
 
     /// The module with this number takes a message that comes to it on a side; without one it is
     /// dropped. Refused for want of memory alone: then nothing is changed.
-    pub fn put_at(&mut self, alloc: Global, i: usize, side: Side, m: Message) -> Result<Outs, NoMem>
+    pub fn put_at(
+        &mut self,
+        alloc: Global,
+        i: usize,
+        side: Side,
+        m: BoxedMessage,
+    ) -> Result<Outs, NoMem>
         ensures outs { IfOk result (λ outs. outs.items ≡ (end_gets M.Kind.means self.old.state i side m).outs) }
         ensures state { OnOk result (self.new.state ≡ (end_gets M.Kind.means self.old.state i side m).state) }
         ensures err { OnErr result (self.new.state ≡ self.old.state) }

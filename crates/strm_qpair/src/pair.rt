@@ -9,7 +9,7 @@ ghost use Rattle.strm_qpair.specs.Canput.{fill_of, fill_on};
 use std::alloc::Global;
 use std::marker::Model;
 use strm_module::{Boxed, ModuleOf, Outs, Put, Shape};
-use strm_msg::{Message, MsgKind, NoMem, Side};
+use strm_msg::{BoxedMessage, Message, MsgKind, NoMem, Side};
 use strm_queue::{BandQueue, Marks};
 
 /// A module with its two queues: one on each side for which its shape has marks.
@@ -69,7 +69,7 @@ fn flush_queue(queue: &mut Option<BandQueue>, band: Option<u8>)
 }
 
 /// Puts a message into a queue that is there.
-fn put_in_queue(queue: &mut Option<BandQueue>, m: Message) -> Result<(), NoMem>
+fn put_in_queue(queue: &mut Option<BandQueue>, m: BoxedMessage) -> Result<(), NoMem>
     requires { IsSome queue.old }
     ensures messages { OnOk result (messages_in queue.new ≡ put_in (messages_in queue.old) m) }
     ensures marks { marks_in queue.new ≡ marks_in queue.old }
@@ -85,7 +85,7 @@ fn put_in_queue(queue: &mut Option<BandQueue>, m: Message) -> Result<(), NoMem>
 }
 
 /// Takes the first message of a queue that may be missing.
-fn take_front(queue: &mut Option<BandQueue>) -> Option<Message>
+fn take_front(queue: &mut Option<BandQueue>) -> Option<BoxedMessage>
     ensures some { IfSome result (λ m. messages_in queue.old ≡ m ∷ messages_in queue.new) }
     ensures none { IfNone result ((messages_in queue.old ≡ []) × (messages_in queue.new ≡ [])) }
     ensures marks { marks_in queue.new ≡ marks_in queue.old }
@@ -143,7 +143,7 @@ impl<M: ModuleOf> Pair<M> {
 
     /// A message comes to the module. Its answer comes first, since it may be refused; a flush then
     /// empties the queues.
-    pub(crate) fn put(&mut self, alloc: Global, side: Side, m: Message) -> Result<Outs, NoMem>
+    pub(crate) fn put(&mut self, alloc: Global, side: Side, m: BoxedMessage) -> Result<Outs, NoMem>
         ensures outs { IfOk result (λ outs. outs.items ≡ (pair_gets M.Kind.means self.old side m).outs) }
         ensures pair { OnOk result (self.new ≡ (pair_gets M.Kind.means self.old side m).pair) }
         ensures err { OnErr result (self.new ≡ self.old) }

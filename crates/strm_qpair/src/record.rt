@@ -4,10 +4,10 @@ ghost use Rattle.strm_qpair.specs.Change.{fresh_record, with_mode, begun, undone
 ghost use Rattle.strm_qpair.specs.Head.{kept_answer, with_errors};
 ghost use Rattle.strm_qpair.specs.Modules.{SameIds};
 
-use strm_msg::{Errno, Message, Prot, ReadMode};
+use strm_msg::{BoxedMessage, Errno, Prot, ReadMode};
 
 /// What a head remembers beside its list (stdata).
-#[derive(Debug, Drop, PartialEq, Eq)]
+#[derive(Debug, Drop)]
 pub struct Record {
     /// Whether the end was hung up (M_HANGUP).
     pub hung: bool,
@@ -24,7 +24,7 @@ pub struct Record {
     /// The id of the ioctl whose answer is awaited.
     pub pending: Option<u64>,
     /// The answer to it.
-    pub kept: Option<Message>,
+    pub kept: Option<BoxedMessage>,
 }
 
 impl Record {
@@ -45,7 +45,7 @@ impl Record {
     }
 
     /// Keeps an answer that is awaited.
-    pub(crate) fn keep(&mut self, id: u64, m: Message)
+    pub(crate) fn keep(&mut self, id: u64, m: BoxedMessage)
         ensures record { self.new ≡ kept_answer self.old id m }
         ensures same { SameIds self.old self.new }
     {
@@ -98,7 +98,7 @@ impl Record {
     }
 
     /// Gives the answer, and awaits none any longer.
-    pub(crate) fn end(&mut self) -> Option<Message>
+    pub(crate) fn end(&mut self) -> Option<BoxedMessage>
         ensures answer { result ≡ self.old.kept }
         ensures record { self.new ≡ ended self.old }
     {

@@ -1,13 +1,12 @@
 -- Places that stand in a list at most once.
-use Rattle.std.proofs.Common.{◌≡◌, ℕ, ◌+◌, ◌<◌, ◌≤◌, ◌||◌, nat_eq, Bool, true, false, List, [], ◌∷◌, ◌++◌, length, length-append, cond, get_or, ap, sym, ◌∙◌, refl, arith}
+use Rattle.std.proofs.Common.{◌≡◌, ℕ, ◌<◌, ◌≤◌, ◌||◌, nat_eq, Bool, true, false, List, [], ◌∷◌, ◌++◌, length, cond, get_or, ap, sym, ◌∙◌, refl, arith}
 use Rattle.std.specs.List.{list_any, IsDistinct}
-use Rattle.std.specs.Cmp.{IsEquivalence}
 use Rattle.std.proofs.lemmas.Cmp.{nat_eq_equiv}
 use Rattle.std.proofs.lemmas.Bool.Decides.{nat_tests}
 use Rattle.std.proofs.lemmas.List.Folds.{list_any-append}
 use Rattle.std.proofs.lemmas.Map.Keys.{IsDistinct-push, IsDistinct-tail}
 use Rattle.std.proofs.lemmas.Map.Steps.{length-le_from_distinct_below}
-use Rattle.strm_queue.specs.Run.{stands_in, AreOnce, with_place}
+use Rattle.strm_queue.specs.Run.{stands_in, AreOnce}
 
 -- the test of a list the other way round
 pub stands_turned : (p : ℕ) (items : List ℕ) → list_any (λ x. nat_eq x p) items ≡ stands_in p items

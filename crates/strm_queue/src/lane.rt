@@ -8,15 +8,15 @@ ghost use Rattle.strm_queue.specs.Lanes.{is_light};
 use std::alloc::Global;
 use std::collections::VecDeque;
 use std::marker::Model;
-use strm_msg::{Message, MsgKind, NoMem};
+use strm_msg::{BoxedMessage, Message, MsgKind, NoMem};
 
 /// The messages of one rank in order, and what they weigh together.
 ///
-/// A lane that has run empty keeps its place and its memory for the messages to come.
+/// A lane that has run empty keeps its place and its list's memory for the messages to come.
 #[derive(Debug, Drop)]
 pub(crate) struct Lane {
     rank: u16,
-    messages: VecDeque<Message>,
+    messages: VecDeque<BoxedMessage>,
     weight: u128,
 }
 
@@ -42,14 +42,14 @@ fn is_flushed(kind: MsgKind) -> bool
 }
 
 /// Whether a flush leaves the message.
-fn stays(m: &Message) -> bool
+fn stays(m: &BoxedMessage) -> bool
     ensures { result ≡ not (is_flushed m.now.kind) }
 {
     !is_flushed(m.kind)
 }
 
 /// What messages weigh together.
-fn weigh(messages: &VecDeque<Message>) -> u128
+fn weigh(messages: &VecDeque<BoxedMessage>) -> u128
     requires { list_all is_light messages.now.items ≡ true }
     ensures { result ≡ sum_by weight_of messages.now.items }
 {
@@ -104,7 +104,10 @@ impl Lane {
     pub(crate) fn at(&self, i: usize) -> Option<&Message>
         ensures { option_copied result ≡ slice_get self.now.messages i }
     {
-        self.messages.get(i)
+        match self.messages.get(i) {
+            Some(m) => Some(m),
+            None => None,
+        }
     }
 
     /// Makes room for one more message. Refused for want of memory alone.
@@ -120,7 +123,7 @@ impl Lane {
     }
 
     /// Puts a message behind the others. It comes back for want of memory alone.
-    pub(crate) fn push_back(&mut self, m: Message) -> Result<(), Message>
+    pub(crate) fn push_back(&mut self, m: BoxedMessage) -> Result<(), BoxedMessage>
         ensures rank { self.new.rank ≡ self.old.rank }
         ensures ok { OnOk result (self.new.messages ≡ self.old.messages ++ m ∷ []) }
         ensures err { OnErr result (self.new.messages ≡ self.old.messages) }
@@ -140,7 +143,7 @@ impl Lane {
     }
 
     /// Puts a message before the others. It comes back for want of memory alone.
-    pub(crate) fn push_front(&mut self, m: Message) -> Result<(), Message>
+    pub(crate) fn push_front(&mut self, m: BoxedMessage) -> Result<(), BoxedMessage>
         ensures rank { self.new.rank ≡ self.old.rank }
         ensures ok { OnOk result (self.new.messages ≡ m ∷ self.old.messages) }
         ensures err { OnErr result (self.new.messages ≡ self.old.messages) }
@@ -159,8 +162,8 @@ impl Lane {
         }
     }
 
-    /// Takes the first message. Its memory stays with the lane.
-    pub(crate) fn pop(&mut self) -> Option<Message>
+    /// Takes the first message. Its place stays with the lane.
+    pub(crate) fn pop(&mut self) -> Option<BoxedMessage>
         ensures rank { self.new.rank ≡ self.old.rank }
         ensures first { MatchOption result ((self.old.messages ≡ []) × (self.new.messages ≡ [])) (λ m. self.old.messages ≡ m ∷ self.new.messages) }
         ensures room { self.old.spare ≤ self.new.spare }
@@ -170,7 +173,7 @@ impl Lane {
         Some(m)
     }
 
-    /// Removes data and protocol messages, and answers how many. Their memory stays with the lane.
+    /// Removes data and protocol messages, and answers how many. Their places stay with the lane.
     pub(crate) fn flush(&mut self) -> usize
         ensures rank { self.new.rank ≡ self.old.rank }
         ensures messages { self.new.messages ≡ flush_of self.old.messages }

@@ -5,13 +5,13 @@ ghost use Rattle.strm_queue.specs.Queue.{put_in, put_back_in, flush_of, is_flush
 ghost use Rattle.strm_queue.specs.Lanes.{Ranked, stands_in, is_laned, messages_of, at_rank, spare_of, place_of, IsPlace};
 
 use crate::lane::Lane;
-use strm_msg::{Message, NoMem};
+use strm_msg::{BoxedMessage, Message, NoMem};
 
 /// The rank of the high messages.
 pub(crate) const HIGH: u16 = 256;
 
 /// The rank of the lane in which a message stands.
-pub(crate) fn rank_of(m: &Message) -> u16
+pub(crate) fn rank_of(m: &BoxedMessage) -> u16
     ensures rank { result ≡ rank_of m.now }
     ensures stands { stands_in result m.now ≡ true }
     ensures most { result ≤ 256 }
@@ -85,7 +85,7 @@ pub(crate) fn reserve_at(lanes: &mut Vec<Lane>, rank: u16) -> Result<(), NoMem>
 }
 
 /// Puts a message behind those of its rank. It comes back for want of memory alone.
-pub(crate) fn put_behind(lanes: &mut Vec<Lane>, m: Message) -> Result<(), Message>
+pub(crate) fn put_behind(lanes: &mut Vec<Lane>, m: BoxedMessage) -> Result<(), BoxedMessage>
     requires { is_laned lanes.old.items ≡ true }
     ensures laned { is_laned lanes.new.items ≡ true }
     ensures ok { OnOk result (messages_of lanes.new.items ≡ put_in (messages_of lanes.old.items) m) }
@@ -103,7 +103,7 @@ pub(crate) fn put_behind(lanes: &mut Vec<Lane>, m: Message) -> Result<(), Messag
 }
 
 /// Puts a message before those of its rank. It comes back for want of memory alone.
-pub(crate) fn put_before(lanes: &mut Vec<Lane>, m: Message) -> Result<(), Message>
+pub(crate) fn put_before(lanes: &mut Vec<Lane>, m: BoxedMessage) -> Result<(), BoxedMessage>
     requires { is_laned lanes.old.items ≡ true }
     ensures laned { is_laned lanes.new.items ≡ true }
     ensures ok { OnOk result (messages_of lanes.new.items ≡ put_back_in (messages_of lanes.old.items) m) }
@@ -140,8 +140,8 @@ pub(crate) fn first(lanes: &[Lane]) -> Option<&Message>
     lanes[at].at(0)
 }
 
-/// Takes the first message. Its memory stays with its lane.
-pub(crate) fn take_first(lanes: &mut Vec<Lane>) -> Option<Message>
+/// Takes the first message. Its place stays with its lane.
+pub(crate) fn take_first(lanes: &mut Vec<Lane>) -> Option<BoxedMessage>
     requires { is_laned lanes.old.items ≡ true }
     ensures laned { is_laned lanes.new.items ≡ true }
     ensures first { MatchOption result ((messages_of lanes.old.items ≡ []) × (messages_of lanes.new.items ≡ [])) (λ m. messages_of lanes.old.items ≡ m ∷ messages_of lanes.new.items) }

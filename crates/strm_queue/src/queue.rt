@@ -11,7 +11,7 @@ use crate::lanes::{
 };
 use std::alloc::Global;
 use std::marker::Model;
-use strm_msg::{Marks, Message, NoMem};
+use strm_msg::{BoxedMessage, Marks, Message, NoMem};
 
 /// The most messages that a queue holds, so that what they weigh together can be counted.
 const MOST: usize = 9_223_372_036_854_775_807;
@@ -68,7 +68,7 @@ impl BandQueue {
     ///
     /// Refused for want of memory alone: the message comes back, and the queue is as before. Each
     /// rank loses room for one message at most, and none where the message is refused.
-    pub fn put(&mut self, m: Message) -> Result<(), Message>
+    pub fn put(&mut self, m: BoxedMessage) -> Result<(), BoxedMessage>
         ensures place { put_in self.old.messages m ≡ behind_last self.old.messages m }
         ensures ok { OnOk result (self.new.messages ≡ put_in self.old.messages m) }
         ensures err { OnErr result (self.new.messages ≡ self.old.messages) }
@@ -90,7 +90,7 @@ impl BandQueue {
     ///
     /// Refused for want of memory alone: the message comes back, and the queue is as before. Each
     /// rank loses room for one message at most, and none where the message is refused.
-    pub fn put_back(&mut self, m: Message) -> Result<(), Message>
+    pub fn put_back(&mut self, m: BoxedMessage) -> Result<(), BoxedMessage>
         ensures ok { OnOk result (self.new.messages ≡ put_back_in self.old.messages m) }
         ensures err { OnErr result (self.new.messages ≡ self.old.messages) }
         ensures back { IfErr result (λ same. same ≡ m) }
@@ -125,7 +125,7 @@ impl BandQueue {
     }
 
     /// Takes the first message (getq(9F)). Takes no memory, and leaves what room there was.
-    pub fn get(&mut self) -> Option<Message>
+    pub fn get(&mut self) -> Option<BoxedMessage>
         ensures first { MatchOption result ((self.old.messages ≡ []) × (self.new.messages ≡ [])) (λ m. self.old.messages ≡ m ∷ self.new.messages) }
         ensures marks { self.new.marks ≡ self.old.marks }
         ensures room { (rank : ℕ) → room_for self.old.room rank ≤ room_for self.new.room rank }

@@ -127,7 +127,7 @@ fn are_writes(history: &[Kept<Kind>], wanted: &[(u32, u8, u64)]) -> bool {
 fn came(kept: &Kept<Kind>) -> Option<&[u8]> {
     let entry = kept.entry();
     match (&entry.who, &entry.event) {
-        (Who::Line, Event::Arrived(m)) => Some(data_of(m.message())),
+        (Who::Line, Event::Arrived(m)) => Some(data_of(m)),
         _ => None,
     }
 }

@@ -88,7 +88,7 @@ pub fn put_event<W: Write, K: PrintKind + Drop>(
 {
     match event {
         Event::Asked(request) => put_call(w, stream, end, request),
-        Event::Arrived(m) => put_message(w, m.message()),
+        Event::Arrived(m) => put_message(w, m),
     }
 }
 

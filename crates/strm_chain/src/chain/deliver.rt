@@ -1,5 +1,5 @@
 //! Delivery: a message is carried to its end, and what comes of it.
-ghost use Rattle.std.specs.Prelude.{◌≡◌, OnOk, IfErr, true, false};
+ghost use Rattle.std.specs.Prelude.{◌≡◌, OnOk, IfOk, IfErr, true, false};
 ghost use Rattle.strm_chain.specs.Deliver.{deliver, is_there};
 ghost use Rattle.strm_ends.specs.Same.{SameModules};
 ghost use Rattle.strm_chain.specs.Fault.{Refuses};
@@ -10,10 +10,22 @@ use super::Chain;
 use super::hop::Hop;
 use crate::fault::ChainFault;
 use crate::spot::Spot;
+use std::alloc::Global;
 use std::collections::VecDeque;
 use strm_ends::has_end;
 use strm_module::ModuleOf;
-use strm_msg::Message;
+use strm_msg::{BoxedMessage, Message};
+
+/// A message in a box. Refused for want of memory alone, with `NoMem`: then the message is dropped.
+fn boxed(alloc: Global, m: Message) -> Result<BoxedMessage, ChainFault>
+    ensures ok { IfOk result (λ boxed. boxed ≡ m) }
+    ensures err { IfErr result (λ fault. fault ≡ ChainFault.NoMem) }
+{
+    match BoxedMessage::new(alloc, m) {
+        Ok(m) => Ok(m),
+        Err(_) => Err(ChainFault::NoMem),
+    }
+}
 
 impl<M: ModuleOf> Chain<M> {
     /// Whether a spot is there, at an end that the driver has.
@@ -29,7 +41,7 @@ impl<M: ModuleOf> Chain<M> {
     }
 
     /// A message at a spot.
-    fn handed_in(&self, spot: Spot, m: Message) -> Hop
+    fn handed_in(&self, spot: Spot, m: BoxedMessage) -> Hop
         ensures { carry M.Kind.means self.now.image result ≡ deliver M.Kind.means self.now.image spot m }
     {
         match spot {
@@ -66,6 +78,7 @@ impl<M: ModuleOf> Chain<M> {
         if self.ends.is_broken() {
             return Err(ChainFault::Broken);
         }
+        let m = boxed(self.ends.alloc(), m)?;
         let hop = self.handed_in(spot, m);
         let mut hops = VecDeque::new(self.ends.alloc());
         match self.hop(&mut hops, hop) {

@@ -10,7 +10,7 @@ ghost use Rattle.strm_ends.specs.Image.{end_of, with_head, with_state, room_of, 
 use super::Chain;
 use strm_ends::NextQueue;
 use strm_module::ModuleOf;
-use strm_msg::{End, Message, NoMem, Prot, ReadMode};
+use strm_msg::{BoxedMessage, End, NoMem, Prot, ReadMode};
 use strm_qpair::Record;
 use strm_queue::BandQueue;
 
@@ -25,7 +25,7 @@ impl<M: ModuleOf> Chain<M> {
     }
 
     /// Takes the first message of a head's list. Takes no memory, and no list loses room.
-    pub fn take_head(&mut self, end: End) -> Option<Message>
+    pub fn take_head(&mut self, end: End) -> Option<BoxedMessage>
         ensures first { MatchOption result ((end_of self.old.image end).head ≡ []) (λ m. (end_of self.old.image end).head ≡ m ∷ (end_of self.new.image end).head) }
         ensures image { self.new.image ≡ with_head self.old.image end (drop 1 (end_of self.old.image end).head) }
         ensures room { KeepsHeadRoom self.old.rooms self.new.rooms }
@@ -55,7 +55,7 @@ impl<M: ModuleOf> Chain<M> {
     /// for at most one message of each rank, and the other lists keep theirs.
     ///
     /// Refused for want of memory alone: the message comes back, and nothing is changed.
-    pub fn put_back_head(&mut self, end: End, m: Message) -> Result<(), Message>
+    pub fn put_back_head(&mut self, end: End, m: BoxedMessage) -> Result<(), BoxedMessage>
         ensures ok { OnOk result (self.new.image ≡ with_head self.old.image end (put_back_in (end_of self.old.image end).head m)) }
         ensures err { OnErr result (self.new.image ≡ self.old.image) }
         ensures back { IfErr result (λ same. same ≡ m) }
@@ -108,7 +108,7 @@ impl<M: ModuleOf> Chain<M> {
     }
 
     /// Gives the answer to an ioctl, if one came, and awaits none any longer. No list loses room.
-    pub fn end_ioctl(&mut self, end: End) -> Option<Message>
+    pub fn end_ioctl(&mut self, end: End) -> Option<BoxedMessage>
         ensures answer { result ≡ (end_of self.old.image end).state.kept }
         ensures image { self.new ≡ record self.old { image = with_state self.old.image end (ended (end_of self.old.image end).state) } }
     {

@@ -10,10 +10,11 @@ ghost use Rattle.strm_chain.specs.Count.{options_in, options_carried, Grows, are
 ghost use Rattle.strm_chain.specs.Hop.{carry, carry_all, load, up_hop, down_hop, hop_of, next_module};
 
 use super::Chain;
+use std::alloc::Global;
 use std::collections::VecDeque;
 use strm_ends::partner_of;
 use strm_module::{ModuleOf, Outs};
-use strm_msg::{End, Message, NoMem, Side as Sides};
+use strm_msg::{BoxedMessage, End, Message, NoMem, Side as Sides};
 use strm_qpair::{DriverSends, MOST_MODULES};
 
 /// A message that is on its way, up to the head or down to the driver, with a number of modules
@@ -27,12 +28,12 @@ pub(super) struct Hop {
     pub(super) end: End,
     /// How many modules it still has to pass.
     pub(super) ahead: usize,
-    pub(super) m: Message,
+    pub(super) m: BoxedMessage,
 }
 
 impl Hop {
     /// A message on its way up.
-    pub(super) fn up(head_sent: bool, end: End, ahead: usize, m: Message) -> Hop
+    pub(super) fn up(head_sent: bool, end: End, ahead: usize, m: BoxedMessage) -> Hop
         ensures { result ≡ up_hop head_sent end ahead m }
     {
         Hop {
@@ -45,7 +46,7 @@ impl Hop {
     }
 
     /// A message on its way down.
-    pub(super) fn down(head_sent: bool, end: End, ahead: usize, m: Message) -> Hop
+    pub(super) fn down(head_sent: bool, end: End, ahead: usize, m: BoxedMessage) -> Hop
         ensures { result ≡ down_hop head_sent end ahead m }
     {
         Hop {
@@ -64,7 +65,7 @@ impl Hop {
         end: End,
         i: usize,
         below: usize,
-        out: (Sides, Message),
+        out: (Sides, BoxedMessage),
     ) -> Hop
         ensures { result ≡ hop_of head_sent side end i below out }
     {
@@ -84,15 +85,40 @@ pub(super) fn push_outs(
     end: End,
     i: usize,
     below: usize,
-    mut outs: Outs,
+    outs: Outs,
 )
-    requires { deque_len hops.old + length outs.items ≤ deque_capacity hops.old }
+    requires { deque_len hops.old + 2 ≤ deque_capacity hops.old }
     ensures items { hops.new.items ≡ map (hop_of head_sent side end i below) outs.items ++ hops.old.items }
     ensures few { length outs.items ≤ 2 }
 {
-    while let Some(out) = outs.pop() {
+    let (first, second) = outs.into_parts();
+    if let Some(out) = second {
         hops.push_front_reserved(Hop::of_out(head_sent, side, end, i, below, out));
     }
+    if let Some(out) = first {
+        hops.push_front_reserved(Hop::of_out(head_sent, side, end, i, below, out));
+    }
+}
+
+/// Puts options for a head in front of the list of what is on its way, and behind them the ack of the ioctl that asked for
+/// them. Refused for want of memory alone: then the list is as before.
+fn push_options(
+    alloc: Global,
+    hops: &mut VecDeque<Hop>,
+    head_sent: bool,
+    end: End,
+    ahead: usize,
+    ack: Message,
+    options: Message,
+) -> Result<(), NoMem>
+    requires { deque_len hops.old + 2 ≤ deque_capacity hops.old }
+    ensures { OnOk result (hops.new.items ≡ up_hop head_sent end ahead options ∷ (up_hop head_sent end ahead ack ∷ hops.old.items)) }
+{
+    let ack = BoxedMessage::new(alloc, ack)?;
+    let options = BoxedMessage::new(alloc, options)?;
+    hops.push_front_reserved(Hop::up(head_sent, end, ahead, ack));
+    hops.push_front_reserved(Hop::up(head_sent, end, ahead, options));
+    Ok(())
 }
 
 impl<M: ModuleOf> Chain<M> {
@@ -102,7 +128,7 @@ impl<M: ModuleOf> Chain<M> {
         hops: &mut VecDeque<Hop>,
         head_sent: bool,
         end: End,
-        m: Message,
+        m: BoxedMessage,
     ) -> Result<(), NoMem>
         requires { deque_len hops.old < deque_capacity hops.old }
         ensures image { OnOk result (carry_all M.Kind.means self.new.image hops.new.items ≡ carry_all M.Kind.means (up M.Kind.means head_sent end 0 self.old.image m) hops.old.items) }
@@ -129,7 +155,7 @@ impl<M: ModuleOf> Chain<M> {
         hops: &mut VecDeque<Hop>,
         head_sent: bool,
         end: End,
-        m: Message,
+        m: BoxedMessage,
     ) -> Result<(), NoMem>
         requires { deque_len hops.old + 2 ≤ deque_capacity hops.old }
         ensures image { OnOk result (carry_all M.Kind.means self.new.image hops.new.items ≡ carry_all M.Kind.means (down M.Kind.means head_sent end 0 self.old.image m) hops.old.items) }
@@ -143,10 +169,14 @@ impl<M: ModuleOf> Chain<M> {
         let own = self.count(end);
         let across = self.count(partner);
         match self.driver_does(end, m)? {
-            DriverSends::Nothing => {}
-            DriverSends::Reply(m) => hops.push_front_reserved(Hop::up(head_sent, end, own, m)),
+            DriverSends::Nothing => return Ok(()),
+            DriverSends::Reply(m) => {
+                hops.push_front_reserved(Hop::up(head_sent, end, own, m));
+                return Ok(());
+            }
             DriverSends::Across(m) => {
-                hops.push_front_reserved(Hop::up(head_sent, partner, across, m))
+                hops.push_front_reserved(Hop::up(head_sent, partner, across, m));
+                return Ok(());
             }
             DriverSends::Options {
                 mode,
@@ -155,12 +185,10 @@ impl<M: ModuleOf> Chain<M> {
                 id,
             } => {
                 let ack = Message::of_ack(id, 0, None);
-                hops.push_front_reserved(Hop::up(head_sent, end, own, ack));
                 let options = Message::of_setopts(mode, prot, marks);
-                hops.push_front_reserved(Hop::up(head_sent, end, own, options));
+                push_options(self.ends.alloc(), hops, head_sent, end, own, ack, options)
             }
         }
-        Ok(())
     }
 
     /// The number of the module that is next on a way of so many modules.

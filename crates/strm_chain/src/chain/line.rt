@@ -12,7 +12,7 @@ ghost use Rattle.strm_ends.specs.Image.{with_drv};
 use super::Chain;
 use strm_ends::{NextQueue, Place};
 use strm_module::ModuleOf;
-use strm_msg::{End, Message, NoMem};
+use strm_msg::{BoxedMessage, End, NoMem};
 
 impl<M: ModuleOf> Chain<M> {
     /// Whether the list of a line is full in a band, where bcanput(9F) would answer the opposite. To
@@ -43,7 +43,7 @@ impl<M: ModuleOf> Chain<M> {
     ///
     /// Refused for want of memory alone, and not where the line's list has room: the message comes
     /// back, and nothing is changed.
-    pub fn line_put(&mut self, m: Message) -> Result<(), Message>
+    pub fn line_put(&mut self, m: BoxedMessage) -> Result<(), BoxedMessage>
         requires driver { self.old.image.driver ≡ Drivers.Line }
         requires ordinary { is_high m.kind ≡ false }
         ensures ok { OnOk result (self.new.image ≡ with_drv self.old.image A (put_in self.old.image.a.drv m)) }

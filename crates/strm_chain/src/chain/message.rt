@@ -22,7 +22,7 @@ ghost use Rattle.strm_chain.specs.Service.{serve_at};
 use super::Chain;
 use strm_ends::{NextQueue, Place};
 use strm_module::{ModuleOf, Outs};
-use strm_msg::{End, Message, MsgKind, NoMem, Side};
+use strm_msg::{BoxedMessage, End, MsgKind, NoMem, Side};
 use strm_qpair::DriverSends;
 
 /// Whether a message flushes queues.
@@ -67,7 +67,11 @@ impl<M: ModuleOf> Chain<M> {
 
     /// What a head does with a message, and what it sends down. Options may change its marks, and then the place that waits
     /// for it is looked at again.
-    pub(super) fn head_does(&mut self, end: End, m: Message) -> Result<Option<Message>, NoMem>
+    pub(super) fn head_does(
+        &mut self,
+        end: End,
+        m: BoxedMessage,
+    ) -> Result<Option<BoxedMessage>, NoMem>
         ensures state { OnOk result (self.new.image ≡ with_end self.old.image end (head_does (end_of self.old.image end) m).state) }
         ensures sends { IfOk result (λ sends. sends ≡ (head_does (end_of self.old.image end) m).sends) }
         ensures err { OnErr result (self.new.image ≡ self.old.image) }
@@ -88,7 +92,7 @@ impl<M: ModuleOf> Chain<M> {
     }
 
     /// What the driver does with a message from above, and what it sends up.
-    pub(super) fn driver_does(&mut self, end: End, m: Message) -> Result<DriverSends, NoMem>
+    pub(super) fn driver_does(&mut self, end: End, m: BoxedMessage) -> Result<DriverSends, NoMem>
         ensures state { OnOk result (self.new.image ≡ with_end self.old.image end (driver_does self.old.image.driver end (end_of self.old.image end) m).state) }
         ensures sends { IfOk result (λ sends. sends ≡ (driver_does self.old.image.driver end (end_of self.old.image end) m).sends) }
         ensures err { OnErr result (self.new.image ≡ self.old.image) }
@@ -112,7 +116,7 @@ impl<M: ModuleOf> Chain<M> {
         end: End,
         i: usize,
         side: Side,
-        m: Message,
+        m: BoxedMessage,
     ) -> Result<Outs, NoMem>
         ensures image { OnOk result (self.new.image ≡ (put_at M.Kind.means self.old.image end i side m).image) }
         ensures outs { IfOk result (λ outs. outs.items ≡ (put_at M.Kind.means self.old.image end i side m).outs) }
@@ -160,7 +164,7 @@ impl<M: ModuleOf> Chain<M> {
     }
 
     /// Takes the first message of an end's driver list.
-    pub(super) fn take_driver(&mut self, end: End) -> Option<Message>
+    pub(super) fn take_driver(&mut self, end: End) -> Option<BoxedMessage>
         ensures some { IfSome result (λ m. ((end_of self.old.image end).drv ≡ m ∷ (end_of self.new.image end).drv) × (self.new.image ≡ with_drv self.old.image end (end_of self.new.image end).drv)) }
         ensures none { IfNone result (((end_of self.old.image end).drv ≡ []) × (self.new.image ≡ self.old.image)) }
         ensures same { SameModules self.old.image self.new.image }

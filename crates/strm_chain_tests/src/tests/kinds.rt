@@ -2,17 +2,17 @@
 //! one has number 7.
 use super::Sample::{Ack, Data, Flush, Hangup, Ioctl, Proto};
 use super::texts::is_displayed;
-use super::{Sample, bytes, check, message, shaped};
+use super::{Sample, boxed_message, bytes, check, shaped};
 use Keeps::{Counted, Partial, Same};
 use Want::{GoesOn, InTwo, Nothing, Refused, Sends, Twice, Waits};
 use std::alloc::Global;
 use std::process::Abort;
 use strm_module::{
     Band, Count, CrNl, Instance, Kind, Kinds, Line, MakeFault, Module, Mute, Outs, Pass, Plain,
-    Put, Shape, Split, Table, Tee,
+    Put, Shape, Split, Table, Tee, both, pass_on,
 };
 use strm_msg::Side::{Rd, Wr};
-use strm_msg::{Marks, Message, NoMem, Side};
+use strm_msg::{BoxedMessage, Marks, NoMem, Side};
 
 /// Which procedure a message is handed to.
 #[derive(Clone, Copy, Drop)]
@@ -67,17 +67,12 @@ fn capitals() -> [u8; 256] {
     map
 }
 
-fn sent(side: Side, m: Message) -> Put {
-    let mut outs = Outs::new();
-    outs.push((side, m));
-    Put::Sent(outs)
+fn sent(side: Side, m: BoxedMessage) -> Put {
+    Put::Sent(pass_on(side, m))
 }
 
-fn sent_twice(first: (Side, Message), second: (Side, Message)) -> Put {
-    let mut outs = Outs::new();
-    outs.push(first);
-    outs.push(second);
-    Put::Sent(outs)
+fn sent_twice(first: (Side, BoxedMessage), second: (Side, BoxedMessage)) -> Put {
+    Put::Sent(both(first, second))
 }
 
 fn wanted(
@@ -89,27 +84,46 @@ fn wanted(
 ) -> Result<Put, NoMem> {
     match want {
         Refused => Err(NoMem),
-        Waits => Ok(Put::Queue(message(rt, alloc, came))),
+        Waits => Ok(Put::Queue(boxed_message(rt, alloc, came))),
         Nothing => Ok(Put::Sent(Outs::new())),
-        GoesOn => Ok(sent(side, message(rt, alloc, came))),
-        Sends(side, sample) => Ok(sent(side, message(rt, alloc, sample))),
+        GoesOn => Ok(sent(side, boxed_message(rt, alloc, came))),
+        Sends(side, sample) => Ok(sent(side, boxed_message(rt, alloc, sample))),
         Twice => Ok(sent_twice(
-            (Rd, message(rt, alloc, came)),
-            (Wr, message(rt, alloc, came)),
+            (Rd, boxed_message(rt, alloc, came)),
+            (Wr, boxed_message(rt, alloc, came)),
         )),
         InTwo(first, rest) => Ok(sent_twice(
-            (Wr, message(rt, alloc, first)),
-            (Wr, message(rt, alloc, rest)),
+            (Wr, boxed_message(rt, alloc, first)),
+            (Wr, boxed_message(rt, alloc, rest)),
         )),
     }
 }
 
+/// Whether both are the same message on the same side, or both are missing.
+fn is_out(found: Option<(Side, BoxedMessage)>, want: Option<(Side, BoxedMessage)>) -> bool {
+    match (found, want) {
+        (Some((side, m)), Some((wanted, n))) => side == wanted && *m == *n,
+        (None, None) => true,
+        _ => false,
+    }
+}
+
+/// Whether the same is sent, in the same order.
+fn are_outs(found: Outs, want: Outs) -> bool {
+    let (first, second) = found.into_parts();
+    let (wanted_first, wanted_second) = want.into_parts();
+    let is_first = is_out(first, wanted_first);
+    is_out(second, wanted_second) && is_first
+}
+
 /// Whether that is the answer.
 pub(super) fn is_answer(answer: Result<Put, NoMem>, want: Result<Put, NoMem>) -> bool {
-    let is_so = answer == want;
-    drop(answer);
-    drop(want);
-    is_so
+    match (answer, want) {
+        (Ok(Put::Queue(m)), Ok(Put::Queue(n))) => *m == *n,
+        (Ok(Put::Sent(found)), Ok(Put::Sent(wanted))) => are_outs(found, wanted),
+        (Err(NoMem), Err(NoMem)) => true,
+        _ => false,
+    }
 }
 
 /// The kind that is to be there, where this one was before.
@@ -127,7 +141,7 @@ pub(super) fn called<M: Module>(
     it: &mut Instance<M>,
     call: Call,
     side: Side,
-    m: Message,
+    m: BoxedMessage,
 ) -> Result<Put, NoMem> {
     match call {
         Call::Put => it.put(alloc, side, m),
@@ -144,7 +158,7 @@ fn answers<M: Module>(
     (side, came, want, keeps): Row,
 ) -> bool {
     let kind = kept(rt, alloc, &it.shape().kind, keeps);
-    let answer = called(alloc, it, call, side, message(rt, alloc, came));
+    let answer = called(alloc, it, call, side, boxed_message(rt, alloc, came));
     let is_kept = it.shape().kind == kind;
     drop(kind);
     is_answer(answer, wanted(rt, alloc, side, came, want)) && is_kept

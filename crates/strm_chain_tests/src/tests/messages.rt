@@ -1,6 +1,6 @@
 //! Messages: their fields, what is answered of them, and which are equal.
 use super::Sample::{Ack, Data, Error, Error2, Flush, Hangup, Ioctl, Nak, Options, Pcproto, Proto};
-use super::{Part, Sample, are_same, bytes, check, message};
+use super::{Part, Sample, bytes, check, message};
 use std::alloc::Global;
 use std::process::Abort;
 use strm_msg::Class::{High, Ordinary};
@@ -363,12 +363,20 @@ fn has_facts(m: &Message, (_, kind, _, (class, rank, weight), (takes, comes)): &
         && m.from_line() == *comes
 }
 
+/// Whether two messages are equal. They are dropped by name, which is one call each.
+fn is_same(found: Message, want: Message) -> bool {
+    let is_so = found == want;
+    drop(found);
+    drop(want);
+    is_so
+}
+
 /// Whether a message is as the row says, and equal to its copy.
 fn is_as_told(rt: &impl Abort, alloc: Global, row: &Facts) -> bool {
     let m = message(rt, alloc, row.0);
     let copy = m.copy(alloc).expect(rt, "no memory for a copy");
     let is_so = has_fields(&m, row) && has_facts(&m, row);
-    are_same(Some(m), Some(copy)) && is_so
+    is_same(m, copy) && is_so
 }
 
 fn are_as_told(rt: &impl Abort, alloc: Global, rows: &[Facts], name: &str) {
@@ -397,7 +405,7 @@ fn is_with_new(rt: &impl Abort, alloc: Global, (old, new): Two) -> bool {
     let m = message(rt, alloc, old);
     assert!(rt; m.kind.takes_data());
     let found = m.with_data(bytes(rt, alloc, b"new"));
-    are_same(Some(found), Some(message(rt, alloc, new)))
+    is_same(found, message(rt, alloc, new))
 }
 
 #[test]
@@ -419,7 +427,7 @@ const UNEQUAL: &[Two] = &[
 
 fn are_equal(rt: &impl Abort, alloc: Global, (one, other): Two) -> bool {
     let one = message(rt, alloc, one);
-    are_same(Some(one), Some(message(rt, alloc, other)))
+    is_same(one, message(rt, alloc, other))
 }
 
 #[test]

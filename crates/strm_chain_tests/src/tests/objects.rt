@@ -11,7 +11,7 @@ use std::process::Abort;
 use std::sync::atomic::Ordering;
 use strm_chain::{Chain, Driver, Spot};
 use strm_module::{Boxed, Kind, Module, ModuleOf, Outs, Put, Shape};
-use strm_msg::{End, Message, NoMem, Side};
+use strm_msg::{BoxedMessage, End, NoMem, Side};
 
 // What was asked of the objects 1 to 3 stands on a log, in order, a digit for each call: the object's number
 // where a message was put to it, 3 more where it served one, and 6 more where it was closed.
@@ -66,7 +66,7 @@ impl Module for Told {
         alloc: Global,
         shape: &mut Shape,
         side: Side,
-        m: Message,
+        m: BoxedMessage,
     ) -> Result<Put, NoMem> {
         self.writes(PUT);
         if is_refused(&mut self.refused_put) {
@@ -80,7 +80,7 @@ impl Module for Told {
         alloc: Global,
         shape: &mut Shape,
         side: Side,
-        m: Message,
+        m: BoxedMessage,
     ) -> Result<Outs, NoMem> {
         self.writes(SERVED);
         if is_refused(&mut self.refused_serve) {

@@ -1,6 +1,6 @@
 //! Queues of messages, with the marks 16 and 4: examples of calls and what they answer, in order.
 use super::Sample::{Ack, Data, Error, Flush, Hangup, Ioctl, Nak, Options, Pcproto, Proto};
-use super::{Sample, are_same, check, is_taken, message, wanted};
+use super::{Sample, are_same, boxed_message, check, is_taken, wanted};
 use Step::{
     At, First, FlushAll, FlushBand, Get, HasBand, HasPcproto, Held, Holds, Len, Level, MakeRoom,
     Put, PutBack,
@@ -250,7 +250,7 @@ fn holds(rt: &impl Abort, alloc: Global, q: &mut BandQueue, wanted: &[Sample]) -
 fn answers(rt: &impl Abort, alloc: Global, q: &mut BandQueue, step: Step) -> bool {
     match step {
         Put(sample) => puts(rt, alloc, q, sample),
-        PutBack(sample) => is_taken(q.put_back(message(rt, alloc, sample))),
+        PutBack(sample) => is_taken(q.put_back(boxed_message(rt, alloc, sample))),
         MakeRoom(rank) => q.make_room(rank).is_ok(),
         FlushAll => {
             q.flush();
@@ -285,7 +285,7 @@ fn play(rt: &impl Abort, alloc: Global, name: &str, q: &mut BandQueue, steps: &[
 }
 
 fn puts(rt: &impl Abort, alloc: Global, q: &mut BandQueue, sample: Sample) -> bool {
-    is_taken(q.put(message(rt, alloc, sample)))
+    is_taken(q.put(boxed_message(rt, alloc, sample)))
 }
 
 fn puts_all(rt: &impl Abort, alloc: Global, q: &mut BandQueue, samples: &[Sample]) -> bool {

@@ -1,5 +1,5 @@
 //! What a call of a table does, and whether it answers what it must.
-use super::{Call, Sample, TOP_A, Way, are_same, is_taken, message};
+use super::{Call, Sample, TOP_A, Way, are_same, boxed_message, is_taken, message};
 use std::process::Abort;
 use strm_chain::{Chain, ChainFault, Driver, Place, Record, Spot};
 use strm_module::ModuleOf;
@@ -39,7 +39,7 @@ fn settles<M: ModuleOf>(chain: &mut Chain<M>, moves: &[Place], looks: u64) -> bo
 
 /// An ordinary message comes in from the line.
 fn comes<M: ModuleOf>(rt: &impl Abort, chain: &mut Chain<M>, sample: Sample) -> bool {
-    let m = message(rt, chain.alloc(), sample);
+    let m = boxed_message(rt, chain.alloc(), sample);
     assert!(rt; chain.driver() == Driver::Line);
     assert!(rt; m.class() == Class::Ordinary);
     is_taken(chain.line_put(m))
@@ -49,7 +49,7 @@ fn comes<M: ModuleOf>(rt: &impl Abort, chain: &mut Chain<M>, sample: Sample) -> 
 fn puts_back<M: ModuleOf>(rt: &impl Abort, chain: &mut Chain<M>, sample: Sample) -> bool {
     let has_room = chain.head_room(End::A, 0).is_ok();
     let line_has_room = chain.driver() == Driver::Line && chain.line_room(0).is_ok();
-    let m = message(rt, chain.alloc(), sample);
+    let m = boxed_message(rt, chain.alloc(), sample);
     let is_back = is_taken(chain.put_back_head(End::A, m));
     has_room && line_has_room && is_back
 }

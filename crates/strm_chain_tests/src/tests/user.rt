@@ -4,13 +4,13 @@ use super::Sample::{Ack, Ioctl};
 use super::kinds::Keeps::{Counted, Same};
 use super::kinds::Want::{GoesOn, Refused, Sends};
 use super::kinds::{Call, Row, Want, X, is_answer, play};
-use super::{Log, held, logged, message, new_log, shaped};
+use super::{Log, boxed_message, held, logged, new_log, shaped};
 use std::alloc::Global;
 use std::process::Abort;
 use std::sync::atomic::Ordering;
 use strm_module::{Count, Instance, Kind, Kinds, Module, ModuleOf, Outs, Put, Shape, reply};
 use strm_msg::Side::{Rd, Wr};
-use strm_msg::{Message, NoMem, Side};
+use strm_msg::{BoxedMessage, NoMem, Side};
 
 const PUT: u64 = 1;
 
@@ -45,7 +45,7 @@ impl Module for Watch {
         alloc: Global,
         shape: &mut Shape,
         side: Side,
-        m: Message,
+        m: BoxedMessage,
     ) -> Result<Put, NoMem> {
         self.tally.fetch_add(PUT, Ordering::SeqCst);
         self.seen = self.seen.saturating_add(1);
@@ -61,7 +61,7 @@ impl Module for Watch {
         alloc: Global,
         shape: &mut Shape,
         side: Side,
-        m: Message,
+        m: BoxedMessage,
     ) -> Result<Outs, NoMem> {
         self.tally.fetch_add(SERVED, Ordering::SeqCst);
         if self.refuses_serve {
@@ -209,7 +209,7 @@ impl Kinds for Turn {
 
     ghost means = { λ kind side m. replied kind m };
 
-    fn process(&mut self, _: Global, _: Side, m: Message) -> Result<Outs, NoMem> {
+    fn process(&mut self, _: Global, _: Side, m: BoxedMessage) -> Result<Outs, NoMem> {
         Ok(reply(m))
     }
 
@@ -234,15 +234,15 @@ fn answers_put(
     side: Side,
     want: Put,
 ) -> bool {
-    is_answer(it.put(alloc, side, message(rt, alloc, X)), Ok(want))
+    is_answer(it.put(alloc, side, boxed_message(rt, alloc, X)), Ok(want))
 }
 
 /// Whether what is served is turned round.
 fn turns_served(rt: &impl Abort, alloc: Global, it: &mut Instance<Turner>) -> bool {
-    let Ok(served) = it.serve(alloc, Rd, message(rt, alloc, X)) else {
+    let Ok(served) = it.serve(alloc, Rd, boxed_message(rt, alloc, X)) else {
         return false;
     };
-    let turned = reply(message(rt, alloc, X));
+    let turned = reply(boxed_message(rt, alloc, X));
     is_answer(Ok(Put::Sent(served)), Ok(Put::Sent(turned)))
 }
 
@@ -252,9 +252,9 @@ fn kind_of_another_vocabulary_acts_by_its_meaning(rt: HostRuntime) {
     let shape = shaped(&rt, 4, b"turn", (Some((5, 4)), None), Turn);
     let mut it = Instance::new(shape, Turner);
     let before = it.shape().copy(alloc).expect(&rt, "no memory for a shape");
-    let turned = Put::Sent(reply(message(&rt, alloc, X)));
+    let turned = Put::Sent(reply(boxed_message(&rt, alloc, X)));
     assert!(rt; answers_put(&rt, alloc, &mut it, Wr, turned));
-    let queued = Put::Queue(message(&rt, alloc, X));
+    let queued = Put::Queue(boxed_message(&rt, alloc, X));
     assert!(rt; answers_put(&rt, alloc, &mut it, Rd, queued));
     assert!(rt; turns_served(&rt, alloc, &mut it));
     assert!(rt; *it.shape() == before);

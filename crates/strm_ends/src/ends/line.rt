@@ -11,7 +11,7 @@ ghost use Rattle.strm_ends.specs.Image.{with_drv};
 
 use super::Ends;
 use strm_module::ModuleOf;
-use strm_msg::{Message, NoMem};
+use strm_msg::{BoxedMessage, NoMem};
 
 impl<M: ModuleOf> Ends<M> {
     /// Makes room in the list of a line, so that the next `line_put` of a message of this rank
@@ -33,7 +33,7 @@ impl<M: ModuleOf> Ends<M> {
     ///
     /// Refused for want of memory alone, and not where the line's list has room: the message comes
     /// back, and nothing is changed.
-    pub fn line_put(&mut self, m: Message) -> Result<(), Message>
+    pub fn line_put(&mut self, m: BoxedMessage) -> Result<(), BoxedMessage>
         requires driver { self.old.image.driver ≡ Drivers.Line }
         requires ordinary { is_high m.kind ≡ false }
         ensures ok { OnOk result (self.new.image ≡ with_drv self.old.image A (put_in self.old.image.a.drv m)) }

@@ -7,13 +7,13 @@ ghost use Rattle.strm_ends.specs.Same.{SameModules};
 
 use super::{Ends, has_end};
 use strm_module::{ModuleOf, Outs};
-use strm_msg::{End, Message, NoMem, Side};
+use strm_msg::{BoxedMessage, End, NoMem, Side};
 use strm_qpair::DriverSends;
 
 impl<M: ModuleOf> Ends<M> {
     /// What a head does with a message from below, and what it sends down. Refused for want of
     /// memory alone: then nothing is changed.
-    pub fn head_does(&mut self, end: End, m: Message) -> Result<Option<Message>, NoMem>
+    pub fn head_does(&mut self, end: End, m: BoxedMessage) -> Result<Option<BoxedMessage>, NoMem>
         ensures state { OnOk result (self.new.image ≡ with_end self.old.image end (head_does (end_of self.old.image end) m).state) }
         ensures sends { IfOk result (λ sends. sends ≡ (head_does (end_of self.old.image end) m).sends) }
         ensures err { OnErr result (self.new.image ≡ self.old.image) }
@@ -27,7 +27,7 @@ impl<M: ModuleOf> Ends<M> {
 
     /// What the driver does with a message from above, and what it sends up; at an end that it lacks
     /// the message is dropped. Refused for want of memory alone: then nothing is changed.
-    pub fn driver_does(&mut self, end: End, m: Message) -> Result<DriverSends, NoMem>
+    pub fn driver_does(&mut self, end: End, m: BoxedMessage) -> Result<DriverSends, NoMem>
         ensures state { OnOk result (self.new.image ≡ with_end self.old.image end (driver_does self.old.image.driver end (end_of self.old.image end) m).state) }
         ensures sends { IfOk result (λ sends. sends ≡ (driver_does self.old.image.driver end (end_of self.old.image end) m).sends) }
         ensures err { OnErr result (self.new.image ≡ self.old.image) }
@@ -45,7 +45,7 @@ impl<M: ModuleOf> Ends<M> {
 
     /// Hands a message to module `i` (put(9E)), and gives what it sends. Refused for want of memory
     /// alone: then nothing is changed.
-    pub fn put_at(&mut self, end: End, i: usize, side: Side, m: Message) -> Result<Outs, NoMem>
+    pub fn put_at(&mut self, end: End, i: usize, side: Side, m: BoxedMessage) -> Result<Outs, NoMem>
         ensures state { OnOk result (self.new.image ≡ with_end self.old.image end (end_gets M.Kind.means (end_of self.old.image end) i side m).state) }
         ensures outs { IfOk result (λ outs. outs.items ≡ (end_gets M.Kind.means (end_of self.old.image end) i side m).outs) }
         ensures err { OnErr result (self.new.image ≡ self.old.image) }
@@ -71,7 +71,7 @@ impl<M: ModuleOf> Ends<M> {
     }
 
     /// Takes the first message of an end's driver list (getq(9F)).
-    pub fn take_driver(&mut self, end: End) -> Option<Message>
+    pub fn take_driver(&mut self, end: End) -> Option<BoxedMessage>
         ensures some { IfSome result (λ m. ((end_of self.old.image end).drv ≡ m ∷ (end_of self.new.image end).drv) × (self.new.image ≡ with_drv self.old.image end (end_of self.new.image end).drv)) }
         ensures none { IfNone result (((end_of self.old.image end).drv ≡ []) × (self.new.image ≡ self.old.image)) }
         ensures same { SameModules self.old.image self.new.image }

@@ -1,7 +1,10 @@
 //! The driver's list of an end.
 ghost use Rattle.std.specs.Prelude.{◌≡◌, ◌∷◌, [], ◌<◌, ◌≤◌, false, OnOk, OnErr, IfOk, IfErr, IfSome, IfNone, IsOk};
 ghost use Rattle.strm_msg.specs.Kind.{is_high};
-ghost use Rattle.strm_msg.specs.Message.{rank_of};
+ghost use Rattle.strm_msg.specs.Message.{bare, rank_of};
+ghost use Rattle.strm_msg.specs.declared.kind.MsgKind.TheVariants.{MIocnak};
+ghost use Rattle.strm_msg.specs.declared.errno.Errno.TheVariants.{EINVAL};
+ghost use Rattle.strm_qpair.specs.declared.driver.DriverSends.TheVariants as Sends;
 ghost use Rattle.strm_msg.specs.Options.{options_asked};
 ghost use Rattle.strm_queue.specs.Queue.{put_in};
 ghost use Rattle.strm_queue.specs.Room.{room_for};
@@ -14,32 +17,39 @@ use super::StreamEnd;
 use super::head::{flush_list, put_in_list};
 use crate::driver::{Driver, DriverSends};
 use strm_module::ModuleOf;
-use strm_msg::{Bytes, Errno, Message, MsgKind, NoMem, SETOPTS, options_asked};
+use strm_msg::{BoxedMessage, Errno, Message, MsgKind, NoMem, SETOPTS, options_asked};
 use strm_queue::BandQueue;
 
-/// A flush of read queues that came down goes back up.
-fn flush_back(r: bool, band: Option<u8>) -> DriverSends
+/// A flush of read queues that came down goes back up, in its box.
+fn flush_back(m: BoxedMessage, r: bool, band: Option<u8>) -> DriverSends
     ensures { result ≡ flush_up r band }
 {
     if r {
-        DriverSends::Reply(Message::of_flush(true, false, band))
+        DriverSends::Reply(m.becoming(Message::of_flush(true, false, band)))
     } else {
         DriverSends::Nothing
     }
 }
 
-/// The answer to an ioctl by which options are asked for: they go up, or it is refused.
-fn options_up(id: u64, dat: &Option<Bytes>) -> DriverSends
-    ensures { result ≡ options_up id (options_asked dat.now) }
+/// An ioctl that is not carried out is answered by a nak with EINVAL, in its box.
+fn refused(m: BoxedMessage, id: u64) -> DriverSends
+    ensures { result ≡ Sends.Reply (bare (MIocnak id EINVAL)) }
 {
-    match options_asked(dat) {
+    DriverSends::Reply(m.becoming(Message::of_nak(id, Errno::EINVAL)))
+}
+
+/// The answer to an ioctl by which options are asked for: they go up, or it is refused.
+fn options_up(id: u64, m: BoxedMessage) -> DriverSends
+    ensures { result ≡ options_up id (options_asked m.dat) }
+{
+    match options_asked(&m.dat) {
         Some(MsgKind::MSetopts { mode, prot, marks }) => DriverSends::Options {
             mode,
             prot,
             marks,
             id,
         },
-        _ => DriverSends::Reply(Message::of_nak(id, Errno::EINVAL)),
+        _ => refused(m, id),
     }
 }
 
@@ -54,7 +64,7 @@ impl<M: ModuleOf> StreamEnd<M> {
 
     /// What a line driver does: it consumes what is written, and its list is flushed as a read
     /// queue.
-    fn line_does(&mut self, m: Message) -> DriverSends
+    fn line_does(&mut self, m: BoxedMessage) -> DriverSends
         ensures state { self.new.state ≡ (line_does self.old.state m.kind).state }
         ensures sends { result ≡ (line_does self.old.state m.kind).sends }
         ensures same { SameEnd self.old.state self.new.state }
@@ -62,16 +72,16 @@ impl<M: ModuleOf> StreamEnd<M> {
         match m.kind {
             MsgKind::MFlush { r, w: _, band } => {
                 self.flush_driver(r, band);
-                flush_back(r, band)
+                flush_back(m, r, band)
             }
-            MsgKind::MIoctl { id, .. } => DriverSends::Reply(Message::of_nak(id, Errno::EINVAL)),
+            MsgKind::MIoctl { id, .. } => refused(m, id),
             _ => DriverSends::Nothing,
         }
     }
 
     /// What a loop does: it keeps what is written, and its list is flushed as a write queue. Refused
     /// for want of memory alone: then nothing is changed.
-    fn loop_does(&mut self, m: Message) -> Result<DriverSends, NoMem>
+    fn loop_does(&mut self, m: BoxedMessage) -> Result<DriverSends, NoMem>
         ensures state { OnOk result (self.new.state ≡ (loop_does self.old.state m.kind m).state) }
         ensures sends { IfOk result (λ sends. sends ≡ (loop_does self.old.state m.kind m).sends) }
         ensures err { OnErr result (self.new.state ≡ self.old.state) }
@@ -80,11 +90,9 @@ impl<M: ModuleOf> StreamEnd<M> {
         match m.kind {
             MsgKind::MFlush { r, w, band } => {
                 self.flush_driver(w, band);
-                Ok(flush_back(r, band))
+                Ok(flush_back(m, r, band))
             }
-            MsgKind::MIoctl { id, .. } => {
-                Ok(DriverSends::Reply(Message::of_nak(id, Errno::EINVAL)))
-            }
+            MsgKind::MIoctl { id, .. } => Ok(refused(m, id)),
             MsgKind::MData | MsgKind::MProto => {
                 put_in_list(&mut self.drv, m)?;
                 Ok(DriverSends::Nothing)
@@ -96,21 +104,21 @@ impl<M: ModuleOf> StreamEnd<M> {
 
     /// What an echo does: the same as a loop, but that an ioctl of command `SETOPTS` makes it send options up. Refused for
     /// want of memory alone: then nothing is changed.
-    fn echo_does(&mut self, m: Message) -> Result<DriverSends, NoMem>
+    fn echo_does(&mut self, m: BoxedMessage) -> Result<DriverSends, NoMem>
         ensures state { OnOk result (self.new.state ≡ (echo_does self.old.state m.kind m).state) }
         ensures sends { IfOk result (λ sends. sends ≡ (echo_does self.old.state m.kind m).sends) }
         ensures err { OnErr result (self.new.state ≡ self.old.state) }
         ensures same { SameEnd self.old.state self.new.state }
     {
         match m.kind {
-            MsgKind::MIoctl { id, cmd } if cmd == SETOPTS => Ok(options_up(id, &m.dat)),
+            MsgKind::MIoctl { id, cmd } if cmd == SETOPTS => Ok(options_up(id, m)),
             _ => self.loop_does(m),
         }
     }
 
     /// What a driver does with a message from above, and what it sends up. Refused for want of
     /// memory alone: then nothing is changed.
-    pub fn driver_does(&mut self, driver: Driver, m: Message) -> Result<DriverSends, NoMem>
+    pub fn driver_does(&mut self, driver: Driver, m: BoxedMessage) -> Result<DriverSends, NoMem>
         ensures state { OnOk result (self.new.state ≡ (driver_at driver self.old.state m).state) }
         ensures sends { IfOk result (λ sends. sends ≡ (driver_at driver self.old.state m).sends) }
         ensures err { OnErr result (self.new.state ≡ self.old.state) }
@@ -133,7 +141,7 @@ impl<M: ModuleOf> StreamEnd<M> {
     }
 
     /// Takes the first message of the driver's list (getq(9F)). Takes no memory.
-    pub fn take_driver(&mut self) -> Option<Message>
+    pub fn take_driver(&mut self) -> Option<BoxedMessage>
         ensures some { IfSome result (λ m. (self.old.state.drv ≡ m ∷ self.new.state.drv) × (self.new.state ≡ in_drv self.old.state self.new.state.drv)) }
         ensures none { IfNone result ((self.old.state.drv ≡ []) × (self.new.state ≡ self.old.state)) }
         ensures same { SameEnd self.old.state self.new.state }
@@ -158,7 +166,7 @@ impl<M: ModuleOf> StreamEnd<M> {
     /// message of each rank.
     ///
     /// Refused for want of memory alone: the message comes back, and nothing is changed.
-    pub fn put_driver(&mut self, m: Message) -> Result<(), Message>
+    pub fn put_driver(&mut self, m: BoxedMessage) -> Result<(), BoxedMessage>
         requires { is_high m.kind ≡ false }
         ensures ok { OnOk result (self.new.state ≡ in_drv self.old.state (put_in self.old.state.drv m)) }
         ensures err { OnErr result (self.new.state ≡ self.old.state) }

@@ -14,7 +14,7 @@ use crate::pair::flush_bands;
 use crate::record::Record;
 use std::alloc::Global;
 use strm_module::ModuleOf;
-use strm_msg::{Errno, Marks, Message, MsgKind, NoMem, Prot, ReadMode};
+use strm_msg::{BoxedMessage, Errno, Marks, Message, MsgKind, NoMem, Prot, ReadMode};
 use strm_queue::BandQueue;
 
 /// A flush of a whole list or of one band, where the flush names the list.
@@ -28,7 +28,7 @@ pub(super) fn flush_list(queue: &mut BandQueue, is_named: bool, band: Option<u8>
 }
 
 /// Puts a message into a list. Refused for want of memory alone: then nothing is changed.
-pub(super) fn put_in_list(queue: &mut BandQueue, m: Message) -> Result<(), NoMem>
+pub(super) fn put_in_list(queue: &mut BandQueue, m: BoxedMessage) -> Result<(), NoMem>
     ensures ok { OnOk result (queue.new.messages ≡ put_in queue.old.messages m) }
     ensures err { OnErr result (queue.new.messages ≡ queue.old.messages) }
     ensures marks { queue.new.marks ≡ queue.old.marks }
@@ -43,7 +43,7 @@ pub(super) fn put_in_list(queue: &mut BandQueue, m: Message) -> Result<(), NoMem
 }
 
 /// Puts a message into the head's list, and sends nothing down. Refused for want of memory alone: then nothing is changed.
-fn queue_up(queue: &mut BandQueue, m: Message) -> Result<Option<Message>, NoMem>
+fn queue_up(queue: &mut BandQueue, m: BoxedMessage) -> Result<Option<BoxedMessage>, NoMem>
     ensures ok { OnOk result (queue.new.messages ≡ put_in queue.old.messages m) }
     ensures sends { IfOk result (λ sends. sends ≡ None) }
     ensures err { OnErr result (queue.new.messages ≡ queue.old.messages) }
@@ -64,31 +64,32 @@ fn set_fit_marks(queue: &mut BandQueue, marks: Option<(u32, u32)>)
     }
 }
 
-/// What is left of a flush that came up, for the write queues below.
-fn flush_down(w: bool, band: Option<u8>) -> Option<Message>
+/// What is left of a flush that came up, for the write queues below, in its box.
+fn flush_down(m: BoxedMessage, w: bool, band: Option<u8>) -> Option<BoxedMessage>
     ensures { result ≡ flush_down w band }
 {
     if w {
-        Some(Message::of_flush(false, true, band))
+        Some(m.becoming(Message::of_flush(false, true, band)))
     } else {
         None
     }
 }
 
-/// The flush that an error sends down: of the sides for which it is given.
-fn error_flush(rd: Option<Errno>, wr: Option<Errno>) -> Option<Message>
+/// The flush that an error sends down, in its box: of the sides for which it is given.
+fn error_flush(m: BoxedMessage, rd: Option<Errno>, wr: Option<Errno>) -> Option<BoxedMessage>
     ensures { result ≡ error_flush rd wr }
 {
     if rd.is_none() && wr.is_none() {
         return None;
     }
-    Some(Message::of_flush(rd.is_some(), wr.is_some(), None))
+    let flush = Message::of_flush(rd.is_some(), wr.is_some(), None);
+    Some(m.becoming(flush))
 }
 
 impl<M: ModuleOf> StreamEnd<M> {
     /// What the head does with a message from below, and what it sends down (strrput). Refused for
     /// want of memory alone: then nothing is changed.
-    pub fn head_does(&mut self, m: Message) -> Result<Option<Message>, NoMem>
+    pub fn head_does(&mut self, m: BoxedMessage) -> Result<Option<BoxedMessage>, NoMem>
         ensures state { OnOk result (self.new.state ≡ (head_does self.old.state m).state) }
         ensures sends { IfOk result (λ sends. sends ≡ (head_does self.old.state m).sends) }
         ensures err { OnErr result (self.new.state ≡ self.old.state) }
@@ -112,9 +113,8 @@ impl<M: ModuleOf> StreamEnd<M> {
                 Ok(None)
             }
             MsgKind::MFlush { r, w, band } => {
-                drop(m);
                 flush_list(&mut self.head, r, band);
-                Ok(flush_down(w, band))
+                Ok(flush_down(m, w, band))
             }
             MsgKind::MHangup => {
                 drop(m);
@@ -122,9 +122,8 @@ impl<M: ModuleOf> StreamEnd<M> {
                 Ok(None)
             }
             MsgKind::MError { rd, wr } => {
-                drop(m);
                 self.state.set_errors(rd, wr);
-                Ok(error_flush(rd, wr))
+                Ok(error_flush(m, rd, wr))
             }
             MsgKind::MIoctl { .. } => {
                 drop(m);
@@ -157,7 +156,7 @@ impl<M: ModuleOf> StreamEnd<M> {
     }
 
     /// Takes the first message of the head's list. Takes no memory, and no rank loses room.
-    pub fn take_head(&mut self) -> Option<Message>
+    pub fn take_head(&mut self) -> Option<BoxedMessage>
         ensures first { MatchOption result (self.old.state.head ≡ []) (λ m. self.old.state.head ≡ m ∷ self.new.state.head) }
         ensures state { self.new.state ≡ in_head self.old.state (drop 1 self.old.state.head) }
         ensures head_room { KeepsRoom self.old.head_room self.new.head_room }
@@ -183,7 +182,7 @@ impl<M: ModuleOf> StreamEnd<M> {
     /// room for at most one message of each rank.
     ///
     /// Refused for want of memory alone: the message comes back, and nothing is changed.
-    pub fn put_back_head(&mut self, m: Message) -> Result<(), Message>
+    pub fn put_back_head(&mut self, m: BoxedMessage) -> Result<(), BoxedMessage>
         ensures ok { OnOk result (self.new.state ≡ in_head self.old.state (put_back_in self.old.state.head m)) }
         ensures err { OnErr result (self.new.state ≡ self.old.state) }
         ensures back { IfErr result (λ same. same ≡ m) }
@@ -226,7 +225,7 @@ impl<M: ModuleOf> StreamEnd<M> {
     }
 
     /// Gives the answer to an ioctl, if one came, and awaits none any longer.
-    pub fn end_ioctl(&mut self) -> Option<Message>
+    pub fn end_ioctl(&mut self) -> Option<BoxedMessage>
         ensures answer { result ≡ self.old.state.state.kept }
         ensures end { self.new ≡ record self.old { state = in_state self.old.state (ended self.old.state.state) } }
     {

@@ -3,8 +3,8 @@ use super::check;
 use std::mem::size_of;
 use strm_head::{Answer, Event, Name, Outcome, Reply, Request};
 use strm_history::{Called, Entry, Kept, Receipt};
-use strm_module::{Boxed, BoxedShape, Kind, Plain};
-use strm_msg::Message;
+use strm_module::{Boxed, BoxedShape, Kind, Outs, Plain};
+use strm_msg::{BoxedMessage, Message};
 use strm_run::ScriptCall;
 
 #[test]
@@ -12,6 +12,8 @@ fn what_a_call_moves_is_small(rt: HostRuntime) {
     for (what, size, wanted) in [
         ("a name", size_of::<Name>(), 9),
         ("a message", size_of::<Message>(), 96),
+        ("a message in its box", size_of::<BoxedMessage>(), 8),
+        ("what a module sends", size_of::<Outs>(), 48),
         ("a reply", size_of::<Reply>(), 104),
         ("an answer", size_of::<Answer>(), 112),
         ("a request", size_of::<Request<Boxed<Plain>>>(), 80),

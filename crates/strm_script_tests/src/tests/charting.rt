@@ -5,11 +5,11 @@ use std::alloc::Global;
 use std::process::Abort;
 use strm_call::{Answer, Reply};
 use strm_chart::chart;
-use strm_head::{BoxedMessage, Event, Place};
+use strm_head::{Event, Place};
 use strm_history::{Entry, Kept, Serials, Who};
 use strm_module::Kind;
 use strm_msg::End::A;
-use strm_msg::Message;
+use strm_msg::{BoxedMessage, Message};
 use strm_plan::Plan;
 use strm_run::{StreamLog, Transcript};
 

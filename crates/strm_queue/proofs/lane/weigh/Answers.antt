@@ -11,13 +11,15 @@ overflow_add-sum c =
     let all = light_sum c.args.messages.now.items c.requires in
     let next = rw c.in-Some.ensures.steps at c.loop-m.invariant in
     let more = sum_by-cons weight_of c.in-Some.m.now (deque_iter_rest c.next.new.self) in
-    omega (arith, all, next, more, c.weight-sum.ensures.value)
+    let weight = rw c.deref.ensures at c.weight-sum.ensures.value in
+    omega (arith, all, next, more, weight)
 
 pub loop-m-preserved : goal.loop-m-preserved
 loop-m-preserved c =
     let next = rw c.in-Some.ensures.steps at c.loop-m.invariant in
     let more = sum_by-cons weight_of c.in-Some.m.now (deque_iter_rest c.next.new.self) in
-    omega (arith, next, more, c.weight-sum.ensures.value)
+    let weight = rw c.deref.ensures at c.weight-sum.ensures.value in
+    omega (arith, next, more, weight)
 
 pub returns : goal.returns
 returns c =

@@ -94,7 +94,7 @@ fn is_asked(
 /// Whether an event is that this message came in.
 fn is_arrival(event: &Event<BoxedShape<Kind>>, wanted: Message) -> bool {
     let is_so = match event {
-        Event::Arrived(m) => *m.message() == wanted,
+        Event::Arrived(m) => **m == wanted,
         Event::Asked(_) => false,
     };
     drop(wanted);

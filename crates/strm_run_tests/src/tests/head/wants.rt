@@ -5,7 +5,7 @@ use std::alloc::Global;
 use std::process::Abort;
 use strm_head::{Answer, Driver, Outcome, Refusal, Reply, Request, Stream};
 use strm_module::{Boxed, Kind, Module, ModuleOf, Put, Shape};
-use strm_msg::{Message, NoMem, Side};
+use strm_msg::{BoxedMessage, NoMem, Side};
 
 type Boxes = Stream<Box<dyn Module>>;
 
@@ -22,7 +22,7 @@ impl Module for Wants {
         alloc: Global,
         shape: &mut Shape,
         side: Side,
-        m: Message,
+        m: BoxedMessage,
     ) -> Result<Put, NoMem> {
         let is_wanting = self.before == 0;
         self.before = self.before.wrapping_sub(1);

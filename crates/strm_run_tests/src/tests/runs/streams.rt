@@ -7,7 +7,7 @@ use std::sync::{OnceLock, Wait};
 use std::thread::Threads;
 use strm_module::{Kind, Module, Put, Shape};
 use strm_msg::End::A;
-use strm_msg::{Message, NoMem, Side};
+use strm_msg::{BoxedMessage, NoMem, Side};
 use strm_run::Gate;
 
 /// What was done in a run of two callers: the first stands in its module, the second has its answer, and
@@ -31,7 +31,7 @@ impl Module for Waiting<'_> {
         alloc: Global,
         shape: &mut Shape,
         side: Side,
-        m: Message,
+        m: BoxedMessage,
     ) -> Result<Put, NoMem> {
         let _ = self.done.inside.try_set(());
         wait_for(&self.done.answered, &self.done.late);

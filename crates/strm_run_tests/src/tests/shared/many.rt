@@ -97,7 +97,7 @@ pub(super) fn count_in_order(ended: &Ended<Plain>) -> Option<u32> {
     let mut next: u32 = 0;
     for kept in ended.history() {
         if let Event::Arrived(m) = &kept.entry().event {
-            if !is_number(m.message(), next) {
+            if !is_number(m, next) {
                 return None;
             }
             next = next.saturating_add(1);

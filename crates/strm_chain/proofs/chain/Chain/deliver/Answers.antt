@@ -42,7 +42,7 @@ returns-in-Err-clause-refused g c =
 
 pub returns-in-Ok-carry_all-clause-ok : goal.returns-in-Ok-carry_all-clause-ok
 returns-in-Ok-carry_all-clause-ok g c =
-    c.in-Ok-carry_all.ensures.ok ∙ (rw c.new-hops.ensures.items at c.in-Ok.ensures.image) ∙ c.handed_in-hop.ensures
+    rw (← c.in_ok-m.ensures.ok) (c.in-Ok-carry_all.ensures.ok ∙ (rw c.new-hops.ensures.items at c.in-Ok.ensures.image) ∙ c.handed_in-hop.ensures)
 
 pub returns-in-Ok-carry_all-clause-whole : goal.returns-in-Ok-carry_all-clause-whole
 returns-in-Ok-carry_all-clause-whole g c = rw (← c.self.view_is) (sym c.is_broken.ensures ∙ c.if-is_broken.false)

@@ -15,7 +15,7 @@ pub invariant_of-self : goal.invariant_of-self
 invariant_of-self g c =
     let old = c.self.inside.ends.image in
     let new = c.head_does-answer.new.self.image in
-    let sets : sets_options c.args.m.kind ≡ true = rw (← c.m.view_is) (sym c.sets_options-sets.ensures ∙ c.if-sets.true) in
+    let sets : sets_options c.args.m.kind ≡ true = rw (← c.deref.ensures, ← c.behind-m.view_is) (sym c.sets_options-sets.ensures ∙ c.if-sets.true) in
     let differs : SetsMarks old new c.args.end =
     on_result c.head_does-answer.result _ _ _ c.head_does-answer.ensures.state c.head_does-answer.ensures.err
     (λ e. head_sets old c.args.end new c.args.m sets c.head_does-answer.ensures.same e)
@@ -28,7 +28,7 @@ pub invariant_of-self-2 : goal.invariant_of-self-2
 invariant_of-self-2 g c =
     let old = c.self.inside.ends.image in
     let new = c.head_does-answer.new.self.image in
-    let none : sets_options c.args.m.kind ≡ false = rw (← c.m.view_is) (sym c.sets_options-sets.ensures ∙ c.if-sets.false) in
+    let none : sets_options c.args.m.kind ≡ false = rw (← c.deref.ensures, ← c.behind-m.view_is) (sym c.sets_options-sets.ensures ∙ c.if-sets.false) in
     let differs : DiffersIn old new (Head c.args.end) =
     on_result c.head_does-answer.result _ _ _ c.head_does-answer.ensures.state c.head_does-answer.ensures.err
     (λ e. head_differs old c.args.end new c.args.m none c.head_does-answer.ensures.same e)
@@ -41,7 +41,7 @@ pub returns-then-sets-clause-grows : goal.returns-then-sets-clause-grows
 returns-then-sets-clause-grows g c =
     let old = c.self.inside.ends.image in
     let new = c.head_does-answer.new.self.image in
-    let sets : sets_options c.args.m.kind ≡ true = rw (← c.m.view_is) (sym c.sets_options-sets.ensures ∙ c.if-sets.true) in
+    let sets : sets_options c.args.m.kind ≡ true = rw (← c.deref.ensures, ← c.behind-m.view_is) (sym c.sets_options-sets.ensures ∙ c.if-sets.true) in
     on_ok c.head_does-answer.result _ _ c.head_does-answer.ensures.state
     (λ e calm.
     let b = answers_options old.driver in
@@ -52,7 +52,7 @@ returns-clause-grows g c =
     let old = c.self.inside.ends.image in
     let new = c.head_does-answer.new.self.image in
     let queue = Head c.args.end in
-    let none : sets_options c.args.m.kind ≡ false = rw (← c.m.view_is) (sym c.sets_options-sets.ensures ∙ c.if-sets.false) in
+    let none : sets_options c.args.m.kind ≡ false = rw (← c.deref.ensures, ← c.behind-m.view_is) (sym c.sets_options-sets.ensures ∙ c.if-sets.false) in
     on_ok c.head_does-answer.result _ _ c.head_does-answer.ensures.state
     (λ e calm.
     let b = answers_options old.driver in

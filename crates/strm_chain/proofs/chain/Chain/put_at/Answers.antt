@@ -22,7 +22,7 @@ pub invariant_of-self-2 : goal.invariant_of-self-2
 invariant_of-self-2 g c =
     let old = c.self.inside.ends.image in
     let new = c.put_at-answer.new.self.image in
-    let calm : is_flush c.args.m.kind ≡ false = rw (← c.m.view_is) (sym c.is_flush-flushes.ensures ∙ c.if-flushes.false) in
+    let calm : is_flush c.args.m.kind ≡ false = rw (← c.deref.ensures, ← c.behind-m.view_is) (sym c.is_flush-flushes.ensures ∙ c.if-flushes.false) in
     let differs : DiffersIn old new c.in-Some.queue =
     rw c.in-Some.ensures.some
     (on_result c.put_at-answer.result _ _ _ c.put_at-answer.ensures.state c.put_at-answer.ensures.err
@@ -36,7 +36,7 @@ pub returns-clause-grows : goal.returns-clause-grows
 returns-clause-grows g c =
     let old = c.self.inside.ends.image in
     let new = c.put_at-answer.new.self.image in
-    let calm_kind : is_flush c.args.m.kind ≡ false = rw (← c.m.view_is) (sym c.is_flush-flushes.ensures ∙ c.if-flushes.false) in
+    let calm_kind : is_flush c.args.m.kind ≡ false = rw (← c.deref.ensures, ← c.behind-m.view_is) (sym c.is_flush-flushes.ensures ∙ c.if-flushes.false) in
     let queue = Of (module_place c.args.side c.args.end c.args.i) in
     let is = c.in-Some.ensures.some in
     rw (← c.self.view_is)

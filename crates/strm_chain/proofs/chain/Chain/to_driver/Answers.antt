@@ -1,4 +1,4 @@
-use Rattle.std.proofs.Common.{◌≡◌, ◌≤◌, ◌<◌, ◌∙◌, ap, sym, arith}
+use Rattle.std.proofs.Common.{◌≡◌, ◌≤◌, ◌<◌, ◌∷◌, ◌∙◌, ap, sym, arith}
 use Rattle.std.proofs.Common.{true, None, refl}
 use Rattle.strm_module.specs.Calm.{is_calm, options_of}
 use Rattle.strm_qpair.specs.declared.driver.DriverSends.TheVariants.{Reply, Across}
@@ -12,6 +12,8 @@ use Rattle.strm_msg.specs.declared.kind.MsgKind.TheVariants.{MSetopts}
 use Rattle.strm_ends.specs.Image.{partner}
 use Rattle.strm_chain.specs.Hop.{carry_all, up_hop, down_hop, rank}
 use Rattle.strm_chain.proofs.HopLemmas.{carries_up, carries_two, driver_nothing, driver_reply, driver_across, driver_options}
+use Rattle.strm_chain.proofs.CaseLemmas.{on_ok, always}
+use Rattle.strm_chain.proofs.StillLemmas.{nothing_changed}
 use Rattle.strm_chain.proofs.LoadLemmas.{none_falls, one_falls, two_fall}
 use Rattle.strm_chain.proofs.chain.Chain.to_driver.Goals as goal
 
@@ -66,28 +68,30 @@ pub returns-in-Nothing-clause-falls : goal.returns-in-Nothing-clause-falls
 returns-in-Nothing-clause-falls g c =
     none_falls (down_hop c.args.head_sent c.args.end 0 c.args.m) c.args.hops.now.items
 
-pub returns-in-Options-clause-image : goal.returns-in-Options-clause-image
-returns-in-Options-clause-image g c =
+pub returns-clause-image : goal.returns-clause-image
+returns-clause-image g c =
     let means = g.M.Kind.Kinds.means in
     let old = c.args.self.now.image in
     let new = c.driver_does.new.self.image in
     let n = c.count-own.result in
     let x = bare (MSetopts c.in-Options.mode c.in-Options.prot c.in-Options.marks) in
     let y = ack_msg c.in-Options.id 0 None in
-    rw (c.push_front_reserved-in-Options-2.ensures.items, c.up-in-Options-2.ensures, c.of_setopts-options.ensures, c.push_front_reserved-in-Options.ensures.items, c.up-in-Options.ensures, c.of_ack-ack.ensures)
+    on_ok c.push_options.result _ _ c.push_options.ensures
+    (λ pushed. rw (pushed, c.of_setopts-options.ensures, c.of_ack-ack.ensures)
     (ap (λ i. carry_all means i c.args.hops.now.items)
-    (carries_two means new c.args.head_sent c.args.end n x y ∙ driver_options means c.args.head_sent c.args.end n old new c.args.m c.in-Options.mode c.in-Options.prot c.in-Options.marks c.in-Options.id c.count-own.ensures.value (sym c.in-Options.is ∙ c.in_ok-driver_does.ensures.sends) c.in_ok-driver_does.ensures.state))
+    (carries_two means new c.args.head_sent c.args.end n x y ∙ driver_options means c.args.head_sent c.args.end n old new c.args.m c.in-Options.mode c.in-Options.prot c.in-Options.marks c.in-Options.id c.count-own.ensures.value (sym c.in-Options.is ∙ c.in_ok-driver_does.ensures.sends) c.in_ok-driver_does.ensures.state)))
 
-pub returns-in-Options-clause-falls : goal.returns-in-Options-clause-falls
-returns-in-Options-clause-falls g c =
+pub returns-clause-falls : goal.returns-clause-falls
+returns-clause-falls g c =
     let n = c.count-own.result in
     let few : n ≤ 8 = c.count-own.ensures.few in
     let x = up_hop c.args.head_sent c.args.end n (bare (MSetopts c.in-Options.mode c.in-Options.prot c.in-Options.marks)) in
     let y = up_hop c.args.head_sent c.args.end n (ack_msg c.in-Options.id 0 None) in
     let less_x : rank x < rank (down_hop c.args.head_sent c.args.end 0 c.args.m) = omega arith in
     let less_y : rank y < rank (down_hop c.args.head_sent c.args.end 0 c.args.m) = omega arith in
-    rw (c.push_front_reserved-in-Options-2.ensures.items, c.up-in-Options-2.ensures, c.of_setopts-options.ensures, c.push_front_reserved-in-Options.ensures.items, c.up-in-Options.ensures, c.of_ack-ack.ensures)
-    (two_fall (down_hop c.args.head_sent c.args.end 0 c.args.m) x y c.args.hops.now.items less_x less_y)
+    on_ok c.push_options.result _ _ c.push_options.ensures
+    (λ pushed. rw (pushed, c.of_setopts-options.ensures, c.of_ack-ack.ensures)
+    (two_fall (down_hop c.args.head_sent c.args.end 0 c.args.m) x y c.args.hops.now.items less_x less_y))
 
 pub returns-in-Reply-clause-grows : goal.returns-in-Reply-clause-grows
 returns-in-Reply-clause-grows g c =
@@ -123,6 +127,26 @@ returns-in-Across-clause-grows g c =
       rw (c.push_front_reserved-in-Across.ensures.items, c.up-in-Across.ensures) (one_calm (up_hop c.args.head_sent c.partner_of-partner.result c.count-across.result m) c.args.hops.now.items still rest),
     )
 
+pub returns-clause-grows : goal.returns-clause-grows
+returns-clause-grows g c =
+    let old = c.args.self.now.image in
+    let b = answers_options old.driver in
+    let n = c.count-own.result in
+    let rest = c.args.hops.now.items in
+    let x = up_hop c.args.head_sent c.args.end n (bare (MSetopts c.in-Options.mode c.in-Options.prot c.in-Options.marks)) in
+    let y = up_hop c.args.head_sent c.args.end n (ack_msg c.in-Options.id 0 None) in
+    on_ok c.push_options.result _ _ c.push_options.ensures
+    (λ pushed kinds calm calm_rest.
+    let is : c.push_options.new.hops.items ≡ x ∷ (y ∷ rest) = rw (pushed, c.of_setopts-options.ensures, c.of_ack-ack.ensures) refl in
+    let grow = c.in_ok-driver_does.ensures.grows calm in
+    let by = ap (options_driven b) c.in-Options.is in
+    let set = ap (options_carried old) is in
+    let first = hop_adds b x (y ∷ rest) in
+    let second = hop_adds b y rest in (
+      omega (arith, grow, by, set, first, second),
+      rw is (one_calm x (y ∷ rest) refl (one_calm y rest refl calm_rest)),
+    ))
+
 pub returns-in-Nothing-clause-err : goal.returns-in-Nothing-clause-err
 returns-in-Nothing-clause-err g c = tt
 
@@ -150,14 +174,16 @@ returns-in-Across-clause-same g c = c.driver_does.ensures.same
 pub returns-in-Across-clause-given : goal.returns-in-Across-clause-given
 returns-in-Across-clause-given g c = c.driver_does.ensures.given
 
-pub returns-in-Options-clause-err : goal.returns-in-Options-clause-err
-returns-in-Options-clause-err g c = tt
+pub returns-clause-err : goal.returns-clause-err
+returns-clause-err g c =
+    always c.push_options.result _
+    (nothing_changed c.in-Options.mode c.in-Options.prot c.in-Options.marks c.in-Options.id c.args.end c.args.self.now.image c.driver_does.new.self.image c.args.m (sym c.in-Options.is ∙ c.in_ok-driver_does.ensures.sends) c.in_ok-driver_does.ensures.state)
 
-pub returns-in-Options-clause-same : goal.returns-in-Options-clause-same
-returns-in-Options-clause-same g c = c.driver_does.ensures.same
+pub returns-clause-same : goal.returns-clause-same
+returns-clause-same g c = c.driver_does.ensures.same
 
-pub returns-in-Options-clause-given : goal.returns-in-Options-clause-given
-returns-in-Options-clause-given g c = c.driver_does.ensures.given
+pub returns-clause-given : goal.returns-clause-given
+returns-clause-given g c = c.driver_does.ensures.given
 
 pub returns-in_err-driver_does-clause-same : goal.returns-in_err-driver_does-clause-same
 returns-in_err-driver_does-clause-same g c = c.driver_does.ensures.same

@@ -7,42 +7,42 @@ pub returns-in-MFlush-clause-state : goal.returns-in-MFlush-clause-state
 returns-in-MFlush-clause-state g c =
     let e = c.args.self.now.state in
     let opened : e.is_open ≡ true = rw (← c.self.view_is) c.if-not-self.false in
-    let is : c.args.m.kind ≡ MFlush c.in-MFlush.r c.in-MFlush.w c.in-MFlush.band = rw (← c.m.view_is) c.in-MFlush.is in
+    let is : c.args.m.kind ≡ MFlush c.in-MFlush.r c.in-MFlush.w c.in-MFlush.band = rw (← c.deref.ensures, ← c.behind-m.view_is) c.in-MFlush.is in
     rw (open_does e c.args.m (MFlush c.in-MFlush.r c.in-MFlush.w c.in-MFlush.band) opened is, ← c.self.view_is, c.flush_list.ensures.messages, c.flush_list.ensures.marks) refl
 
 pub returns-in-MFlush-clause-sends : goal.returns-in-MFlush-clause-sends
 returns-in-MFlush-clause-sends g c =
     let e = c.args.self.now.state in
     let opened : e.is_open ≡ true = rw (← c.self.view_is) c.if-not-self.false in
-    let is : c.args.m.kind ≡ MFlush c.in-MFlush.r c.in-MFlush.w c.in-MFlush.band = rw (← c.m.view_is) c.in-MFlush.is in
+    let is : c.args.m.kind ≡ MFlush c.in-MFlush.r c.in-MFlush.w c.in-MFlush.band = rw (← c.deref.ensures, ← c.behind-m.view_is) c.in-MFlush.is in
     rw (open_does e c.args.m (MFlush c.in-MFlush.r c.in-MFlush.w c.in-MFlush.band) opened is, c.flush_down.ensures) refl
 
 pub returns-in-MHangup-clause-state : goal.returns-in-MHangup-clause-state
 returns-in-MHangup-clause-state g c =
     let e = c.args.self.now.state in
     let opened : e.is_open ≡ true = rw (← c.self.view_is) c.if-not-self.false in
-    let is : c.args.m.kind ≡ MHangup = rw (← c.m.view_is) c.in-MHangup.is in
+    let is : c.args.m.kind ≡ MHangup = rw (← c.deref.ensures, ← c.behind-m.view_is) c.in-MHangup.is in
     rw (open_does e c.args.m (MHangup) opened is, ← c.self.view_is) refl
 
 pub returns-in-MHangup-clause-sends : goal.returns-in-MHangup-clause-sends
 returns-in-MHangup-clause-sends g c =
     let e = c.args.self.now.state in
     let opened : e.is_open ≡ true = rw (← c.self.view_is) c.if-not-self.false in
-    let is : c.args.m.kind ≡ MHangup = rw (← c.m.view_is) c.in-MHangup.is in
+    let is : c.args.m.kind ≡ MHangup = rw (← c.deref.ensures, ← c.behind-m.view_is) c.in-MHangup.is in
     rw (open_does e c.args.m (MHangup) opened is) refl
 
 pub returns-in-MError-clause-state : goal.returns-in-MError-clause-state
 returns-in-MError-clause-state g c =
     let e = c.args.self.now.state in
     let opened : e.is_open ≡ true = rw (← c.self.view_is) c.if-not-self.false in
-    let is : c.args.m.kind ≡ MError c.in-MError.rd c.in-MError.wr = rw (← c.m.view_is) c.in-MError.is in
+    let is : c.args.m.kind ≡ MError c.in-MError.rd c.in-MError.wr = rw (← c.deref.ensures, ← c.behind-m.view_is) c.in-MError.is in
     rw (open_does e c.args.m (MError c.in-MError.rd c.in-MError.wr) opened is, ← c.self.view_is, c.set_errors.ensures) refl
 
 pub returns-in-MError-clause-sends : goal.returns-in-MError-clause-sends
 returns-in-MError-clause-sends g c =
     let e = c.args.self.now.state in
     let opened : e.is_open ≡ true = rw (← c.self.view_is) c.if-not-self.false in
-    let is : c.args.m.kind ≡ MError c.in-MError.rd c.in-MError.wr = rw (← c.m.view_is) c.in-MError.is in
+    let is : c.args.m.kind ≡ MError c.in-MError.rd c.in-MError.wr = rw (← c.deref.ensures, ← c.behind-m.view_is) c.in-MError.is in
     rw (open_does e c.args.m (MError c.in-MError.rd c.in-MError.wr) opened is, c.error_flush.ensures) refl
 
 pub returns-in-MFlush-clause-same : goal.returns-in-MFlush-clause-same

@@ -6,7 +6,7 @@ use Rattle.strm_qpair.proofs.end.StreamEnd.loop_does.Goals as goal
 pub invariant_of-self-in-MData : goal.invariant_of-self-in-MData
 invariant_of-self-in-MData g c =
     let k = c.self.invariant in
-    let low : is_high c.args.m.kind ≡ false = rw (← c.m.view_is) (ordinary-kind c.m.inside.kind c.in-MData.is) in
+    let low : is_high c.args.m.kind ≡ false = rw (← c.deref.ensures, ← c.behind-m.view_is) (ordinary-kind c.behind-m.inside.kind c.in-MData.is) in
     record {
       room = k.room;
       few = k.few;
@@ -28,10 +28,10 @@ returns-in_ok-put_in_list-in-MData-clause-same g c =
     })
 
 pub returns-in-MFlush-clause-state : goal.returns-in-MFlush-clause-state
-returns-in-MFlush-clause-state g c = rw (← c.m.view_is, c.in-MFlush.is) c.flush_driver.ensures.state
+returns-in-MFlush-clause-state g c = rw (← c.deref.ensures, ← c.behind-m.view_is, c.in-MFlush.is) c.flush_driver.ensures.state
 
 pub returns-in-MFlush-clause-sends : goal.returns-in-MFlush-clause-sends
-returns-in-MFlush-clause-sends g c = rw (← c.m.view_is, c.in-MFlush.is) c.flush_back.ensures
+returns-in-MFlush-clause-sends g c = rw (← c.deref.ensures, ← c.behind-m.view_is, c.in-MFlush.is) c.flush_back.ensures
 
 pub returns-in-MFlush-clause-same : goal.returns-in-MFlush-clause-same
 returns-in-MFlush-clause-same g c = c.flush_driver.ensures.same

@@ -8,7 +8,7 @@ pub returns-in-Sent-clause-waits : goal.returns-in-Sent-clause-waits
 returns-in-Sent-clause-waits g c =
     let s : QueuePair g.row.M-Kind.Denot = record { shape = c.self.inside.instance; rd = messages_in c.self.inside.rd; wr = messages_in c.self.inside.wr } in
     let same = c.put.ensures.same in
-    rw (← c.self.view_is) (λ h. waits-sent s c.put.new.self c.m.inside.kind c.flush.new.self c.flush.ensures same.rd same.wr h)
+    rw (← c.self.view_is) (λ h. waits-sent s c.put.new.self c.behind-m.inside.kind c.flush.new.self c.flush.ensures same.rd same.wr h)
 
 pub returns-after-side-clause-waits : goal.returns-after-side-clause-waits
 returns-after-side-clause-waits g c =

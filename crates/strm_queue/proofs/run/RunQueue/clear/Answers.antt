@@ -1,4 +1,4 @@
-use Rattle.std.proofs.Common.{rules, ◌≡◌, ◌≤◌, arith}
+use Rattle.std.proofs.Common.{arith}
 use Rattle.strm_queue.proofs.RunLemmas.{once_none}
 use Rattle.strm_queue.proofs.run.RunQueue.clear.Goals as goal
 

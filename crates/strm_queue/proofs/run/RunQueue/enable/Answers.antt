@@ -1,5 +1,5 @@
-use Rattle.std.proofs.Common.{rules, ◌≡◌, ◌<◌, ◌≤◌, ◌+◌, ◌∷◌, ◌++◌, [], false, length, length-append, ap, sym, ◌∙◌, arith}
-use Rattle.strm_queue.specs.Run.{RunList, stands_in, AreOnce}
+use Rattle.std.proofs.Common.{◌≡◌, ◌<◌, ◌≤◌, ◌∷◌, ◌++◌, [], false, length, length-append, ap, sym, ◌∙◌, arith}
+use Rattle.strm_queue.specs.Run.{RunList, stands_in}
 use Rattle.strm_queue.proofs.RunLemmas.{once_behind}
 use Rattle.strm_queue.proofs.run.RunQueue.enable.Goals as goal
 

@@ -1,0 +1,82 @@
+-- What asks a driver for options of the head changes nothing at its end.
+use Rattle.std.proofs.Common.{◌≡◌, ◌==◌, ℕ, Bool, true, false, Option, if◌then◌else◌, ◌∙◌, ap, refl}
+use Rattle.strm_msg.specs.Message.{Msg}
+use Rattle.strm_msg.specs.Options.{options_asked}
+use Rattle.strm_msg.specs.declared.words.End.{End}
+use Rattle.strm_msg.specs.declared.words.End.TheVariants.{A, B}
+use Rattle.strm_msg.specs.declared.words.ReadMode.{ReadMode}
+use Rattle.strm_msg.specs.declared.words.Prot.{Prot}
+use Rattle.strm_msg.specs.declared.options.TheConstants.{SETOPTS}
+use Rattle.strm_msg.specs.declared.kind.MsgKind.{MsgKind}
+use Rattle.strm_msg.specs.declared.kind.MsgKind.TheVariants.{MData, MProto, MPcproto, MIoctl, MIocack, MIocnak, MSetopts, MFlush, MHangup, MError}
+use Rattle.strm_qpair.specs.End.{EndState}
+use Rattle.strm_qpair.specs.Driver.{line_does, loop_does, echo_does, driver_at, options_up, refuses, consumes}
+use Rattle.strm_qpair.specs.declared.driver.Driver.{Driver}
+use Rattle.strm_qpair.specs.declared.driver.Driver.TheVariants.{Echo, Loop, Line}
+use Rattle.strm_qpair.specs.declared.driver.DriverSends.TheVariants.{Options}
+use Rattle.strm_ends.specs.Image.{Image, end_of, with_end, has_end, driver_does}
+
+module _ {K : Type 0} (mode : Option ReadMode) (prot : Option Prot) (marks : Option (ℕ × ℕ)) (id : ℕ) where
+  line_still : (e : EndState K) (kind : MsgKind) → Options mode prot marks id ≡ (line_does e kind).sends → (line_does e kind).state ≡ e
+  line_still e (MFlush true w band) s = cc
+  line_still e (MFlush false w band) s = cc
+  line_still e (MIoctl n cmd) s = refl
+  line_still e MData s = refl
+  line_still e MProto s = refl
+  line_still e MPcproto s = refl
+  line_still e (MIocack n rval) s = refl
+  line_still e (MIocnak n errno) s = refl
+  line_still e (MSetopts a b d) s = refl
+  line_still e MHangup s = refl
+  line_still e (MError rd wr) s = refl
+
+  loop_still : (e : EndState K) (kind : MsgKind) (m : Msg) → Options mode prot marks id ≡ (loop_does e kind m).sends → (loop_does e kind m).state ≡ e
+  loop_still e (MFlush true w band) m s = cc
+  loop_still e (MFlush false w band) m s = cc
+  loop_still e (MIoctl n cmd) m s = refl
+  loop_still e MData m s = cc
+  loop_still e MProto m s = cc
+  loop_still e MPcproto m s = refl
+  loop_still e (MIocack n rval) m s = refl
+  loop_still e (MIocnak n errno) m s = refl
+  loop_still e (MSetopts a b d) m s = refl
+  loop_still e MHangup m s = refl
+  loop_still e (MError rd wr) m s = refl
+
+  ioctl_still : (e : EndState K) (n : ℕ) (m : Msg) (asks : Bool) → (if asks then record { state = e; sends = options_up n (options_asked m.dat) } else refuses e n).state ≡ e
+  ioctl_still e n m true = refl
+  ioctl_still e n m false = refl
+
+  echo_still : (e : EndState K) (kind : MsgKind) (m : Msg) → Options mode prot marks id ≡ (echo_does e kind m).sends → (echo_does e kind m).state ≡ e
+  echo_still e (MIoctl n cmd) m s = ioctl_still e n m (cmd == SETOPTS)
+  echo_still e (MFlush r w band) m s = loop_still e (MFlush r w band) m s
+  echo_still e MData m s = loop_still e MData m s
+  echo_still e MProto m s = loop_still e MProto m s
+  echo_still e MPcproto m s = refl
+  echo_still e (MIocack n rval) m s = refl
+  echo_still e (MIocnak n errno) m s = refl
+  echo_still e (MSetopts a b d) m s = refl
+  echo_still e MHangup m s = refl
+  echo_still e (MError rd wr) m s = refl
+
+  driver_still : (d : Driver) (e : EndState K) (m : Msg) → Options mode prot marks id ≡ (driver_at d e m).sends → (driver_at d e m).state ≡ e
+  driver_still Line e m s = line_still e m.kind s
+  driver_still Echo e m s = echo_still e m.kind m s
+  driver_still Loop e m s = loop_still e m.kind m s
+
+  had_still : (d : Driver) (e : EndState K) (m : Msg) (has : Bool) → Options mode prot marks id ≡ (if has then driver_at d e m else consumes e).sends → (if has then driver_at d e m else consumes e).state ≡ e
+  had_still d e m true s = driver_still d e m s
+  had_still d e m false s = refl
+
+  -- the driver that sends options up has left its end as it was
+  pub options_still : (d : Driver) (end : End) (e : EndState K) (m : Msg) → Options mode prot marks id ≡ (driver_does d end e m).sends → (driver_does d end e m).state ≡ e
+  options_still d end e m s = had_still d e m (has_end d end) s
+
+  same_image : (image : Image K) (end : End) → with_end image end (end_of image end) ≡ image
+  same_image image A = refl
+  same_image image B = refl
+
+  -- nor has it changed anything else
+  pub nothing_changed : (end : End) (old new : Image K) (m : Msg) → Options mode prot marks id ≡ (driver_does old.driver end (end_of old end) m).sends → new ≡ with_end old end (driver_does old.driver end (end_of old end) m).state → new ≡ old
+  nothing_changed end old new m s is =
+      is ∙ ap (with_end old end) (options_still old.driver end (end_of old end) m s) ∙ same_image old end

@@ -6,7 +6,7 @@ use crate::pushing::PlayModule;
 use indexmap::IndexMap;
 use std::alloc::Global;
 use strm_history::{Call, Setup};
-use strm_module::{Boxed, Instance, ModuleOf};
+use strm_module::{Boxed, Instance, ModuleOf, Shape};
 use strm_msg::NoMem;
 use strm_plan::{CallDecl, CallLine, FeedDecl, Name, Plan, ProcessDecl};
 use strm_run::{Feed, Script, ScriptCall};
@@ -32,6 +32,14 @@ fn setups(alloc: Global, streams: &IndexMap<Name, Setup>) -> Result<Vec<Setup>, 
     Ok(all)
 }
 
+/// The module that a push declares, with its object. Refused for want of memory alone.
+fn module<M: PlayModule>(alloc: Global, declared: &Shape<M::Kind>) -> Result<Boxed<M>, NoMem>
+    ensures { IfOk result (λ made. made ≡ declared.now) }
+{
+    let object = M::object(alloc, declared)?;
+    Boxed::new(alloc, Instance::new(declared.copy(alloc)?, object))
+}
+
 /// A call, with the module that it declares if it is a push. Refused for want of memory alone.
 fn call<M: PlayModule>(alloc: Global, call: CallDecl<M::Kind>) -> Result<Call<Boxed<M>>, NoMem>
     ensures { IfOk result (λ made. made ≡ played_call call) }
@@ -39,9 +47,8 @@ fn call<M: PlayModule>(alloc: Global, call: CallDecl<M::Kind>) -> Result<Call<Bo
     let Some(declared) = call.push() else {
         return Ok(call.plain());
     };
-    let object = M::object(alloc, declared.shape())?;
-    let module = Instance::new(declared.shape().copy(alloc)?, object);
-    Ok(call.with_module(Boxed::new(alloc, module)?))
+    let module = module(alloc, declared.shape())?;
+    Ok(call.with_module(module))
 }
 
 /// The calls of a process, in order. Refused for want of memory alone.

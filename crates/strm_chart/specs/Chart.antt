@@ -6,7 +6,7 @@ use Rattle.strm_qpair.specs.declared.driver.Driver.{Driver}
 use Rattle.strm_qpair.specs.declared.driver.Driver.TheVariants.{Line}
 use Rattle.strm_history.specs.declared.setup.Setup.{Setup}
 use Rattle.strm_history.specs.declared.entry.Entry.{Entry}
-use Rattle.strm_crew.specs.declared.transcript.StreamLog.{StreamLog}
+use Rattle.strm_history.specs.declared.transcript.StreamLog.{StreamLog}
 use Rattle.strm_verb.specs.Field.{Word}
 use Rattle.strm_plan.specs.Plan.{Streams, Process, Whole}
 use Rattle.strm_script.specs.Fields.{KindSpelling, spaced}

@@ -29,13 +29,17 @@ all_bars n driver = bars n ++ codes "|" ++ line_bar driver
 unfoldable pub name_row : ℕ → List ℕ → List ℕ
 name_row left name = bars left ++ name ++ 10 ∷ []
 
--- from a caller's column to the stream's, across those between
+-- the line of an arrow from a caller's column on, across those between it and the stream's
+unfoldable pub shaft : ℕ → ℕ → List ℕ → List ℕ → List ℕ
+shaft n caller begins across = bars caller ++ begins ++ repeat (n - (caller + 1)) across
+
+-- from a caller's column to the stream's
 unfoldable pub call_arrow : ℕ → Driver → ℕ → List ℕ
-call_arrow n driver caller = bars caller ++ codes "|" ++ repeat (n - (caller + 1)) (codes "---+") ++ codes "-->|" ++ line_bar driver
+call_arrow n driver caller = shaft n caller (codes "|") (codes "---+") ++ codes "-->|" ++ line_bar driver
 
 -- and back
 unfoldable pub answer_arrow : ℕ → Driver → ℕ → List ℕ
-answer_arrow n driver caller = bars caller ++ codes "|<--" ++ repeat (n - (caller + 1)) (codes "+---") ++ codes "|" ++ line_bar driver
+answer_arrow n driver caller = shaft n caller (codes "|<--") (codes "+---") ++ codes "|" ++ line_bar driver
 
 -- from the line's column to the stream's
 unfoldable pub line_arrow : ℕ → List ℕ

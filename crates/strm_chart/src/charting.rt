@@ -6,7 +6,7 @@ ghost use Rattle.strm_chart.specs.Chart.{chart_text, numbered_chart};
 
 use crate::stream::put_stream;
 use std::io::{self, Write};
-use strm_crew::{StreamLog, Transcript};
+use strm_history::{StreamLog, Transcript};
 use strm_plan::Plan;
 use strm_script::PrintKind;
 

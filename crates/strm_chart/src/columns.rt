@@ -56,14 +56,28 @@ pub(crate) fn put_name<W: Write>(w: &mut W, left: usize, name: &[u8]) -> io::Res
     w.write_all(b"\n")
 }
 
+/// Writes the line of an arrow from a caller's column on, across those between it and the stream's.
+#[tactic(auto, using(strm_text::proofs::WriteLemmas::appends_then), unfolding(crate::specs::Columns::shaft))]
+fn put_shaft<W: Write>(
+    w: &mut W,
+    n: usize,
+    caller: u32,
+    begins: &[u8],
+    across: &[u8],
+) -> io::Result<()>
+    ensures { OnOk result (Appends (W.contents w.old) (W.contents w.new) (text.shaft n caller begins.now across.now)) }
+{
+    put_bars(w, caller as usize)?;
+    w.write_all(begins)?;
+    put_times(w, n.saturating_sub(caller as usize + 1), across)
+}
+
 /// Writes an arrow from a caller's column to the stream's.
 #[tactic(auto, using(strm_text::proofs::WriteLemmas::appends_then), unfolding(crate::specs::Columns::call_arrow))]
 fn put_call_arrow<W: Write>(w: &mut W, n: usize, driver: Driver, caller: u32) -> io::Result<()>
     ensures { OnOk result (Appends (W.contents w.old) (W.contents w.new) (text.call_arrow n driver caller)) }
 {
-    put_bars(w, caller as usize)?;
-    w.write_all(b"|")?;
-    put_times(w, n.saturating_sub(caller as usize + 1), b"---+")?;
+    put_shaft(w, n, caller, b"|", b"---+")?;
     w.write_all(b"-->|")?;
     put_line_bar(w, driver)
 }
@@ -73,9 +87,7 @@ fn put_call_arrow<W: Write>(w: &mut W, n: usize, driver: Driver, caller: u32) ->
 fn put_answer_arrow<W: Write>(w: &mut W, n: usize, driver: Driver, caller: u32) -> io::Result<()>
     ensures { OnOk result (Appends (W.contents w.old) (W.contents w.new) (text.answer_arrow n driver caller)) }
 {
-    put_bars(w, caller as usize)?;
-    w.write_all(b"|<--")?;
-    put_times(w, n.saturating_sub(caller as usize + 1), b"+---")?;
+    put_shaft(w, n, caller, b"|<--", b"+---")?;
     w.write_all(b"|")?;
     put_line_bar(w, driver)
 }

@@ -6,6 +6,7 @@ use crate::about::Plays;
 use crate::account::{Account, call_on};
 use crate::script::{Gate, ScriptCall};
 use crate::streams::Streams;
+use std::alloc::Global;
 use std::marker::Model;
 use std::sync::Wait;
 use strm_module::{Boxed, ModuleOf};
@@ -115,4 +116,22 @@ impl<K, N: Plays<K>> Played<K, N> {
     {
         self.accounts
     }
+}
+
+/// Plays the scripts of callers to their ends, one after another, or until memory is wanting.
+pub fn play_each<M: ModuleOf, N: Plays<M::Kind>, R: Wait, G: Gate>(
+    rt: &R,
+    alloc: Global,
+    streams: &Streams<M, N>,
+    players: Vec<Player<M, N>>,
+    gate: &G,
+) -> Result<Vec<Played<M::Kind, N>>, NoMem>
+    requires { CallsDoFit M.row M.Kind.row M.Kind.Kinds }
+    ensures { IfOk result (λ all. all.items ≡ players.items) }
+{
+    let mut all = Vec::new(alloc);
+    for player in players {
+        all.push(player.play(rt, streams, gate)?)?;
+    }
+    Ok(all)
 }

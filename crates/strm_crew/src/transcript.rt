@@ -1,4 +1,4 @@
-//! What a run leaves.
+//! What is left of a stream that has ended.
 ghost use Rattle.std.specs.Prelude.{◌≡◌, ◌+◌, length, count_by};
 ghost use Rattle.strm_msg.specs.declared.words.End.TheVariants.{A, B};
 ghost use Rattle.strm_ends.specs.Image.{end_of};
@@ -8,34 +8,10 @@ ghost use Rattle.strm_crew.specs.Transcript.{has_come_in};
 
 use arrayvec::ArrayVec;
 use strm_head::{Event, MOST_MODULES, Name, Stream};
-use strm_history::Kept;
+use strm_history::{Kept, StreamLog};
 use strm_module::ModuleOf;
 use strm_msg::End;
 use strm_shared::Ended;
-
-/// What a run leaves of a stream.
-#[derive(Drop)]
-pub struct StreamLog<K> {
-    /// Every step, in order.
-    pub history: Vec<Kept<K>>,
-    /// The names of the modules on end A, topmost first; `None` where it is closed.
-    pub a: Option<ArrayVec<Name, MOST_MODULES>>,
-    /// The names of the modules on end B, topmost first; `None` where it is closed or not there.
-    pub b: Option<ArrayVec<Name, MOST_MODULES>>,
-    /// How many messages of its feed were accepted.
-    pub accepted: u64,
-    /// How many messages came in, as the history has them.
-    pub arrived: u64,
-    /// How many messages of its feed were handed back.
-    pub overrun: u64,
-}
-
-/// What a run leaves: each stream, in order of their numbers.
-#[derive(Drop)]
-pub struct Transcript<K> {
-    /// The streams.
-    pub streams: Vec<StreamLog<K>>,
-}
 
 /// The names of the modules on an end, topmost first; `None` where it is closed or not there.
 fn names_at<M: ModuleOf>(stream: &Stream<M>, end: End) -> Option<ArrayVec<Name, MOST_MODULES>>

@@ -203,16 +203,6 @@ fn finish<M: ModuleOf>(chain: &mut Chain<M>, end: End, reply: Twins) -> Answered
     }
 }
 
-/// A message without its box, where there is one. Takes no memory.
-fn unboxed(kept: Option<BoxedMessage>) -> Option<Message>
-    ensures { result ≡ kept }
-{
-    match kept {
-        Some(m) => Some(m.into_message()),
-        None => None,
-    }
-}
-
 /// The answer to an ioctl that a head has kept, and an equal one. Refused for want of memory alone.
 fn answer_of(alloc: Global, kept: &Option<BoxedMessage>) -> Result<Acknowledged, NoMem>
     ensures { IfOk result (λ answer. answer ≡ acknowledged kept.now) }
@@ -238,7 +228,7 @@ fn finish_ioctl<M: ModuleOf>(chain: &mut Chain<M>, end: End) -> Answered
         Ok(twin) => twin,
         Err(_) => return broken(chain),
     };
-    let answer = acknowledged(unboxed(chain.end_ioctl(end)));
+    let answer = acknowledged(chain.end_ioctl(end).map(BoxedMessage::into_message));
     Answered::done(
         Twins::new(Reply::Str { answer }, Reply::Str { answer: twin }),
         settled,

@@ -14,6 +14,7 @@ mod room;
 mod same;
 mod serials;
 mod setup;
+mod transcript;
 
 pub use call::{Call, Called, Landed};
 pub use entry::{Entry, Who};
@@ -24,3 +25,4 @@ pub use room::{Room, room_for};
 pub use same::SameKind;
 pub use serials::Serials;
 pub use setup::{MOST_RING, Setup};
+pub use transcript::{StreamLog, Transcript};

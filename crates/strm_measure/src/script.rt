@@ -5,7 +5,7 @@ use std::rt::{Clock, Files};
 use std::sync::Wait;
 use std::thread::Threads;
 use std::time::Instant;
-use strm_crew::Transcript;
+use strm_history::Transcript;
 use strm_module::{Kind, Plain};
 use strm_plan::{LoadFault, load, parse};
 use strm_play::{Outcome, play};

@@ -1,6 +1,5 @@
 -- What a vocabulary of kinds means, and what holds of every vocabulary (Programmer's Guide: STREAMS, "Modules").
-use Rattle.std.specs.Prelude.{ℕ, Bool, true, false, List, Option, [], ◌∷◌, ◌++◌}
-use Rattle.std.specs.Option.{option_to_list}
+use Rattle.std.specs.Prelude.{ℕ, Bool, true, false, List, [], ◌∷◌}
 use Rattle.std.specs.List.{list_all}
 use Rattle.strm_msg.specs.Message.{Msg, Part, ack_msg}
 use Rattle.strm_msg.specs.declared.words.Side.{Side}
@@ -13,10 +12,6 @@ OutList = List (Side × Msg)
 -- what a module sends: messages in the order in which they leave
 pub record Sends : Type 0 where
   pub items : OutList
-
--- what stands in two places, the first one first
-abbrev pub placed : Option (Side × Msg) → Option (Side × Msg) → OutList
-placed first second = option_to_list first ++ option_to_list second
 
 -- the read side is the way up
 abbrev pub is_up : Side → Bool

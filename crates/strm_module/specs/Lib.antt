@@ -1,6 +1,7 @@
 pub mod Bytes
 pub mod Shape
 pub mod Kinds
+pub mod Outs
 pub mod Builtin
 pub mod Module
 pub mod Calm

@@ -1,7 +1,7 @@
 //! What a module answers and sends.
 ghost use Rattle.std.specs.Prelude.{◌≡◌, [], ◌∷◌};
 ghost use Rattle.strm_msg.specs.declared.words.Side.TheVariants as Side;
-ghost use Rattle.strm_module.specs.Kinds.{placed};
+ghost use Rattle.strm_module.specs.Outs.{AreInOrder, placed};
 
 use std::marker::Model;
 use strm_msg::{BoxedMessage, Side as Sides};
@@ -9,18 +9,27 @@ use strm_msg::{BoxedMessage, Side as Sides};
 /// What a module sends: at most two messages, in the order in which they leave, each with its side.
 /// `Wr` goes down, to the next module or the driver, and `Rd` goes up, to the next module or the
 /// head. `Outs::new()` sends nothing; `pass_on`, `reply` and `both` make one. A contract sees a list, `items`.
-#[derive(Debug, Drop)]
+#[derive(Debug, Drop, PartialEq, Eq)]
 pub struct Outs {
     first: Option<(Sides, BoxedMessage)>,
     second: Option<(Sides, BoxedMessage)>,
 }
 
 impl Model for Outs {
-    ghost use Rattle.strm_module.specs.Kinds.{Sends, placed};
+    ghost use Rattle.std.specs.Prelude.{slice_get};
+    ghost use Rattle.std.proofs.Common.{ap};
+    ghost use Rattle.strm_module.specs.Kinds.{Sends};
+    ghost use Rattle.strm_module.specs.Outs.{AreInOrder, placed, placed_back};
 
     ghost Value = { Sends };
 
+    ghost invariant = { λ outs. AreInOrder outs.first outs.second };
+
     ghost view = { λ outs. record { items = placed outs.first outs.second } };
+
+    ghost inverse = { λ sends. record { first = slice_get sends.items 0; second = slice_get sends.items 1 } };
+
+    ghost inverse_ok = { λ outs is. ap (λ parts. record { first = parts.0; second = parts.1 }) (placed_back outs.first outs.second is) };
 }
 
 impl Outs {
@@ -36,7 +45,8 @@ impl Outs {
 
     /// The messages, each with its side, in the order in which they leave.
     pub fn into_parts(self) -> (Option<(Sides, BoxedMessage)>, Option<(Sides, BoxedMessage)>)
-        ensures { placed result.0 result.1 ≡ self.items }
+        ensures items { placed result.0 result.1 ≡ self.items }
+        ensures order { AreInOrder result.0 result.1 }
     {
         let Outs { first, second } = self;
         (first, second)
@@ -44,7 +54,7 @@ impl Outs {
 }
 
 /// What a module does with a message that comes to it.
-#[derive(Debug, Drop)]
+#[derive(Debug, Drop, PartialEq, Eq)]
 pub enum Put {
     /// The message waits in the module's queue of the side on which it came. It is handed to
     /// `serve` once the queue ahead has room.

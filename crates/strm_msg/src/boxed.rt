@@ -1,6 +1,8 @@
 //! A message in a box.
 ghost use Rattle.std.specs.Prelude.{◌≡◌, IfOk, IfErr, IsTrue};
 ghost use Rattle.strm_msg.specs.Message.{is_formed};
+ghost use Rattle.strm_msg.specs.contracts.message.MessagePartialEq.TheImpl.Laws as message_equal;
+ghost use Rattle.strm_msg.specs.contracts.message.MessageEq.TheImpl.Laws as message_same;
 
 use crate::bytes::Bytes;
 use crate::memory::NoMem;
@@ -34,6 +36,21 @@ impl Deref for BoxedMessage {
     {
         &self.m
     }
+}
+
+/// Equal where the messages are equal.
+impl PartialEq for BoxedMessage {
+    ghost eq = { ⟦<Message as PartialEq>⟧.eq };
+
+    ghost laws = { message_equal.laws-law };
+
+    fn eq(&self, other: &BoxedMessage) -> bool {
+        *self.m == *other.m
+    }
+}
+
+impl Eq for BoxedMessage {
+    ghost laws = { message_same.laws-law };
 }
 
 impl BoxedMessage {

@@ -13,7 +13,7 @@ use Rattle.strm_history.specs.declared.setup.Setup.{Setup}
 use Rattle.strm_crew.specs.declared.script.Feed.{Feed}
 use Rattle.strm_crew.specs.declared.script.Script.{Script}
 use Rattle.strm_crew.specs.declared.script.ScriptCall.{ScriptCall}
-use Rattle.strm_crew.specs.declared.transcript.StreamLog.{StreamLog}
+use Rattle.strm_history.specs.declared.transcript.StreamLog.{StreamLog}
 use Rattle.strm_crew.specs.Scripts as crews
 use Rattle.strm_run.specs.There as runs
 use Rattle.strm_crew.specs.Transcript.{IsFed}

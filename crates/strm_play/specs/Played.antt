@@ -7,7 +7,7 @@ use Rattle.strm_history.specs.declared.setup.Setup.{Setup}
 use Rattle.strm_history.specs.History.{own}
 use Rattle.strm_history.specs.Entry.{asked_of}
 use Rattle.strm_crew.specs.declared.script.ScriptCall.{ScriptCall}
-use Rattle.strm_crew.specs.declared.transcript.StreamLog.{StreamLog}
+use Rattle.strm_history.specs.declared.transcript.StreamLog.{StreamLog}
 use Rattle.strm_crew.specs.Scripts.{calls_on}
 use Rattle.strm_run.specs.There.{is_crew}
 use Rattle.strm_crew.specs.Transcript.{IsFed, IsLegal}

@@ -15,7 +15,7 @@ pub enum Driver {
 }
 
 /// What a driver sends at once, when a message comes to it from above.
-#[derive(Debug, Drop)]
+#[derive(Debug, Drop, PartialEq, Eq)]
 pub enum DriverSends {
     /// Nothing.
     Nothing,

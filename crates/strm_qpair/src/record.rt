@@ -7,7 +7,7 @@ ghost use Rattle.strm_qpair.specs.Modules.{SameIds};
 use strm_msg::{BoxedMessage, Errno, Prot, ReadMode};
 
 /// What a head remembers beside its list (stdata).
-#[derive(Debug, Drop)]
+#[derive(Debug, Drop, PartialEq, Eq)]
 pub struct Record {
     /// Whether the end was hung up (M_HANGUP).
     pub hung: bool,

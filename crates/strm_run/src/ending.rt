@@ -11,10 +11,8 @@ use crate::feeds::offered_on;
 use crate::table::transposed;
 use std::alloc::Global;
 use std::mem;
-use strm_crew::{
-    Account, Of, Offered, Played, Plays, StreamLog, Streams, Transcript, holds_all, log_of,
-};
-use strm_history::{Receipt, SameKind};
+use strm_crew::{Account, Of, Offered, Played, Plays, Streams, holds_all, log_of};
+use strm_history::{Receipt, SameKind, StreamLog, Transcript};
 use strm_module::ModuleOf;
 use strm_msg::NoMem;
 use strm_shared::{EndFault, Ended, FeedEnd, Seat, Shared};

@@ -17,4 +17,5 @@ mod threads;
 pub use fault::RunFault;
 pub use judge::{MOST_WORKERS, are_from_line, are_setups};
 pub use running::run;
-pub use strm_crew::{Feed, Gate, Script, ScriptCall, StreamLog, Transcript};
+pub use strm_crew::{Feed, Gate, Script, ScriptCall};
+pub use strm_history::{StreamLog, Transcript};

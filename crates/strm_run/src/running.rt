@@ -20,8 +20,8 @@ use std::alloc::Global;
 use std::marker::Brand;
 use std::sync::Wait;
 use std::thread::Threads;
-use strm_crew::{Feed, Gate, Plays, Script, Streams, Transcript, deal, seated};
-use strm_history::{SameKind, Setup};
+use strm_crew::{Feed, Gate, Plays, Script, Streams, deal, seated};
+use strm_history::{SameKind, Setup, Transcript};
 use strm_module::{Boxed, ModuleOf};
 use strm_shared::Ring;
 
@@ -68,8 +68,8 @@ where
 /// Streams are numbered from 0 in the order of their setups, callers in that of their scripts. Caller `i`
 /// is played by worker `i` modulo `workers`, and the callers of a worker one after another. Worker 0 is the
 /// thread that calls; each other that has a caller is a thread of its own. Each feed has a thread of its own
-/// too, which is started with the workers and offers each message once. Round each call the gate is called. What comes back from a call is dropped after it,
-/// outside of the lock.
+/// too, which is started with the workers and offers each message once. Round each call the gate is called.
+/// What comes back from a call is dropped after it, outside of the lock.
 ///
 /// To be called with setups of which each can be made (`are_setups`), with messages that come from lines
 /// (`are_from_line`), with fewer than 2^32 of streams and of scripts, and with modules and kinds of which

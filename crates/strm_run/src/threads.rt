@@ -6,42 +6,9 @@ use std::alloc::Global;
 use std::sync::Wait;
 use std::thread;
 use std::thread::Threads;
-use strm_crew::{Feeding, Gate, Offered, Played, Player, Plays, Streams};
+use strm_crew::{Feeding, Gate, Offered, Played, Player, Plays, Streams, play_each};
 use strm_module::ModuleOf;
 use strm_msg::NoMem;
-
-/// Plays the scripts of a worker, one after another.
-fn work<M: ModuleOf, N: Plays<M::Kind>, R: Wait, G: Gate>(
-    rt: &R,
-    alloc: Global,
-    streams: &Streams<M, N>,
-    crew: Vec<Player<M, N>>,
-    gate: &G,
-) -> Result<Vec<Played<M::Kind, N>>, NoMem>
-    requires { CallsDoFit M.row M.Kind.row M.Kind.Kinds }
-{
-    let mut all = Vec::new(alloc);
-    for player in crew {
-        all.push(player.play(rt, streams, gate)?)?;
-    }
-    Ok(all)
-}
-
-/// Plays the scripts of the first worker, if there is one.
-fn work_first<M: ModuleOf, N: Plays<M::Kind>, R: Wait, G: Gate>(
-    rt: &R,
-    alloc: Global,
-    streams: &Streams<M, N>,
-    crew: Option<Vec<Player<M, N>>>,
-    gate: &G,
-) -> Result<Vec<Played<M::Kind, N>>, NoMem>
-    requires { CallsDoFit M.row M.Kind.row M.Kind.Kinds }
-{
-    match crew {
-        Some(crew) => work(rt, alloc, streams, crew, gate),
-        None => Ok(Vec::new(alloc)),
-    }
-}
 
 /// What two parts of a run leave, one behind the other; want of memory, where one of them met it.
 fn both<T: Drop>(
@@ -76,7 +43,7 @@ where
             let mut handles = Vec::new(alloc);
             let mut played = Ok(Vec::new(alloc));
             let mut others = crews.into_iter();
-            let first = others.next();
+            let first = others.next().unwrap_or(Vec::new(alloc));
             for crew in others {
                 if crew.is_empty() {
                     continue;
@@ -88,7 +55,7 @@ where
                 let Ok(handle) = scope.spawn(
                     move || -> Result<Vec<Played<M::Kind, N>>, NoMem>
                         requires { IsSend M.row × CallsDoFit M.row M.Kind.row M.Kind.Kinds }
-                    { work(rt, alloc, streams, crew, gate) },
+                    { play_each(rt, alloc, streams, crew, gate) },
                 ) else {
                     played = Err(NoMem);
                     break;
@@ -96,7 +63,7 @@ where
                 handles.push_reserved(handle);
             }
             if played.is_ok() {
-                played = work_first(rt, alloc, streams, first, gate);
+                played = play_each(rt, alloc, streams, first, gate);
             }
             for handle in handles {
                 played = both(played, handle.join(rt));

@@ -16,6 +16,7 @@ use Rattle.strm_text.specs.Spelling.{part_text}
 use Rattle.strm_verb.specs.Words.{mode_word, prot_word, flush_word}
 use Rattle.strm_verb.specs.Field.{Field, Bytes, Number, Pair, Word, part_field}
 use Rattle.strm_verb.specs.Push.{kind_word}
+use Rattle.strm_script.specs.declared.field.Field as printed
 use Rattle.strm_verb.specs.Table.{Asked, Told, Pushed}
 use Rattle.strm_verb.specs.Arrival.{message_word}
 use Rattle.strm_verb.specs.declared.push.KindWord.{KindWord}
@@ -27,6 +28,13 @@ text_of (Bytes bytes) = part_text bytes
 text_of (Number n) = decimal n
 text_of (Pair high low) = decimal high ++ 47 ∷ decimal low
 text_of (Word word) = word
+
+-- what a field of a line says
+abbrev pub said : printed.Field → Field
+said (printed.Field.Bytes bytes) = Bytes bytes.now
+said (printed.Field.Number n) = Number n
+said (printed.Field.Pair high low) = Pair high low
+said (printed.Field.Word word) = Word word.now
 
 -- each behind a space
 abbrev pub spaced : List Field → List ℕ

@@ -15,7 +15,7 @@ use Rattle.strm_history.specs.declared.setup.Setup.{Setup}
 use Rattle.strm_history.specs.declared.entry.Who.{Who}
 use Rattle.strm_history.specs.declared.entry.Who.TheVariants as whos
 use Rattle.strm_history.specs.declared.entry.Entry.{Entry}
-use Rattle.strm_crew.specs.declared.transcript.StreamLog.{StreamLog}
+use Rattle.strm_history.specs.declared.transcript.StreamLog.{StreamLog}
 use Rattle.strm_verb.specs.Field.{Field, Number, Word}
 use Rattle.strm_verb.specs.Table.{word_of, asked_of}
 use Rattle.strm_plan.specs.Plan.{Streams, Process, Whole}

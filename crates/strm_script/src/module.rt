@@ -3,7 +3,8 @@ ghost use Rattle.std.specs.Prelude.{◌≡◌, ◌∷◌, [], OnOk};
 ghost use Rattle.std.specs.Io.KnownBytes.{Appends};
 ghost use Rattle.strm_script.specs.Fields as text;
 
-use crate::field::{put_number, put_pair, put_part, put_word};
+use crate::field::Field::{Pair, Word};
+use crate::field::{Field, put_all, put_number, put_part};
 use arrayvec::ArrayVec;
 use std::io::{self, Write};
 use strm_module::{Kind, Shape};
@@ -112,13 +113,13 @@ impl PrintKind for Kind {
     }
 }
 
-/// Writes the marks of a side, or `-` where the module has no queue there.
-fn put_side<W: Write>(w: &mut W, side: Option<Marks>) -> io::Result<()>
-    ensures { OnOk result (Appends (W.contents w.old) (W.contents w.new) (text.spaced (text.side_field side ∷ []))) }
+/// The marks of a side, or `-` where the module has no queue there.
+fn side_field<'a>(side: Option<Marks>) -> Field<'a>
+    ensures { text.said result ≡ text.side_field side }
 {
     match side {
-        None => put_word(w, b"-"),
-        Some(marks) => put_pair(w, marks.hi, marks.lo),
+        None => Word(b"-"),
+        Some(marks) => Pair(marks.hi, marks.lo),
     }
 }
 
@@ -127,9 +128,7 @@ fn put_side<W: Write>(w: &mut W, side: Option<Marks>) -> io::Result<()>
 pub(crate) fn put_module<W: Write, K: PrintKind>(w: &mut W, shape: &Shape<K>) -> io::Result<()>
     ensures { OnOk result (Appends (W.contents w.old) (W.contents w.new) (text.spaced (text.push_fields K.spelling shape.now))) }
 {
-    put_word(w, shape.kind.word())?;
-    put_word(w, shape.name.as_slice())?;
-    put_side(w, shape.rd)?;
-    put_side(w, shape.wr)?;
+    let (kind, name) = (Word(shape.kind.word()), Word(shape.name.as_slice()));
+    put_all(w, &[kind, name, side_field(shape.rd), side_field(shape.wr)])?;
     shape.kind.put_fields(w)
 }

@@ -7,7 +7,7 @@ ghost use Rattle.strm_script.specs.Lines.{numbered_text, transcript_text};
 use crate::module::PrintKind;
 use crate::stream::put_stream;
 use std::io::{self, Write};
-use strm_crew::{StreamLog, Transcript};
+use strm_history::{StreamLog, Transcript};
 use strm_plan::Plan;
 
 /// Writes the lines of the stream of this number; nothing where the plan has none.

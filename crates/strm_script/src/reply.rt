@@ -5,9 +5,11 @@ ghost use Rattle.strm_script.specs.Fields.{spaced};
 ghost use Rattle.strm_script.specs.Lines.{answer_text};
 ghost use Rattle.strm_script.specs.Replies as text;
 
-use crate::field::{put_names, put_number, put_part, put_part_or_none, put_parts, put_word};
+use crate::field::Field::{Number, Word};
+use crate::field::{part_field, put_all, put_names, put_number, put_part, put_word};
 use std::io::{self, Write};
 use strm_call::{Acknowledged, Answer, More, Peeked, Received, Reply};
+use strm_msg::Bytes;
 use strm_verb::{mode_word, priority_word, prot_word};
 
 /// The word of which parts stay.
@@ -29,47 +31,44 @@ fn holds_word(holds: bool) -> &'static [u8]
     if holds { b"1" } else { b"0" }
 }
 
-/// Writes the band of what getpmsg took, or that it was of high priority.
-#[tactic(auto, using(strm_text::proofs::WriteLemmas::appends_then))]
-fn put_received<W: Write>(w: &mut W, flag: Received) -> io::Result<()>
-    ensures { OnOk result (Appends (W.contents w.old) (W.contents w.new) (spaced (text.received_fields flag))) }
+/// Writes what getpmsg took: its parts, its band or that it was of high priority, and which parts stay.
+fn put_taken<'a, W: Write>(
+    w: &mut W,
+    ctl: &'a Option<Bytes>,
+    dat: &'a Option<Bytes>,
+    flag: Received,
+    more: More,
+) -> io::Result<()>
+    ensures { OnOk result (Appends (W.contents w.old) (W.contents w.new) (spaced (text.reply_fields (Reply.Getpmsg ctl.now dat.now flag more)))) }
 {
+    let (ctl, dat, more) = (part_field(ctl), part_field(dat), Word(more_word(more)));
     match flag {
-        Received::Band { band } => {
-            put_word(w, b"band")?;
-            put_number(w, band)
-        }
-        Received::Hipri => put_word(w, b"hipri"),
+        Received::Band { band } => put_all(w, &[ctl, dat, Word(b"band"), Number(band), more]),
+        Received::Hipri => put_all(w, &[ctl, dat, Word(b"hipri"), more]),
     }
 }
 
 /// Writes what a peek has seen, or that there was nothing to see.
-#[tactic(auto, using(strm_text::proofs::WriteLemmas::appends_then))]
 fn put_peeked<W: Write>(w: &mut W, found: &Option<Peeked>) -> io::Result<()>
     ensures { OnOk result (Appends (W.contents w.old) (W.contents w.new) (spaced (text.peeked_fields found.now))) }
 {
     match found {
         None => put_word(w, b"none"),
         Some(seen) => {
-            put_parts(w, &seen.ctl, &seen.dat)?;
-            put_word(w, priority_word(seen.flag))
+            let (ctl, dat) = (part_field(&seen.ctl), part_field(&seen.dat));
+            put_all(w, &[ctl, dat, Word(priority_word(seen.flag))])
         }
     }
 }
 
 /// Writes what became of an ioctl.
-#[tactic(auto, using(strm_text::proofs::WriteLemmas::appends_then))]
 fn put_acknowledged<W: Write>(w: &mut W, answer: &Acknowledged) -> io::Result<()>
     ensures { OnOk result (Appends (W.contents w.old) (W.contents w.new) (spaced (text.acknowledged_fields answer.now))) }
 {
     match answer {
-        Acknowledged::Ack { rval, dat } => {
-            put_number(w, *rval)?;
-            put_part_or_none(w, dat)
-        }
+        Acknowledged::Ack { rval, dat } => put_all(w, &[Number(*rval), part_field(dat)]),
         Acknowledged::Nak { errno } => {
-            put_word(w, b"nak")?;
-            put_word(w, errno.name().as_bytes())
+            put_all(w, &[Word(b"nak"), Word(errno.name().as_bytes())])
         }
         Acknowledged::Timeout => put_word(w, b"ETIME"),
     }
@@ -94,38 +93,26 @@ fn put_reply<W: Write>(w: &mut W, reply: &Reply) -> io::Result<()>
             flag,
             more,
         } => {
-            put_parts(w, ctl, dat)?;
-            put_word(w, priority_word(*flag))?;
-            put_word(w, more_word(*more))
+            let (flag, more) = (Word(priority_word(*flag)), Word(more_word(*more)));
+            put_all(w, &[part_field(ctl), part_field(dat), flag, more])
         }
         Reply::Getpmsg {
             ctl,
             dat,
             flag,
             more,
-        } => {
-            put_parts(w, ctl, dat)?;
-            put_received(w, *flag)?;
-            put_word(w, more_word(*more))
-        }
+        } => put_taken(w, ctl, dat, *flag, *more),
         Reply::Read { dat } => put_part(w, dat.as_slice()),
         Reply::Write { len } => put_number(w, *len),
-        Reply::Nread { messages, bytes } => {
-            put_number(w, *messages)?;
-            put_number(w, *bytes)
-        }
+        Reply::Nread { messages, bytes } => put_all(w, &[Number(*messages), Number(*bytes)]),
         Reply::Peek { found } => put_peeked(w, found),
         Reply::GetRead { mode, prot } => {
-            put_word(w, mode_word(*mode))?;
-            put_word(w, prot_word(*prot))
+            put_all(w, &[Word(mode_word(*mode)), Word(prot_word(*prot))])
         }
         Reply::Canput { can } => put_word(w, holds_word(*can)),
         Reply::Ckband { waits } => put_word(w, holds_word(*waits)),
         Reply::Getband { band } => put_number(w, *band),
-        Reply::Pop { name } => {
-            put_word(w, b"popped")?;
-            put_word(w, name.as_slice())
-        }
+        Reply::Pop { name } => put_all(w, &[Word(b"popped"), Word(name.as_slice())]),
         Reply::Look { name } => put_word(w, name.as_slice()),
         Reply::List { names } => put_names(w, names.as_slice()),
         Reply::Find { found } => put_word(w, holds_word(*found)),
@@ -138,17 +125,13 @@ fn put_reply<W: Write>(w: &mut W, reply: &Reply) -> io::Result<()>
 }
 
 /// Writes a reply, the name of the errno of a refusal, or that the stream broke.
-#[tactic(auto, using(strm_text::proofs::WriteLemmas::appends_then))]
 fn put_said<W: Write>(w: &mut W, answer: &Answer) -> io::Result<()>
     ensures { OnOk result (Appends (W.contents w.old) (W.contents w.new) (spaced (text.answer_fields answer.now))) }
 {
     match answer {
         Answer::Done(reply) => put_reply(w, reply),
         Answer::Refused(refusal) => put_word(w, refusal.errno().name().as_bytes()),
-        Answer::Broke => {
-            put_word(w, b"ENOSR")?;
-            put_word(w, b"broke")
-        }
+        Answer::Broke => put_all(w, &[Word(b"ENOSR"), Word(b"broke")]),
     }
 }
 

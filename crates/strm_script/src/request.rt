@@ -4,12 +4,14 @@ ghost use Rattle.std.specs.Io.KnownBytes.{Appends};
 ghost use Rattle.strm_verb.specs.Table.{asked_of};
 ghost use Rattle.strm_script.specs.Fields as text;
 
-use crate::field::{put_maximum, put_number, put_part, put_part_or_none, put_parts, put_word};
+use crate::field::Field::{Number, Word};
+use crate::field::{maximum_field, part_field, put_all, put_number, put_part};
 use crate::module::{PrintKind, put_module};
 use std::io::{self, Write};
 use strm_call::Request;
 use strm_verb::{
-    PushDecl, Verb, flush_word, get_word, mode_word, priority_word, prot_word, wanted_word,
+    PushDecl, Verb, flush_word, get_word, mode_word, priority_word, prot_word, put_word,
+    wanted_word,
 };
 
 /// Which call a request is.
@@ -43,7 +45,6 @@ pub(crate) fn verb_of<K>(request: &Request<PushDecl<K>>) -> Verb
 }
 
 /// Writes the fields of a call behind NAME:END.
-#[tactic(auto, using(strm_text::proofs::WriteLemmas::appends_then))]
 pub(crate) fn put_fields<W: Write, K: PrintKind + Drop>(
     w: &mut W,
     request: &Request<PushDecl<K>>,
@@ -52,19 +53,25 @@ pub(crate) fn put_fields<W: Write, K: PrintKind + Drop>(
 {
     match request {
         Request::Putmsg { ctl, dat, flag } => {
-            put_parts(w, ctl, dat)?;
-            put_word(w, priority_word(*flag))
+            put_all(
+                w,
+                &[part_field(ctl), part_field(dat), Word(priority_word(*flag))],
+            )
         }
         Request::Putpmsg {
             ctl,
             dat,
             band,
             flag,
-        } => {
-            put_parts(w, ctl, dat)?;
-            put_number(w, u64::from(*band))?;
-            put_word(w, strm_verb::put_word(*flag))
-        }
+        } => put_all(
+            w,
+            &[
+                part_field(ctl),
+                part_field(dat),
+                Number(u64::from(*band)),
+                Word(put_word(*flag)),
+            ],
+        ),
         Request::Getmsg {
             maxctl,
             maxdat,
@@ -74,38 +81,39 @@ pub(crate) fn put_fields<W: Write, K: PrintKind + Drop>(
             maxctl,
             maxdat,
             flag,
-        } => {
-            put_maximum(w, *maxctl)?;
-            put_maximum(w, *maxdat)?;
-            put_word(w, wanted_word(*flag))
-        }
+        } => put_all(
+            w,
+            &[
+                maximum_field(*maxctl),
+                maximum_field(*maxdat),
+                Word(wanted_word(*flag)),
+            ],
+        ),
         Request::Getpmsg {
             maxctl,
             maxdat,
             band,
             flag,
-        } => {
-            put_maximum(w, *maxctl)?;
-            put_maximum(w, *maxdat)?;
-            put_number(w, u64::from(*band))?;
-            put_word(w, get_word(*flag))
-        }
+        } => put_all(
+            w,
+            &[
+                maximum_field(*maxctl),
+                maximum_field(*maxdat),
+                Number(u64::from(*band)),
+                Word(get_word(*flag)),
+            ],
+        ),
         Request::Read { max } => put_number(w, u64::from(*max)),
         Request::Write { dat } => put_part(w, dat.as_slice()),
         Request::Push { instance } => put_module(w, instance.shape()),
         Request::Find { name } => put_part(w, name.as_slice()),
-        Request::Str { cmd, dat } => {
-            put_number(w, u64::from(*cmd))?;
-            put_part_or_none(w, dat)
-        }
-        Request::Flush { r, w: write } => put_word(w, flush_word(*r, *write)),
+        Request::Str { cmd, dat } => put_all(w, &[Number(u64::from(*cmd)), part_field(dat)]),
+        Request::Flush { r, w: write } => put_all(w, &[Word(flush_word(*r, *write))]),
         Request::FlushBand { band, r, w: write } => {
-            put_number(w, u64::from(*band))?;
-            put_word(w, flush_word(*r, *write))
+            put_all(w, &[Number(u64::from(*band)), Word(flush_word(*r, *write))])
         }
         Request::SetRead { mode, prot } => {
-            put_word(w, mode_word(*mode))?;
-            put_word(w, prot_word(*prot))
+            put_all(w, &[Word(mode_word(*mode)), Word(prot_word(*prot))])
         }
         Request::Canput { band } | Request::Ckband { band } => put_number(w, u64::from(*band)),
         Request::Pop

@@ -7,14 +7,13 @@ ghost use Rattle.strm_script.specs.Fields.{spaced};
 ghost use Rattle.strm_script.specs.Lines as text;
 
 use crate::entry::{end_word, put_entries};
-use crate::field::{put_names, put_number, put_word};
+use crate::field::{Field, put_all, put_names, put_word};
 use crate::module::PrintKind;
 use arrayvec::ArrayVec;
 use std::io::{self, Write};
 use strm_call::Name;
-use strm_crew::StreamLog;
 use strm_head::{Driver, MOST_MODULES};
-use strm_history::Setup;
+use strm_history::{Setup, StreamLog};
 use strm_msg::End;
 use strm_plan::ProcessDecl;
 
@@ -60,23 +59,20 @@ pub fn put_far_end<W: Write>(
     }
 }
 
-/// Writes how many messages something became of.
-#[tactic(auto, using(strm_text::proofs::WriteLemmas::appends_then))]
-fn put_count<W: Write>(w: &mut W, word: &[u8], n: u64) -> io::Result<()>
-    ensures { OnOk result (Appends (W.contents w.old) (W.contents w.new) (spaced (Word word.now ∷ Number n ∷ []))) }
-{
-    put_word(w, word)?;
-    put_number(w, n)
-}
-
 /// Writes how many messages of a feed were accepted, came in, and were handed back.
 #[tactic(auto, using(strm_text::proofs::WriteLemmas::appends_then), unfolding(crate::specs::Lines::counts_text))]
 fn put_counts<W: Write, K>(w: &mut W, log: &StreamLog<K>) -> io::Result<()>
     ensures { OnOk result (Appends (W.contents w.old) (W.contents w.new) (text.counts_text log.now)) }
 {
-    put_count(w, b"accepted", log.accepted)?;
-    put_count(w, b"arrived", log.arrived)?;
-    put_count(w, b"overrun", log.overrun)
+    let fields = [
+        Field::Word(b"accepted"),
+        Field::Number(log.accepted),
+        Field::Word(b"arrived"),
+        Field::Number(log.arrived),
+        Field::Word(b"overrun"),
+        Field::Number(log.overrun),
+    ];
+    put_all(w, &fields)
 }
 
 /// Writes the line of what became of the messages of a feed, which a line alone has; nothing for the other drivers.

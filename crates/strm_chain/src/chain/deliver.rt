@@ -10,22 +10,10 @@ use super::Chain;
 use super::hop::Hop;
 use crate::fault::ChainFault;
 use crate::spot::Spot;
-use std::alloc::Global;
 use std::collections::VecDeque;
 use strm_ends::has_end;
 use strm_module::ModuleOf;
 use strm_msg::{BoxedMessage, Message};
-
-/// A message in a box. Refused for want of memory alone, with `NoMem`: then the message is dropped.
-fn boxed(alloc: Global, m: Message) -> Result<BoxedMessage, ChainFault>
-    ensures ok { IfOk result (λ boxed. boxed ≡ m) }
-    ensures err { IfErr result (λ fault. fault ≡ ChainFault.NoMem) }
-{
-    match BoxedMessage::new(alloc, m) {
-        Ok(m) => Ok(m),
-        Err(_) => Err(ChainFault::NoMem),
-    }
-}
 
 impl<M: ModuleOf> Chain<M> {
     /// Whether a spot is there, at an end that the driver has.
@@ -78,13 +66,10 @@ impl<M: ModuleOf> Chain<M> {
         if self.ends.is_broken() {
             return Err(ChainFault::Broken);
         }
-        let m = boxed(self.ends.alloc(), m)?;
+        let m = BoxedMessage::new(self.ends.alloc(), m)?;
         let hop = self.handed_in(spot, m);
         let mut hops = VecDeque::new(self.ends.alloc());
-        match self.hop(&mut hops, hop) {
-            Ok(()) => {}
-            Err(_) => return Err(ChainFault::NoMem),
-        }
+        self.hop(&mut hops, hop)?;
         match self.carry_all(hops) {
             Ok(()) => Ok(()),
             Err(_) => Err(self.give_up()),

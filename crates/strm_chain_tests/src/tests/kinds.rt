@@ -99,33 +99,6 @@ fn wanted(
     }
 }
 
-/// Whether both are the same message on the same side, or both are missing.
-fn is_out(found: Option<(Side, BoxedMessage)>, want: Option<(Side, BoxedMessage)>) -> bool {
-    match (found, want) {
-        (Some((side, m)), Some((wanted, n))) => side == wanted && *m == *n,
-        (None, None) => true,
-        _ => false,
-    }
-}
-
-/// Whether the same is sent, in the same order.
-fn are_outs(found: Outs, want: Outs) -> bool {
-    let (first, second) = found.into_parts();
-    let (wanted_first, wanted_second) = want.into_parts();
-    let is_first = is_out(first, wanted_first);
-    is_out(second, wanted_second) && is_first
-}
-
-/// Whether that is the answer.
-pub(super) fn is_answer(answer: Result<Put, NoMem>, want: Result<Put, NoMem>) -> bool {
-    match (answer, want) {
-        (Ok(Put::Queue(m)), Ok(Put::Queue(n))) => *m == *n,
-        (Ok(Put::Sent(found)), Ok(Put::Sent(wanted))) => are_outs(found, wanted),
-        (Err(NoMem), Err(NoMem)) => true,
-        _ => false,
-    }
-}
-
 /// The kind that is to be there, where this one was before.
 fn kept(rt: &impl Abort, alloc: Global, before: &Kind, keeps: Keeps) -> Kind {
     match keeps {
@@ -161,7 +134,7 @@ fn answers<M: Module>(
     let answer = called(alloc, it, call, side, boxed_message(rt, alloc, came));
     let is_kept = it.shape().kind == kind;
     drop(kind);
-    is_answer(answer, wanted(rt, alloc, side, came, want)) && is_kept
+    answer == wanted(rt, alloc, side, came, want) && is_kept
 }
 
 /// Hands a module each message of a table in its turn.

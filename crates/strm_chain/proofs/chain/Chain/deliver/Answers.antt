@@ -26,30 +26,16 @@ returns-in-Err-clause-whole g c = tt
 pub returns-in-Err-clause-same : goal.returns-in-Err-clause-same
 returns-in-Err-clause-same g c = tt
 
-pub returns-in-Err-carry_all-clause-ok : goal.returns-in-Err-carry_all-clause-ok
-returns-in-Err-carry_all-clause-ok g c = tt
+pub returns-in-Ok-clause-ok : goal.returns-in-Ok-clause-ok
+returns-in-Ok-clause-ok g c =
+    rw (← c.in_ok-m.ensures) (c.in-Ok.ensures.ok ∙ (rw c.new-hops.ensures.items at c.in_ok-hop.ensures.image) ∙ c.handed_in-hop.ensures)
 
-pub returns-in-Err-carry_all-clause-whole : goal.returns-in-Err-carry_all-clause-whole
-returns-in-Err-carry_all-clause-whole g c = tt
+pub returns-in-Ok-clause-whole : goal.returns-in-Ok-clause-whole
+returns-in-Ok-clause-whole g c = rw (← c.self.view_is) (sym c.is_broken.ensures ∙ c.if-is_broken.false)
 
-pub returns-in-Err-carry_all-clause-same : goal.returns-in-Err-carry_all-clause-same
-returns-in-Err-carry_all-clause-same g c = tt
-
-pub returns-in-Err-clause-refused : goal.returns-in-Err-clause-refused
-returns-in-Err-clause-refused g c =
-    let whole : c.args.self.now.image.broken ≡ false = rw (← c.self.view_is) (sym c.is_broken.ensures ∙ c.if-is_broken.false) in
-    record { was_whole = whole; image = c.in-Err.ensures.err }
-
-pub returns-in-Ok-carry_all-clause-ok : goal.returns-in-Ok-carry_all-clause-ok
-returns-in-Ok-carry_all-clause-ok g c =
-    rw (← c.in_ok-m.ensures.ok) (c.in-Ok-carry_all.ensures.ok ∙ (rw c.new-hops.ensures.items at c.in-Ok.ensures.image) ∙ c.handed_in-hop.ensures)
-
-pub returns-in-Ok-carry_all-clause-whole : goal.returns-in-Ok-carry_all-clause-whole
-returns-in-Ok-carry_all-clause-whole g c = rw (← c.self.view_is) (sym c.is_broken.ensures ∙ c.if-is_broken.false)
-
-pub returns-in-Ok-carry_all-clause-same : goal.returns-in-Ok-carry_all-clause-same
-returns-in-Ok-carry_all-clause-same g c =
+pub returns-in-Ok-clause-same : goal.returns-in-Ok-clause-same
+returns-in-Ok-clause-same g c =
     same_trans c.args.self.now.image c.hop.new.self.image c.carry_all.new.self.image c.hop.ensures.same c.carry_all.ensures.same
 
-pub returns-in-Ok-carry_all-clause-refused : goal.returns-in-Ok-carry_all-clause-refused
-returns-in-Ok-carry_all-clause-refused g c = tt
+pub returns-in-Ok-clause-refused : goal.returns-in-Ok-clause-refused
+returns-in-Ok-clause-refused g c = tt

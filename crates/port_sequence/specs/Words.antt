@@ -1,5 +1,5 @@
 -- The discipline in scripts.
-use Rattle.std.specs.Prelude.{ℕ, List, [], ◌∷◌, Option, Some, None, Result, Ok, Err, codes, if◌then◌else◌}
+use Rattle.std.specs.Prelude.{ℕ, List, [], ◌∷◌, Some, None, Result, Ok, Err, codes, if◌then◌else◌}
 use Rattle.std.specs.Str.{bytes_eq}
 use Rattle.strm_verb.specs.Fault.{◌>>=◌}
 use Rattle.strm_verb.specs.Field.{Number, number_at}

@@ -6,9 +6,9 @@ use Rattle.strm_msg.specs.declared.words.End.TheVariants.{A, B}
 use Rattle.strm_msg.specs.Marks.{WaterMarks}
 use Rattle.strm_module.specs.Shape.{new_shape}
 use Rattle.strm_module.specs.declared.kind.Kind.TheVariants.{Pass}
+use Rattle.strm_module.specs.declared.driver.Driver.TheVariants.{Loop}
 use Rattle.strm_qpair.specs.Pair.{fresh_pair}
 use Rattle.strm_qpair.specs.End.{EndState}
-use Rattle.strm_qpair.specs.declared.driver.Driver.TheVariants.{Loop}
 use Rattle.strm_ends.specs.declared.place.Place.TheVariants.{Drv}
 use Rattle.strm_chain.specs.declared.spot.Spot.TheVariants.{Down, Up}
 use Rattle.strm_ends.specs.Image.{Image, fresh}

@@ -1,8 +1,7 @@
 //! The kinds of module that a program with SLIP has.
-ghost use Rattle.std.specs.Prelude.{◌≡◌, [], ◌++◌, take, unwrap_or, option_map, IfOk, OnOk, OnErr, IsTrue};
+ghost use Rattle.std.specs.Prelude.{◌≡◌, [], ◌++◌, take, unwrap_or, option_map, IfOk, OnOk, OnErr};
 ghost use Rattle.strm_msg.specs.Message.{data_msg};
 ghost use Rattle.strm_msg.specs.declared.words.Side.TheVariants as Side;
-ghost use Rattle.strm_module.specs.Kinds.{all_go_up};
 ghost use Rattle.port_slip.specs.Frame.{framed, begun, received};
 ghost use Rattle.port_slip.specs.Slip.{datagrams_up, received_action, kept_after, slip_action};
 ghost use Rattle.port_slip.specs.declared.kinds.SlipKind.TheVariants as SlipKind;

@@ -1,3 +1,5 @@
+pub mod Request
 pub mod Refusal
 pub mod Reply
 pub mod Begun
+pub mod Setup

@@ -7,8 +7,8 @@ use crate::refusal::Refusal;
 use crate::request::Priority;
 use arrayvec::ArrayVec;
 use std::alloc::Global;
+use strm_module::MOST_MODULES;
 use strm_msg::{Bytes, Errno, NoMem, Prot, ReadMode};
-use strm_qpair::MOST_MODULES;
 
 /// Which parts of a message stay at the stream head, whether or not they were asked for.
 #[derive(Clone, Copy, Debug, PartialEq, Eq)]

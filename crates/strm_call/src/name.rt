@@ -7,8 +7,7 @@ ghost use Rattle.std.proofs.Common.{rules};
 use arrayvec::ArrayVec;
 use std::fmt;
 use std::marker::Model;
-use strm_module::LONGEST_NAME;
-use strm_qpair::MOST_MODULES;
+use strm_module::{LONGEST_NAME, MOST_MODULES};
 
 /// The most names in a list: those of the modules of an end and of its driver.
 pub const MOST_NAMES: usize = MOST_MODULES + 1;

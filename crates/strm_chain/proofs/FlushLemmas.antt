@@ -6,14 +6,14 @@ use Rattle.strm_msg.specs.declared.words.End.{End}
 use Rattle.strm_msg.specs.declared.words.Side.TheVariants.{Rd, Wr}
 use Rattle.strm_module.specs.Builtin.{builtin}
 use Rattle.strm_module.specs.declared.kind.Kind.{Kind}
+use Rattle.strm_module.specs.declared.driver.Driver.{Driver}
+use Rattle.strm_module.specs.declared.driver.Driver.TheVariants.{Echo, Loop, Line}
+use Rattle.strm_module.specs.Driver.{has_end}
 use Rattle.strm_qpair.specs.End.{EndState, pair_at, found_gets}
 use Rattle.strm_qpair.specs.Head.{head_does, open_head, keeps}
 use Rattle.strm_qpair.specs.Driver.{driver_at, consumes, flush_up}
-use Rattle.strm_qpair.specs.declared.driver.Driver.{Driver}
-use Rattle.strm_qpair.specs.declared.driver.Driver.TheVariants.{Echo, Loop, Line}
 use Rattle.strm_qpair.specs.declared.driver.DriverSends.TheVariants.{Nothing}
-use Rattle.strm_ends.specs.Image.{Image, end_of, with_end, has_end, count_of}
-use Rattle.strm_ends.specs.Image.{driver_does}
+use Rattle.strm_ends.specs.Image.{Image, end_of, with_end, count_of, driver_does}
 use Rattle.strm_chain.specs.Deliver.{Onward, OnwardPast, Passing, passing, head_gets, send_on, up_through, down_through, driver_sends, route}
 use Rattle.strm_chain.specs.HeadFlush.{HeadSendsOnce}
 

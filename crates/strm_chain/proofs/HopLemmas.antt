@@ -11,15 +11,15 @@ use Rattle.strm_msg.specs.declared.words.End.TheVariants.{A, B}
 use Rattle.strm_msg.specs.declared.words.Side.{Side}
 use Rattle.strm_msg.specs.declared.words.Side.TheVariants.{Rd, Wr}
 use Rattle.strm_module.specs.Kinds.{OutList, Meaning}
+use Rattle.strm_module.specs.Driver.{partner}
 use Rattle.strm_qpair.specs.Pair.{QueuePair}
 use Rattle.strm_qpair.specs.End.{pair_at}
 use Rattle.strm_qpair.specs.Modules.{identity_of, identities_of}
 use Rattle.strm_qpair.specs.Head.{head_does}
 use Rattle.strm_qpair.specs.declared.driver.DriverSends.TheVariants.{Nothing, Reply, Across, Options}
+use Rattle.strm_ends.specs.Image.{Image, end_of, with_end, with_drv, count_of, driver_does}
 use Rattle.strm_chain.specs.declared.chain.hop.Hop.{Hop}
 use Rattle.strm_ends.specs.declared.place.Place.TheVariants as Place
-use Rattle.strm_ends.specs.Image.{Image, end_of, with_end, with_drv, count_of, partner}
-use Rattle.strm_ends.specs.Image.{driver_does}
 use Rattle.strm_chain.specs.Deliver.{up, down, up_through, down_through, send_on, sends, sends_nothing, sent_down, put_at, route, driver_sends}
 use Rattle.strm_chain.specs.Service.{serve_at, move, move_drv}
 use Rattle.strm_ends.specs.Same.{SameModules}

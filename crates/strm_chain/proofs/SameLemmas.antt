@@ -18,22 +18,22 @@ use Rattle.strm_module.specs.declared.shape.Shape.{Shape}
 use Rattle.strm_module.specs.declared.outs.Put.{Put}
 use Rattle.strm_module.specs.declared.outs.Put.TheVariants.{Queue as Queued, Sent}
 use Rattle.strm_module.proofs.ProcedureLemmas.{put_of_same}
+use Rattle.strm_module.specs.declared.driver.Driver.{Driver}
+use Rattle.strm_module.specs.declared.driver.Driver.TheVariants.{Echo, Loop, Line}
+use Rattle.strm_module.specs.Driver.{has_end, partner}
 use Rattle.strm_qpair.specs.Pair.{QueuePair, list_on, flushed_if, flushed_pair, after_put, pair_gets, pair_front, pair_serves}
 use Rattle.strm_qpair.specs.End.{EndState, in_head, in_state, in_drv, pair_at, set_pair, found_gets, end_gets, found_serves, end_serves}
 use Rattle.strm_qpair.specs.Head.{is_id, kept_answer, with_errors, open_head, keeps, head_does}
 use Rattle.strm_qpair.specs.Driver.{DriverStep, consumes, refuses, line_does, loop_does, options_up, echo_does, driver_at}
 use Rattle.strm_qpair.specs.Modules.{identity_of, identities_of, SameIds, SameEnd}
-use Rattle.strm_qpair.specs.declared.driver.Driver.{Driver}
-use Rattle.strm_qpair.specs.declared.driver.Driver.TheVariants.{Echo, Loop, Line}
 use Rattle.strm_qpair.specs.declared.driver.DriverSends.{DriverSends}
 use Rattle.strm_qpair.specs.declared.driver.DriverSends.TheVariants.{Nothing, Reply, Across, Options}
 use Rattle.strm_qpair.specs.declared.record.Record.{Record}
 use Rattle.strm_qpair.proofs.EndLemmas.{identities-set}
 use Rattle.strm_ends.specs.declared.place.Place.{Place}
+use Rattle.strm_ends.specs.Image.{Image, end_of, with_end, with_drv, count_of, driver_does}
 use Rattle.strm_chain.specs.declared.spot.Spot.{Spot}
 use Rattle.strm_chain.specs.declared.spot.Spot.TheVariants.{Down, Up}
-use Rattle.strm_ends.specs.Image.{Image, end_of, with_end, with_drv, has_end, partner, count_of}
-use Rattle.strm_ends.specs.Image.{driver_does}
 use Rattle.strm_chain.specs.Deliver.{Onward, OnwardPast, send_on, head_gets, driver_sends, driver_gets, route, put_at, up_through, down_through, sent_down_with, sends_nothing, sends, up, down, deliver}
 use Rattle.strm_chain.specs.Service.{Leads, serve_at, move_drv, move}
 use Rattle.strm_ends.specs.Same.{SameModules}

@@ -9,12 +9,13 @@ use Rattle.strm_msg.specs.declared.words.Prot.{Prot}
 use Rattle.strm_msg.specs.declared.options.TheConstants.{SETOPTS}
 use Rattle.strm_msg.specs.declared.kind.MsgKind.{MsgKind}
 use Rattle.strm_msg.specs.declared.kind.MsgKind.TheVariants.{MData, MProto, MPcproto, MIoctl, MIocack, MIocnak, MSetopts, MFlush, MHangup, MError}
+use Rattle.strm_module.specs.declared.driver.Driver.{Driver}
+use Rattle.strm_module.specs.declared.driver.Driver.TheVariants.{Echo, Loop, Line}
+use Rattle.strm_module.specs.Driver.{has_end}
 use Rattle.strm_qpair.specs.End.{EndState}
 use Rattle.strm_qpair.specs.Driver.{line_does, loop_does, echo_does, driver_at, options_up, refuses, consumes}
-use Rattle.strm_qpair.specs.declared.driver.Driver.{Driver}
-use Rattle.strm_qpair.specs.declared.driver.Driver.TheVariants.{Echo, Loop, Line}
 use Rattle.strm_qpair.specs.declared.driver.DriverSends.TheVariants.{Options}
-use Rattle.strm_ends.specs.Image.{Image, end_of, with_end, has_end, driver_does}
+use Rattle.strm_ends.specs.Image.{Image, end_of, with_end, driver_does}
 
 module _ {K : Type 0} (mode : Option ReadMode) (prot : Option Prot) (marks : Option (ℕ × ℕ)) (id : ℕ) where
   line_still : (e : EndState K) (kind : MsgKind) → Options mode prot marks id ≡ (line_does e kind).sends → (line_does e kind).state ≡ e

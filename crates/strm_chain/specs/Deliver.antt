@@ -7,13 +7,14 @@ use Rattle.strm_msg.specs.declared.words.End.{End}
 use Rattle.strm_msg.specs.declared.words.Side.{Side}
 use Rattle.strm_msg.specs.declared.words.Side.TheVariants.{Rd, Wr}
 use Rattle.strm_module.specs.Kinds.{OutList, Meaning}
+use Rattle.strm_module.specs.Driver.{has_end, partner}
 use Rattle.strm_qpair.specs.End.{EndStep, end_gets}
 use Rattle.strm_qpair.specs.Head.{head_does}
 use Rattle.strm_qpair.specs.declared.driver.DriverSends.{DriverSends}
 use Rattle.strm_qpair.specs.declared.driver.DriverSends.TheVariants.{Nothing, Reply, Across, Options}
+use Rattle.strm_ends.specs.Image.{Image, end_of, with_end, count_of, driver_does}
 use Rattle.strm_chain.specs.declared.spot.Spot.{Spot}
 use Rattle.strm_chain.specs.declared.spot.Spot.TheVariants.{Down, Up}
-use Rattle.strm_ends.specs.Image.{Image, end_of, with_end, has_end, partner, count_of, driver_does}
 
 -- an image, and what a module sends from there
 pub record Passing (K : Type 0) : Type 0 where

@@ -5,10 +5,11 @@ use Rattle.strm_msg.specs.declared.words.End.{End}
 use Rattle.strm_msg.specs.declared.words.Side.{Side}
 use Rattle.strm_msg.specs.declared.words.Side.TheVariants.{Rd, Wr}
 use Rattle.strm_module.specs.Kinds.{Meaning}
+use Rattle.strm_module.specs.Driver.{partner}
 use Rattle.strm_qpair.specs.End.{end_serves}
 use Rattle.strm_ends.specs.declared.place.Place.{Place}
-use Rattle.strm_ends.specs.Image.{Image, end_of, partner, count_of, with_drv}
 use Rattle.strm_ends.specs.Flow.{may}
+use Rattle.strm_ends.specs.Image.{Image, end_of, count_of, with_drv}
 use Rattle.strm_chain.specs.Deliver.{Passing, passing, up, down, route}
 
 -- for kinds of any meaning

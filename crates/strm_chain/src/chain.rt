@@ -11,9 +11,8 @@ use arrayvec::ArrayVec;
 use std::alloc::Global;
 use std::marker::Model;
 use strm_ends::{Ends, Place};
-use strm_module::{Boxed, ModuleOf, Shape};
+use strm_module::{Boxed, Driver, MOST_MODULES, ModuleOf, Shape};
 use strm_msg::{End, Marks, NoMem};
-use strm_qpair::{Driver, MOST_MODULES};
 
 mod deliver;
 mod head;

@@ -18,5 +18,6 @@ pub use delivery::deliver;
 pub use fault::ChainFault;
 pub use moves::{Moves, Settled};
 pub use spot::Spot;
-pub use strm_ends::{Place, has_end};
-pub use strm_qpair::{Driver, MOST_MODULES, Record};
+pub use strm_ends::Place;
+pub use strm_module::{Driver, MOST_MODULES};
+pub use strm_qpair::Record;

@@ -2,9 +2,9 @@
 use Rattle.std.specs.Prelude.{ℕ, ◌+◌, List, [], ◌∷◌, ◌++◌, length, slice_get, Option, Some, None, codes}
 use Rattle.std.specs.List.{flat_map, enumerate_from, zip}
 use Rattle.strm_msg.specs.declared.words.End.TheVariants.{A}
-use Rattle.strm_qpair.specs.declared.driver.Driver.{Driver}
-use Rattle.strm_qpair.specs.declared.driver.Driver.TheVariants.{Line}
-use Rattle.strm_history.specs.declared.setup.Setup.{Setup}
+use Rattle.strm_module.specs.declared.driver.Driver.{Driver}
+use Rattle.strm_module.specs.declared.driver.Driver.TheVariants.{Line}
+use Rattle.strm_call.specs.declared.setup.Setup.{Setup}
 use Rattle.strm_history.specs.declared.entry.Entry.{Entry}
 use Rattle.strm_history.specs.declared.transcript.StreamLog.{StreamLog}
 use Rattle.strm_verb.specs.Field.{Word}

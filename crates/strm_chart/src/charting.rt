@@ -1,7 +1,7 @@
 //! What a run leaves, as a chart.
-ghost use Rattle.std.specs.Prelude.{OnOk, map};
+ghost use Rattle.std.specs.Prelude.{OnOk};
 ghost use Rattle.std.specs.Io.KnownBytes.{Appends};
-ghost use Rattle.strm_plan.specs.Plan.{plan_view, process_view, streams_view};
+ghost use Rattle.strm_plan.specs.Plan.{plan_view};
 ghost use Rattle.strm_chart.specs.Chart.{chart_text, numbered_chart};
 
 use crate::stream::put_stream;

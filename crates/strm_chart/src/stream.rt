@@ -1,5 +1,5 @@
 //! The chart of a stream.
-ghost use Rattle.std.specs.Prelude.{OnOk, length, map};
+ghost use Rattle.std.specs.Prelude.{OnOk, map};
 ghost use Rattle.std.specs.Io.KnownBytes.{Appends};
 ghost use Rattle.strm_plan.specs.Plan.{process_view};
 ghost use Rattle.strm_chart.specs.Chart as text;

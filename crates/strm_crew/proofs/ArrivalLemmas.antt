@@ -4,8 +4,8 @@ use Rattle.std.specs.Prelude.{count_by}
 use Rattle.std.proofs.lemmas.List.Recursion.{is_count_by}
 use Rattle.std.proofs.lemmas.List.Sums.{count_by-le-length}
 use Rattle.strm_msg.specs.Message.{Msg}
-use Rattle.strm_head.specs.declared.event.Event.{Event}
-use Rattle.strm_head.specs.declared.event.Event.TheVariants.{Asked, Arrived}
+use Rattle.strm_call.specs.declared.event.Event.{Event}
+use Rattle.strm_call.specs.declared.event.Event.TheVariants.{Asked, Arrived}
 use Rattle.strm_history.specs.declared.entry.Entry.{Entry}
 use Rattle.strm_history.specs.Entry.{came_in}
 use Rattle.strm_history.specs.History.{arrivals}

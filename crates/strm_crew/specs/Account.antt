@@ -2,7 +2,7 @@
 use Rattle.std.specs.Prelude.{◌≡◌, ℕ, zero, suc, true, Some, List, [], ◌∷◌, ◌++◌, All, length, map, take}
 use Rattle.strm_msg.specs.declared.words.End.{End}
 use Rattle.strm_module.specs.declared.shape.Shape.{Shape}
-use Rattle.strm_head.specs.declared.event.Event.{Event}
+use Rattle.strm_call.specs.declared.event.Event.{Event}
 use Rattle.strm_history.specs.declared.entry.Entry.{Entry}
 use Rattle.strm_history.specs.Entry.{asked_of}
 use Rattle.strm_history.specs.History.{entry_at}

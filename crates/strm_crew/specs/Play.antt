@@ -8,10 +8,10 @@ use Rattle.strm_msg.specs.Message.{Msg}
 use Rattle.strm_module.specs.declared.shape.Shape.{Shape}
 use Rattle.strm_module.specs.declared.vocabulary.Kinds.{Ghosts}
 use Rattle.strm_module.specs.contracts.boxed.Boxed as boxed
+use Rattle.strm_call.specs.declared.setup.Setup.{Setup}
 use Rattle.strm_history.specs.contracts.call.Called as called
-use Rattle.strm_history.specs.declared.setup.Setup.{Setup}
 use Rattle.strm_shared.specs.Seat.{SeatValue}
-use Rattle.strm_shared.specs.Feed.{FeedValue}
+use Rattle.strm_line.specs.Feed.{FeedValue}
 use Rattle.strm_shared.specs.Ending.{SharedValue}
 use Rattle.strm_crew.specs.declared.script.ScriptCall.{ScriptCall}
 use Rattle.strm_crew.specs.Scripts.{calls_on, script_of, feed_of}

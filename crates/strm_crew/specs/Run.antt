@@ -5,8 +5,8 @@ use denote.RattleType.{RattleType}
 use Rattle.strm_module.specs.declared.shape.Shape.{Shape}
 use Rattle.strm_module.specs.declared.vocabulary.Kinds.{Ghosts}
 use Rattle.strm_module.specs.contracts.boxed.Boxed as boxed
+use Rattle.strm_call.specs.declared.setup.Setup.{Setup}
 use Rattle.strm_history.specs.contracts.call.Called as called
-use Rattle.strm_history.specs.declared.setup.Setup.{Setup}
 use Rattle.strm_crew.specs.declared.script.Script.{Script}
 use Rattle.strm_crew.specs.declared.script.Feed.{Feed}
 

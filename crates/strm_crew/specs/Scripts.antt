@@ -3,10 +3,10 @@ use Rattle.std.specs.Prelude.{ℕ, zero, suc, ◌==◌, Option, None, List, [], 
 use Rattle.strm_msg.specs.Message.{Msg}
 use Rattle.strm_msg.specs.declared.words.End.{End}
 use Rattle.strm_module.specs.declared.shape.Shape.{Shape}
-use Rattle.strm_head.specs.declared.event.Event.{Event}
-use Rattle.strm_head.specs.declared.event.Event.TheVariants.{Asked}
-use Rattle.strm_shared.specs.Name.{RingName}
-use Rattle.strm_shared.specs.Feed.{RingValue}
+use Rattle.strm_call.specs.declared.event.Event.{Event}
+use Rattle.strm_call.specs.declared.event.Event.TheVariants.{Asked}
+use Rattle.strm_line.specs.Name.{RingName}
+use Rattle.strm_line.specs.Feed.{RingValue}
 use Rattle.strm_crew.specs.declared.script.ScriptCall.{ScriptCall}
 use Rattle.strm_crew.specs.declared.script.Script.{Script}
 use Rattle.strm_crew.specs.declared.script.Feed.{Feed}

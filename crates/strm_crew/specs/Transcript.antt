@@ -6,15 +6,15 @@ use Rattle.strm_msg.specs.declared.words.End.TheVariants.{A, B}
 use Rattle.strm_module.specs.Kinds.{Meaning}
 use Rattle.strm_qpair.specs.End.{EndState}
 use Rattle.strm_ends.specs.Image.{Image, end_of}
+use Rattle.strm_call.specs.declared.setup.Setup.{Setup}
 use Rattle.strm_ioctl.specs.Names.{names_of}
-use Rattle.strm_head.specs.declared.event.Event.{Event}
-use Rattle.strm_head.specs.declared.event.Event.TheVariants.{Asked, Arrived}
-use Rattle.strm_history.specs.declared.setup.Setup.{Setup}
-use Rattle.strm_history.specs.Setup.{opened}
+use Rattle.strm_call.specs.declared.event.Event.{Event}
+use Rattle.strm_call.specs.declared.event.Event.TheVariants.{Asked, Arrived}
 use Rattle.strm_history.specs.Entry.{asked_of}
 use Rattle.strm_history.specs.History.{arrivals, own, Legal}
 use Rattle.strm_history.specs.Serials.{AreAccounted}
 use Rattle.strm_history.specs.declared.transcript.StreamLog.{StreamLog}
+use Rattle.strm_history.specs.Opened.{opened}
 use Rattle.strm_crew.specs.Scripts.{calls_on, script_of, feed_of}
 use Rattle.strm_crew.specs.Run.{RunValue}
 

@@ -8,7 +8,7 @@ use strm_shared::Runs;
 /// `K` is what the modules are.
 pub trait Plays<K> {
     ghost use Rattle.std.specs.Prelude.{List};
-    ghost use Rattle.strm_shared.specs.Feed.{RingValue};
+    ghost use Rattle.strm_line.specs.Feed.{RingValue};
     ghost use Rattle.strm_crew.specs.Run.{RunValue};
 
     /// The run.

@@ -1,6 +1,6 @@
 //! A seat of a caller, with the receipts of what was done from it.
 ghost use Rattle.std.specs.Prelude.{◌≡◌, ◌↔◌, ◌+◌, true, All, slice_get, IfOk, OnOk, Some};
-ghost use Rattle.strm_head.specs.declared.event.Event.TheVariants.{Asked};
+ghost use Rattle.strm_call.specs.declared.event.Event.TheVariants.{Asked};
 ghost use Rattle.strm_crew.specs.Account.{HasReceipts, IsHeld};
 ghost use Rattle.strm_crew.specs.Scripts.{calls_on, script_of};
 ghost use Rattle.strm_crew.specs.Play.{CallsDoFit};

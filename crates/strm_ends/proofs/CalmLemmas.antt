@@ -18,20 +18,21 @@ use Rattle.strm_module.specs.declared.shape.Shape.{Shape}
 use Rattle.strm_module.specs.declared.outs.Put.{Put}
 use Rattle.strm_module.specs.declared.outs.Put.TheVariants.{Queue as Queued, Sent}
 use Rattle.strm_module.proofs.CalmLemmas.{ordinary_calm, put_calm, put_keeps, serve_calm, serve_keeps}
+use Rattle.strm_module.specs.declared.driver.Driver.{Driver}
+use Rattle.strm_module.specs.declared.driver.Driver.TheVariants.{Echo, Loop, Line}
+use Rattle.strm_module.specs.Driver.{has_end}
 use Rattle.strm_qpair.specs.Pair.{QueuePair, list_on, after_put, pair_gets, pair_front, pair_serves}
 use Rattle.strm_qpair.specs.End.{EndState, in_head, pair_at, list_at, found_gets, end_gets, found_serves, end_serves}
 use Rattle.strm_qpair.specs.Head.{open_head, keeps, head_does}
 use Rattle.strm_qpair.specs.Driver.{consumes, refuses, line_does, loop_does, options_up, echo_does, driver_at}
 use Rattle.strm_qpair.specs.Modules.{HoldsOrdinary}
-use Rattle.strm_qpair.specs.declared.driver.Driver.{Driver}
-use Rattle.strm_qpair.specs.declared.driver.Driver.TheVariants.{Echo, Loop, Line}
 use Rattle.strm_qpair.specs.declared.driver.DriverSends.{DriverSends}
 use Rattle.strm_qpair.specs.declared.driver.DriverSends.TheVariants.{Nothing, Reply, Across, Options}
 use Rattle.strm_qpair.proofs.NextLemmas.{front_ordinary}
-use Rattle.strm_ends.specs.Image.{has_end, driver_does}
 use Rattle.strm_ends.specs.Count.{answers_options, options_driven}
 use Rattle.strm_ends.specs.Held.{is_flush, sets_options}
 use Rattle.strm_ends.proofs.FrameLemmas.{unflushed, pair_there}
+use Rattle.strm_ends.specs.Image.{driver_does}
 
 longer : (q : List Msg) (m : Msg) → length q ≤ length (put_in q m)
 longer q m =

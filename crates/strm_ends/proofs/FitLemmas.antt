@@ -11,16 +11,17 @@ use Rattle.strm_msg.specs.declared.words.End.TheVariants.{A, B}
 use Rattle.strm_msg.specs.declared.words.Side.{Side}
 use Rattle.strm_msg.specs.declared.words.Side.TheVariants.{Rd, Wr}
 use Rattle.strm_msg.specs.Marks.{WaterMarks}
+use Rattle.strm_module.specs.declared.driver.Driver.{Driver}
+use Rattle.strm_module.specs.declared.driver.Driver.TheVariants.{Echo, Loop, Line}
+use Rattle.strm_module.specs.Driver.{partner}
 use Rattle.strm_qpair.specs.Pair.{QueuePair}
 use Rattle.strm_qpair.specs.End.{EndState}
 use Rattle.strm_qpair.specs.Modules.{identity_of, is_fit, is_fit_module, are_fit, IsFitEnd}
 use Rattle.strm_qpair.specs.Canput.{Fill, fill_with, fill_on, or_else, first_fill, after_writes, head_fill, driver_fill, above, below, full_in, slack_in}
-use Rattle.strm_qpair.specs.declared.driver.Driver.{Driver}
-use Rattle.strm_qpair.specs.declared.driver.Driver.TheVariants.{Echo, Loop, Line}
 use Rattle.strm_ends.specs.declared.place.Place.{Place}
-use Rattle.strm_ends.specs.Image.{Image, end_of, partner, count_of}
 use Rattle.strm_ends.specs.Path.{ahead, front_of}
 use Rattle.strm_ends.specs.Flow.{may, may_front, due_front, is_due}
+use Rattle.strm_ends.specs.Image.{Image, end_of, count_of}
 
 -- the low mark of a queue is below its high one
 abbrev IsFitFill : Option Fill → Type 0

@@ -17,21 +17,22 @@ use Rattle.strm_module.specs.Module.{put_of, serve_of}
 use Rattle.strm_module.specs.declared.shape.Shape.{Shape}
 use Rattle.strm_module.specs.declared.outs.Put.{Put}
 use Rattle.strm_module.specs.declared.outs.Put.TheVariants.{Queue as Queued, Sent}
+use Rattle.strm_module.specs.declared.driver.Driver.{Driver}
+use Rattle.strm_module.specs.declared.driver.Driver.TheVariants.{Echo, Loop, Line}
+use Rattle.strm_module.specs.Driver.{has_end}
 use Rattle.strm_qpair.specs.Pair.{QueuePair, list_on, with_list, flushed_if, flushed_pair, after_put, pair_gets, pair_front, pair_serves}
 use Rattle.strm_qpair.specs.End.{EndState, in_head, in_state, in_drv, pair_at, set_pair, list_found, list_at, found_gets, end_gets, found_serves, end_serves}
 use Rattle.strm_qpair.specs.Head.{kept_answer, with_errors, open_head, keeps, head_does}
 use Rattle.strm_qpair.specs.Driver.{DriverStep, consumes, line_does, loop_does, options_up, refuses, echo_does, driver_at}
 use Rattle.strm_qpair.specs.Modules.{SameIds, SameEnd}
-use Rattle.strm_qpair.specs.declared.driver.Driver.{Driver}
-use Rattle.strm_qpair.specs.declared.driver.Driver.TheVariants.{Echo, Loop, Line}
 use Rattle.strm_qpair.specs.declared.record.Record.{Record}
 use Rattle.strm_ends.specs.declared.place.Place.{Place}
 use Rattle.strm_ends.specs.declared.place.Place.TheVariants as Places
 use Rattle.strm_ends.specs.declared.place.NextQueue.{NextQueue}
 use Rattle.strm_ends.specs.declared.place.NextQueue.TheVariants.{Of, Head}
-use Rattle.strm_ends.specs.Image.{Image, end_of, with_end, has_end, driver_does, with_head, with_drv}
 use Rattle.strm_ends.specs.Same.{SameModules}
 use Rattle.strm_ends.specs.Held.{module_place, held_by, IsShift, SameHeadMarks, DiffersIn, is_flush, sets_options, SetsMarks}
+use Rattle.strm_ends.specs.Image.{Image, end_of, with_end, driver_does, with_head, with_drv}
 
 -- a list that stays as it is
 pub shift_same : (q : List Msg) → IsShift q q

@@ -6,23 +6,24 @@ use Rattle.strm_msg.specs.declared.words.End.{End}
 use Rattle.strm_msg.specs.declared.words.End.TheVariants.{A, B}
 use Rattle.strm_msg.specs.declared.words.Side.{Side}
 use Rattle.strm_msg.specs.declared.words.Side.TheVariants.{Rd, Wr}
+use Rattle.strm_module.specs.declared.driver.Driver.{Driver}
+use Rattle.strm_module.specs.declared.driver.Driver.TheVariants.{Echo, Loop, Line}
+use Rattle.strm_module.specs.Driver.{has_end, partner}
 use Rattle.strm_qpair.specs.Pair.{QueuePair}
 use Rattle.strm_qpair.specs.End.{pair_at, list_found}
 use Rattle.strm_qpair.specs.Modules.{Identity, identity_of, HoldsOrdinary}
 use Rattle.strm_qpair.specs.Canput.{head_fill, driver_fill}
 use Rattle.strm_qpair.specs.Next.{marks_at, identity_at, has_queue, next_below, next_above, queue_at, or_at}
-use Rattle.strm_qpair.specs.declared.driver.Driver.{Driver}
-use Rattle.strm_qpair.specs.declared.driver.Driver.TheVariants.{Echo, Loop, Line}
 use Rattle.strm_qpair.proofs.NextLemmas.{below_is, above_is, queue_at_marks, next_below_once, next_above_once, next_above_last, has_queue_front}
 use Rattle.strm_ends.specs.declared.place.Place.{Place}
 use Rattle.strm_ends.specs.declared.place.Place.TheVariants as Places
 use Rattle.strm_ends.specs.declared.place.NextQueue.{NextQueue}
 use Rattle.strm_ends.specs.declared.place.NextQueue.TheVariants.{Of, Head}
-use Rattle.strm_ends.specs.Image.{Image, end_of, has_end, partner, count_of}
 use Rattle.strm_ends.specs.Same.{SameModules}
 use Rattle.strm_ends.specs.Path.{ahead, front_of}
 use Rattle.strm_ends.specs.Held.{held_by, SameHeadMarks, AreOrdinary}
 use Rattle.strm_ends.specs.Next.{modules_at, past_writes, next_down, next_up, next_of, marks_by, fill_by, IsCounted, SameWays}
+use Rattle.strm_ends.specs.Image.{Image, end_of, count_of}
 
 down_fill : {K : Type 0} (image : Image K) (e : End) (o : Option ℕ) → or_at (queue_at (end_of image e) Wr) (driver_fill image.driver (end_of image e)) o ≡ fill_by image (next_down image.driver e o)
 down_fill image e (Some i) = queue_at_marks (end_of image e) Wr i

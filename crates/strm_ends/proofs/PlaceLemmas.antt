@@ -5,17 +5,18 @@ use Rattle.strm_msg.specs.declared.words.End.{End}
 use Rattle.strm_msg.specs.declared.words.End.TheVariants.{A, B}
 use Rattle.strm_msg.specs.declared.words.Side.{Side}
 use Rattle.strm_msg.specs.declared.words.Side.TheVariants.{Rd, Wr}
+use Rattle.strm_module.specs.Driver.{has_end}
 use Rattle.strm_qpair.specs.Modules.{Identity}
 use Rattle.strm_qpair.specs.Next.{has_queue}
 use Rattle.strm_qpair.proofs.NextLemmas.{has_queue_front}
 use Rattle.strm_ends.specs.declared.place.Place.{Place}
 use Rattle.strm_ends.specs.declared.place.Place.TheVariants as Places
-use Rattle.strm_ends.specs.Image.{Image, end_of, has_end}
 use Rattle.strm_ends.specs.Path.{front_of}
 use Rattle.strm_ends.specs.Held.{module_place, AreOrdinary}
 use Rattle.strm_ends.specs.Next.{modules_at, SameWays}
 use Rattle.strm_ends.specs.Count.{is_place, places_in, places_at, places_of}
 use Rattle.strm_ends.proofs.NextLemmas.{end_ordinary}
+use Rattle.strm_ends.specs.Image.{Image, end_of}
 
 -- a place is in a list if it is one of its elements
 abbrev pub IsIn : Place → List Place → Type 0

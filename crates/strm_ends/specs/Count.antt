@@ -5,17 +5,18 @@ use Rattle.strm_msg.specs.declared.words.End.{End}
 use Rattle.strm_msg.specs.declared.words.End.TheVariants.{A, B}
 use Rattle.strm_msg.specs.declared.words.Side.TheVariants.{Rd, Wr}
 use Rattle.strm_module.specs.Calm.{options_of, options_held}
+use Rattle.strm_module.specs.declared.driver.Driver.{Driver}
+use Rattle.strm_module.specs.declared.driver.Driver.TheVariants.{Echo}
+use Rattle.strm_module.specs.Driver.{has_end}
 use Rattle.strm_qpair.specs.End.{EndState}
-use Rattle.strm_qpair.specs.declared.driver.Driver.{Driver}
-use Rattle.strm_qpair.specs.declared.driver.Driver.TheVariants.{Echo}
 use Rattle.strm_qpair.specs.declared.driver.DriverSends.{DriverSends}
 use Rattle.strm_qpair.specs.declared.driver.DriverSends.TheVariants.{Nothing, Reply, Across, Options}
 use Rattle.strm_qpair.specs.Modules.{Identity}
 use Rattle.strm_qpair.specs.Next.{has_queue}
 use Rattle.strm_ends.specs.declared.place.Place.{Place}
 use Rattle.strm_ends.specs.declared.place.Place.TheVariants as Places
-use Rattle.strm_ends.specs.Image.{Image, has_end}
 use Rattle.strm_ends.specs.Next.{modules_at}
+use Rattle.strm_ends.specs.Image.{Image}
 
 -- whether a place is there: a queue that a module has, or the driver's list of an end that the driver has
 abbrev pub is_place : {K : Type 0} → Image K → Place → Bool

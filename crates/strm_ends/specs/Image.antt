@@ -4,11 +4,11 @@ use Rattle.strm_msg.specs.Message.{Msg}
 use Rattle.strm_msg.specs.declared.words.End.{End}
 use Rattle.strm_msg.specs.declared.words.End.TheVariants.{A, B}
 use Rattle.strm_msg.specs.Marks.{WaterMarks}
+use Rattle.strm_module.specs.declared.driver.Driver.{Driver}
+use Rattle.strm_module.specs.declared.driver.Driver.TheVariants.{Echo, Loop, Line}
 use Rattle.strm_qpair.specs.End.{EndState, KeepsRoom, in_head, in_state, in_drv}
 use Rattle.strm_qpair.specs.Change.{fresh_end}
 use Rattle.strm_qpair.specs.Driver.{DriverStep, consumes, driver_at}
-use Rattle.strm_qpair.specs.declared.driver.Driver.{Driver}
-use Rattle.strm_qpair.specs.declared.driver.Driver.TheVariants.{Echo, Loop, Line}
 use Rattle.strm_qpair.specs.declared.record.Record.{Record}
 
 -- a stream, but for the objects that act for its modules

@@ -3,18 +3,19 @@ use Rattle.std.specs.Prelude.{◌≡◌, ◌+◌, ◌≤◌, ℕ, Bool, Option, 
 use Rattle.strm_msg.specs.declared.words.End.{End}
 use Rattle.strm_msg.specs.declared.words.Side.TheVariants.{Rd, Wr}
 use Rattle.strm_msg.specs.Marks.{WaterMarks}
-use Rattle.strm_qpair.specs.declared.end.TheConstants.{MOST_MODULES}
+use Rattle.strm_module.specs.declared.driver.TheConstants.{MOST_MODULES}
+use Rattle.strm_module.specs.declared.driver.Driver.{Driver}
+use Rattle.strm_module.specs.declared.driver.Driver.TheVariants.{Echo, Loop, Line}
+use Rattle.strm_module.specs.Driver.{partner}
 use Rattle.strm_qpair.specs.Modules.{Identity, identities_of}
 use Rattle.strm_qpair.specs.Canput.{Fill, fill_with}
 use Rattle.strm_qpair.specs.Next.{marks_at, identity_at, next_below, next_above}
-use Rattle.strm_qpair.specs.declared.driver.Driver.{Driver}
-use Rattle.strm_qpair.specs.declared.driver.Driver.TheVariants.{Echo, Loop, Line}
 use Rattle.strm_ends.specs.declared.place.Place.{Place}
 use Rattle.strm_ends.specs.declared.place.Place.TheVariants as Places
 use Rattle.strm_ends.specs.declared.place.NextQueue.{NextQueue}
 use Rattle.strm_ends.specs.declared.place.NextQueue.TheVariants.{Of, Head}
-use Rattle.strm_ends.specs.Image.{Image, end_of, partner, count_of}
 use Rattle.strm_ends.specs.Held.{held_by}
+use Rattle.strm_ends.specs.Image.{Image, end_of, count_of}
 
 -- the modules of an end
 abbrev pub modules_at : {K : Type 0} → Image K → End → List Identity

@@ -2,10 +2,11 @@
 use Rattle.std.specs.Prelude.{◌+◌, Option, List, [], slice_get, if◌then◌else◌}
 use Rattle.strm_msg.specs.Message.{Msg}
 use Rattle.strm_msg.specs.declared.words.Side.TheVariants.{Rd, Wr}
+use Rattle.strm_module.specs.Driver.{has_end, partner}
 use Rattle.strm_qpair.specs.End.{list_at}
 use Rattle.strm_qpair.specs.Canput.{Fill, above, below}
 use Rattle.strm_ends.specs.declared.place.Place.{Place}
-use Rattle.strm_ends.specs.Image.{Image, end_of, has_end, partner, count_of}
+use Rattle.strm_ends.specs.Image.{Image, end_of, count_of}
 
 -- the next queue in path order: the write queues from top to bottom, the driver, the read queues from bottom to top, the head
 abbrev pub ahead : {K : Type 0} → Image K → Place → Option Fill

@@ -1,16 +1,17 @@
 //! One or two ends over a driver.
 ghost use Rattle.std.specs.Prelude.{◌≡◌, ◌∷◌, [], ◌≤◌, OnOk, OnErr, IfErr, IfOk, IfSome, IfNone, is_ok, true, map, Some};
+ghost use Rattle.strm_module.specs.Driver.{has_end};
 ghost use Rattle.strm_qpair.specs.End.{shapes_of};
 ghost use Rattle.strm_qpair.specs.Modules.{IsFitEnd, HoldsOrdinary};
 ghost use Rattle.strm_qpair.specs.Change.{has_room, inserted, removed, closed};
-ghost use Rattle.strm_ends.specs.Image.{end_of, with_end, count_of, room_of, KeepsHeadRoom, partner, has_end, fresh};
+ghost use Rattle.strm_ends.specs.Image.{end_of, with_end, count_of, room_of, KeepsHeadRoom, fresh};
 
 use arrayvec::ArrayVec;
 use std::alloc::Global;
 use std::marker::Model;
-use strm_module::{Boxed, ModuleOf};
+use strm_module::{Boxed, Driver, MOST_MODULES, ModuleOf};
 use strm_msg::{End, Marks, NoMem};
-use strm_qpair::{Driver, MOST_MODULES, StreamEnd};
+use strm_qpair::StreamEnd;
 
 mod flow;
 mod head;
@@ -40,34 +41,13 @@ impl<M: ModuleOf> Model for Ends<M> {
     ghost view = { λ c. record { image = record { driver = c.driver; broken = c.broken; a = c.a.state; b = c.b.state }; rooms = record { a = c.a.head_room; b = c.b.head_room; line = c.a.drv_room } } };
 }
 
-/// The end up whose read side a driver sends what came down an end.
-pub fn partner_of(driver: Driver, end: End) -> End
-    ensures { result ≡ partner driver end }
-{
-    match (driver, end) {
-        (Driver::Loop, End::A) => End::B,
-        (Driver::Loop, End::B) => End::A,
-        _ => end,
-    }
-}
-
-/// Whether a driver has an end: each has end A, and a loop has end B too.
-pub fn has_end(driver: Driver, end: End) -> bool
-    ensures { result ≡ has_end driver end }
-{
-    match end {
-        End::A => true,
-        End::B => driver == Driver::Loop,
-    }
-}
-
 impl<M: ModuleOf> Ends<M> {
     /// Ends without modules, open where the driver has them. Refused for want of memory alone.
     pub fn new(alloc: Global, driver: Driver, head: Marks, drv: Marks) -> Result<Ends<M>, NoMem>
         ensures { IfOk result (λ c. c.image ≡ fresh driver head drv) }
     {
-        let a = StreamEnd::new(alloc, head, drv, has_end(driver, End::A))?;
-        let b = StreamEnd::new(alloc, head, drv, has_end(driver, End::B))?;
+        let a = StreamEnd::new(alloc, head, drv, driver.has_end(End::A))?;
+        let b = StreamEnd::new(alloc, head, drv, driver.has_end(End::B))?;
         Ok(Ends {
             alloc,
             driver,

@@ -8,5 +8,5 @@
 mod ends;
 mod place;
 
-pub use ends::{Ends, has_end, partner_of};
+pub use ends::Ends;
 pub use place::{NextQueue, Place};

@@ -1,15 +1,14 @@
 -- What the walks over handles and parts share: both own the block of a `Box<Held>`.
-use Rattle.std.proofs.Common.{lit<}
+use Rattle.std.proofs.Common.{lit<, w64}
 use mir.Syntax.{impl, tnil, dnil}
 use mathlib.Core.List.{[]}
 use lib.Dec.{T}
 use mir.Val.{Val, vint, vstruct, vnil, vcons, has_ty, WT}
 use mir.Syntax.{ty_struct, tcons, ty_ptr}
-use Rattle.std.proofs.Common.{w64}
+use Rattle.strm_module.specs.declared.driver.Driver.TheVariants as Drivers
 use Rattle.std_alloc.proofs.ResultValues.{and_tt}
 use Rattle.std.proofs.alloc.Calls.{α, Fits}
 use Rattle.strm_ends.specs.Image.{fresh}
-use Rattle.strm_qpair.specs.declared.driver.Driver.TheVariants as Drivers
 use denote.Signature.{Slot, plain}
 use Rattle.std_alloc.proofs.BoxSteps.Form.{Bx}
 use Rattle.std_heap.specs.contracts.Global as Heap

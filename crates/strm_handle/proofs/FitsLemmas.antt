@@ -11,7 +11,7 @@ use Rattle.strm_call.specs.declared.request.Request.TheVariants as Requests
 use Rattle.strm_call.specs.declared.request.Wanted.{Wanted}
 use Rattle.strm_module.specs.Builtin.{builtin}
 use Rattle.strm_ends.specs.declared.place.Place.{Place}
-use Rattle.strm_head.specs.declared.event.Event.TheVariants.{Asked}
+use Rattle.strm_call.specs.declared.event.Event.TheVariants.{Asked}
 use Rattle.strm_head.specs.Step.{Step}
 use Rattle.strm_call.specs.declared.answer.Answer.{Answer}
 use Rattle.strm_call.specs.declared.answer.Answer.TheVariants.{Done}

@@ -5,17 +5,17 @@ use Rattle.strm_msg.specs.declared.words.End.{End}
 use Rattle.strm_module.specs.Builtin.{builtin}
 use Rattle.strm_module.specs.declared.kind.Kind.{Kind}
 use Rattle.strm_module.specs.declared.shape.Shape.{Shape}
+use Rattle.strm_module.specs.declared.driver.Driver.{Driver}
 use Rattle.strm_ends.specs.Image.{Image, fresh}
 use Rattle.strm_ends.specs.declared.place.Place.{Place}
-use Rattle.strm_qpair.specs.declared.driver.Driver.{Driver}
 use Rattle.strm_call.specs.declared.request.Request.{Request}
 use Rattle.strm_call.specs.declared.refusal.Refusal.{Refusal}
 use Rattle.strm_call.specs.declared.refusal.Refusal.TheVariants.{Closed}
 use Rattle.strm_call.specs.declared.answer.Answer.{Answer}
 use Rattle.strm_call.specs.declared.answer.Answer.TheVariants.{Refused}
-use Rattle.strm_head.specs.declared.event.Event.TheVariants.{Asked as Call}
+use Rattle.strm_call.specs.Setup.{are_marks}
+use Rattle.strm_call.specs.declared.event.Event.TheVariants.{Asked as Call}
 use Rattle.strm_head.specs.Begin.{out_of, takes_no_memory, wants_memory}
-use Rattle.strm_head.specs.Inside.{are_marks}
 use Rattle.strm_head.specs.Step.{Step}
 use Rattle.strm_abi.specs.Numbers.{end_of}
 use Rattle.strm_handle.specs.Codes.{code_of}

@@ -1,8 +1,8 @@
 -- What answers, drivers and flags are as numbers of C (stropts.h of System V Release 4).
 use Rattle.std.specs.Prelude.{ℕ, nat_eq, Bool, true, false, Option, Some, None, if◌then◌else◌}
 use Rattle.strm_msg.specs.declared.errno.Errno.TheVariants.{ENOSR, ETIME}
-use Rattle.strm_qpair.specs.declared.driver.Driver.{Driver}
-use Rattle.strm_qpair.specs.declared.driver.Driver.TheVariants as Drivers
+use Rattle.strm_module.specs.declared.driver.Driver.{Driver}
+use Rattle.strm_module.specs.declared.driver.Driver.TheVariants as Drivers
 use Rattle.strm_call.specs.Refusal.{errno_of}
 use Rattle.strm_call.specs.declared.request.Priority.{Priority}
 use Rattle.strm_call.specs.declared.request.Priority.TheVariants as Priorities

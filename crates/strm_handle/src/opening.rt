@@ -2,7 +2,7 @@
 ghost use Rattle.std.specs.Prelude.{◌≡◌, true, false, if◌then◌else◌, IfOk, IfErr};
 ghost use Rattle.strm_msg.specs.declared.errno.Errno.TheVariants.{EINVAL, ENOSR};
 ghost use Rattle.strm_ends.specs.Image.{fresh};
-ghost use Rattle.strm_head.specs.Inside.{are_marks};
+ghost use Rattle.strm_call.specs.Setup.{are_marks};
 ghost use Rattle.strm_handle.specs.Call.{Opens};
 
 use crate::handle::Handle;

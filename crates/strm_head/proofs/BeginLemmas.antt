@@ -3,7 +3,8 @@ use Rattle.std.proofs.Common.{◌≡◌, not, Bool, true, false, Option, Some, N
 use Rattle.std.specs.Option.{option_or}
 use Rattle.strm_msg.specs.declared.words.End.{End}
 use Rattle.strm_module.specs.declared.shape.Shape.{Shape}
-use Rattle.strm_ends.specs.Image.{Image, end_of, has_end}
+use Rattle.strm_module.specs.Driver.{has_end}
+use Rattle.strm_ends.specs.Image.{Image, end_of}
 use Rattle.strm_chain.specs.Deliver.{is_there}
 use Rattle.strm_chain.specs.declared.spot.Spot.TheVariants.{Down}
 use Rattle.strm_call.specs.declared.request.Request.{Request}
@@ -11,7 +12,8 @@ use Rattle.strm_call.specs.declared.request.Request.TheVariants.{Close}
 use Rattle.strm_call.specs.declared.refusal.Refusal.{Refusal}
 use Rattle.strm_call.specs.declared.refusal.Refusal.TheVariants.{Closed, Broken}
 use Rattle.strm_call.specs.Refusal.{first_that_holds}
-use Rattle.strm_head.specs.Begin.{refusal_of, begun_of, errors_at, common_refusals, own_refusals, takes_no_memory, can_lack_memory, changes_no_queue}
+use Rattle.strm_call.specs.Request.{changes_no_queue}
+use Rattle.strm_head.specs.Begin.{refusal_of, begun_of, errors_at, common_refusals, own_refusals, takes_no_memory, can_lack_memory}
 use Rattle.strm_chain.specs.declared.fault.ChainFault.{ChainFault}
 use Rattle.strm_call.specs.declared.answer.Reply.{Reply}
 use Rattle.strm_chain.specs.Fault.{Fails}

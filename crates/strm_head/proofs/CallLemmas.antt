@@ -20,7 +20,8 @@ use Rattle.strm_call.specs.declared.answer.Answer.TheVariants.{Done, Refused, Br
 use Rattle.strm_msg.specs.declared.errno.Errno.{Errno}
 use Rattle.strm_msg.specs.Message.{Msg}
 use Rattle.strm_call.specs.Begun.{Begun, begun, begun_ioctl, reply_after}
-use Rattle.strm_head.specs.Begin.{begun_of, refusal_of, changes_no_queue, awaits_answer, takes_no_memory, can_lack_memory, pushed_of, errors_looked_at, error_refusal, error_refusals, errors_at, common_refusals, own_refusals, handed_out, back_of, out_of, serials_of, wants_memory}
+use Rattle.strm_call.specs.Request.{changes_no_queue}
+use Rattle.strm_head.specs.Begin.{begun_of, refusal_of, awaits_answer, takes_no_memory, can_lack_memory, pushed_of, errors_looked_at, error_refusal, error_refusals, errors_at, common_refusals, own_refusals, handed_out, back_of, out_of, serials_of, wants_memory}
 use Rattle.strm_ioctl.specs.Ask.{is_empty}
 use Rattle.strm_module.specs.declared.shape.TheConstants.{LONGEST_NAME}
 use Rattle.strm_head.specs.Inside.{IsKept}
@@ -166,11 +167,11 @@ module _ {K : Type 0} (means : Meaning K) where
   ioctl_whole image e request new unrefused awaits is =
       ap (λ (i : Image K). i.broken) is ∙ (begun_opens means image e request).broken ∙ whole_of image e request unrefused (λ same. let no : false ≡ true = sym (ap (λ r. awaits_answer r) same) ∙ awaits in cc)
 
-  plain_reply : (b : Begun K) (kept : Option Msg) → b.awaits ≡ false → reply_after b kept ≡ b.reply
+  plain_reply : (b : Begun (Image K) K) (kept : Option Msg) → b.awaits ≡ false → reply_after b kept ≡ b.reply
   plain_reply b kept h = rw h refl
 
   -- what was begun and finished, where the modules that were taken out are known
-  with_out : (e : End) (b : Begun K) (new : Image K) (reply : Reply) (answer : Answer) (moves : List Place) (after : Image K) → new ≡ b.image → reply ≡ b.reply → b.awaits ≡ false → Finishes means e (begun new reply) answer moves [] after → Finishes means e b answer moves (serials_of b.out) after
+  with_out : (e : End) (b : Begun (Image K) K) (new : Image K) (reply : Reply) (answer : Answer) (moves : List Place) (after : Image K) → new ≡ b.image → reply ≡ b.reply → b.awaits ≡ false → Finishes means e (begun new reply) answer moves [] after → Finishes means e b answer moves (serials_of b.out) after
   with_out e b new reply (Refused refusal) moves after i r plain finishes = absurd finishes
   with_out e b new reply (Done said) moves after i r plain done =
       record {
@@ -184,10 +185,10 @@ module _ {K : Type 0} (means : Meaning K) where
       record { breaks = subst (λ (image : Image K). Breaks image after) i broke.breaks; stays = broke.stays; takes = refl }
 
   -- the same of an ioctl
-  ioctl_out : (e : End) (b : Begun K) (new : Image K) (answer : Answer) (moves : List Place) (after : Image K) → new ≡ b.image → b ≡ begun_ioctl b.image → Finishes means e (begun_ioctl new) answer moves [] after → Finishes means e b answer moves (serials_of b.out) after
+  ioctl_out : (e : End) (b : Begun (Image K) K) (new : Image K) (answer : Answer) (moves : List Place) (after : Image K) → new ≡ b.image → b ≡ begun_ioctl b.image → Finishes means e (begun_ioctl new) answer moves [] after → Finishes means e b answer moves (serials_of b.out) after
   ioctl_out e b new answer moves after i is finishes =
       let same : begun_ioctl new ≡ b = ap (λ image. begun_ioctl image) i ∙ sym is in
-      let none : b.out ≡ [] = ap (λ (x : Begun K). x.out) is in
+      let none : b.out ≡ [] = ap (λ (x : Begun (Image K) K). x.out) is in
       subst (λ o. Finishes means e b answer moves (serials_of o) after) (sym none)
       (subst (λ x. Finishes means e x answer moves [] after) same finishes)
 
@@ -222,7 +223,7 @@ module _ {K : Type 0} (means : Meaning K) where
       (unrefused, (λ quiet. refl), record { settled = b.image; settles = settles; replies = r ∙ sym (plain_reply b _ quiet.awaits); leaves = ap (λ x. answered_if x e b.image) (sym quiet.awaits); takes = refl })
 
   -- what comes back of a call that was finished
-  pub finished_back : (image : Image K) (e : End) (request : Request (Shape K)) (back : List (Option (Shape K))) (b : Begun K) (answer : Answer) (moves : List Place) (out : List ℕ) (after : Image K) → back ≡ handed_out (begun_of means image e request).out → Finishes means e b answer moves out after → back ≡ back_of means image e request answer
+  pub finished_back : (image : Image K) (e : End) (request : Request (Shape K)) (back : List (Option (Shape K))) (b : Begun (Image K) K) (answer : Answer) (moves : List Place) (out : List ℕ) (after : Image K) → back ≡ handed_out (begun_of means image e request).out → Finishes means e b answer moves out after → back ≡ back_of means image e request answer
   finished_back image e request back b (Refused refusal) moves out after is finishes = absurd finishes
   finished_back image e request back b (Done reply) moves out after is finishes = is
   finished_back image e request back b Broke moves out after is finishes = is

@@ -8,6 +8,7 @@ use Rattle.strm_msg.specs.declared.words.End.TheVariants.{A, B}
 use Rattle.strm_module.specs.Kinds.{Meaning}
 use Rattle.strm_module.specs.declared.shape.Shape.{Shape}
 use Rattle.strm_queue.specs.Queue.{put_in}
+use Rattle.strm_module.specs.Driver.{partner, has_end}
 use Rattle.strm_qpair.specs.End.{EndState, in_drv}
 use Rattle.strm_qpair.specs.Modules.{SameEnd}
 use Rattle.strm_qpair.specs.Canput.{above, slack_in}
@@ -15,8 +16,8 @@ use Rattle.strm_qpair.specs.Change.{with_mode, inserted, removed, closed, begun_
 use Rattle.strm_qpair.specs.declared.record.Record.{Record}
 use Rattle.strm_ends.specs.declared.place.Place.{Place}
 use Rattle.strm_ends.specs.declared.place.Place.TheVariants as Places
+use Rattle.strm_ends.specs.Image.{Image, end_of, with_end, with_head, with_state, count_of}
 use Rattle.strm_chain.specs.declared.spot.Spot.TheVariants.{Down, Up}
-use Rattle.strm_ends.specs.Image.{Image, end_of, with_end, with_head, with_state, partner, count_of, has_end}
 use Rattle.strm_ends.specs.Path.{ahead, front_of}
 use Rattle.strm_ends.specs.Flow.{is_due, due_front, IsQuiet}
 use Rattle.strm_ends.specs.Same.{SameModules}
@@ -38,7 +39,8 @@ use Rattle.strm_msgio.specs.Send.{sent_of, putmsg_message, putpmsg_message, ordi
 use Rattle.strm_ioctl.specs.Ioctl.{asked_of}
 use Rattle.strm_ioctl.specs.Close.{closed_image, after_close}
 use Rattle.strm_ioctl.proofs.CloseLemmas.{hung_up_keeps}
-use Rattle.strm_head.specs.Begin.{begun_of, refusal_of, errors_at, common_refusals, own_refusals, changes_no_queue}
+use Rattle.strm_call.specs.Request.{changes_no_queue}
+use Rattle.strm_head.specs.Begin.{begun_of, refusal_of, errors_at, common_refusals, own_refusals}
 use Rattle.strm_head.proofs.RefusalLemmas.{first_of_all}
 use Rattle.strm_head.specs.Inside.{HasItsEnds, IsIdle, AreIdle, IsKept, OpensNone}
 use Rattle.strm_head.specs.Step.{Answers, IsDone, IsBroken, SettlesUnless, Lands, arrival, arrived_of, answered_if}
@@ -201,7 +203,7 @@ same_but_drv e q =
     }
 
 -- what a call that changes no queue has done
-pub record IsQuietly {K : Type 0} (image : Image K) (begun : Begun K) : Type 0 where
+pub record IsQuietly {K : Type 0} (image : Image K) (begun : Begun (Image K) K) : Type 0 where
   pub quiet : IsQuiet begun.image
   pub broken : begun.image.broken ≡ image.broken
   pub awaits : begun.awaits ≡ false
@@ -321,7 +323,7 @@ module _ {K : Type 0} (means : Meaning K) where
   broken_opens old new breaks B h = sym breaks.on_b.is_open ∙ h
 
   -- a stream that broke keeps the ends
-  broken_kept : (begun : Begun K) (moves : List Place) (out : List ℕ) (after : Image K) → HasItsEnds begun.image → IsBroken begun moves out after → IsKept after
+  broken_kept : (begun : Begun (Image K) K) (moves : List Place) (out : List ℕ) (after : Image K) → HasItsEnds begun.image → IsBroken begun moves out after → IsKept after
   broken_kept begun moves out after ends broke =
       record {
         quiet = λ whole. absurd (let no : true ≡ false = sym broke.breaks.is_broken ∙ whole in cc);
@@ -329,7 +331,7 @@ module _ {K : Type 0} (means : Meaning K) where
         ends = λ e h. ap (λ d. has_end d e) broke.breaks.driver ∙ ends e (broken_opens begun.image after broke.breaks e h);
       }
 
-  settled_kept : (broken : Bool) (e : End) (begun : Begun K) (moves : List Place) (settled : Image K) → begun.image.broken ≡ broken → SettlesUnless means broken begun.image moves settled → HasItsEnds begun.image → (begun.image.broken ≡ false → AreIdle (answered_if begun.awaits e begun.image)) → IsKept (answered_if begun.awaits e settled)
+  settled_kept : (broken : Bool) (e : End) (begun : Begun (Image K) K) (moves : List Place) (settled : Image K) → begun.image.broken ≡ broken → SettlesUnless means broken begun.image moves settled → HasItsEnds begun.image → (begun.image.broken ≡ false → AreIdle (answered_if begun.awaits e begun.image)) → IsKept (answered_if begun.awaits e settled)
   settled_kept false e begun moves settled whole settles ends idle =
       let same = leads_keeps means begun.image moves settled settles.leads in
       record {
@@ -346,7 +348,7 @@ module _ {K : Type 0} (means : Meaning K) where
         ends = ends_stay settled _ opens (subst (λ (i : Image K). HasItsEnds i) (sym still.unchanged) ends);
       }
 
-  done_kept : (e : End) (begun : Begun K) (reply : Reply) (moves : List Place) (out : List ℕ) (after : Image K) → HasItsEnds begun.image → (begun.image.broken ≡ false → AreIdle (answered_if begun.awaits e begun.image)) → IsDone means e begun reply moves out after → IsKept after
+  done_kept : (e : End) (begun : Begun (Image K) K) (reply : Reply) (moves : List Place) (out : List ℕ) (after : Image K) → HasItsEnds begun.image → (begun.image.broken ≡ false → AreIdle (answered_if begun.awaits e begun.image)) → IsDone means e begun reply moves out after → IsKept after
   done_kept e begun reply moves out after ends idle done =
       rw done.leaves (settled_kept begun.image.broken e begun moves done.settled refl done.settles ends idle)
 

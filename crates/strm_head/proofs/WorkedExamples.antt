@@ -4,7 +4,7 @@ use Rattle.strm_msg.specs.Message.{Msg, data_msg, proto_msg, pcproto_msg}
 use Rattle.strm_msg.specs.declared.errno.Errno.TheVariants.{EIO, EPROTO}
 use Rattle.strm_msg.specs.declared.words.End.TheVariants.{A, B}
 use Rattle.strm_msg.specs.Marks.{WaterMarks}
-use Rattle.strm_qpair.specs.declared.driver.Driver.TheVariants.{Echo}
+use Rattle.strm_module.specs.declared.driver.Driver.TheVariants.{Echo}
 use Rattle.strm_ends.specs.Image.{Image, fresh}
 use Rattle.strm_call.specs.declared.request.Priority.TheVariants.{Norm, Hipri}
 use Rattle.strm_call.specs.declared.request.PutFlag.TheVariants as PutFlag

@@ -98,7 +98,7 @@ are_in_order [] = true
 are_in_order (row ∷ rows) = list_all (λ later. is_before row.1 later.1) rows && are_in_order rows
 
 -- what a call has done
-abbrev pub begun_of : {K : Type 0} → Meaning K → Image K → End → Request (Shape K) → Begun K
+abbrev pub begun_of : {K : Type 0} → Meaning K → Image K → End → Request (Shape K) → Begun (Image K) K
 begun_of means image e (Putmsg ctl dat flag) = putmsg_begun means image e ctl dat flag
 begun_of means image e (Putpmsg ctl dat band flag) = putpmsg_begun means image e ctl dat band flag
 begun_of means image e (Getmsg maxctl maxdat flag) = getmsg_begun image e maxctl maxdat
@@ -121,20 +121,6 @@ begun_of means image e (Str cmd dat) = str_begun means image e cmd dat
 begun_of means image e (Flush r w) = flush_begun means image e r w
 begun_of means image e (FlushBand band r w) = flush_band_begun means image e band r w
 begun_of means image e Close = close_begun means image e
-
--- the calls that change no queue: no service follows them
-abbrev pub changes_no_queue : {P : Type 0} → Request P → Bool
-changes_no_queue Nread = true
-changes_no_queue (Peek maxctl maxdat flag) = true
-changes_no_queue (SetRead mode prot) = true
-changes_no_queue GetRead = true
-changes_no_queue (Canput band) = true
-changes_no_queue (Ckband band) = true
-changes_no_queue Getband = true
-changes_no_queue Look = true
-changes_no_queue Request.List = true
-changes_no_queue (Find name) = true
-changes_no_queue request = false
 
 -- the calls that never want for memory
 abbrev pub takes_no_memory : {P : Type 0} → Request P → Bool

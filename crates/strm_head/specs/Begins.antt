@@ -12,7 +12,8 @@ use Rattle.strm_call.specs.declared.request.Request.{Request}
 use Rattle.strm_call.specs.declared.request.Request.TheVariants.{Close}
 use Rattle.strm_call.specs.declared.answer.Reply.{Reply}
 use Rattle.strm_chain.specs.Fault.{Fails}
-use Rattle.strm_head.specs.Begin.{begun_of, changes_no_queue, takes_no_memory, can_lack_memory}
+use Rattle.strm_call.specs.Request.{changes_no_queue}
+use Rattle.strm_head.specs.Begin.{begun_of, takes_no_memory, can_lack_memory}
 use Rattle.strm_head.specs.Inside.{HasItsEnds, IsIdle}
 
 -- a message can be sent down from a head, which awaits no answer

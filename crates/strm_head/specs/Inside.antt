@@ -1,9 +1,10 @@
 -- What a stream keeps between calls.
 use Rattle.std.specs.Prelude.{ℕ, ◌≡◌, ◌&&◌, nat_lt, Bool, true, false, None}
 use Rattle.strm_msg.specs.declared.words.End.{End}
+use Rattle.strm_module.specs.Driver.{has_end}
 use Rattle.strm_qpair.specs.declared.record.Record.{Record}
-use Rattle.strm_ends.specs.Image.{Image, end_of, has_end}
 use Rattle.strm_ends.specs.Flow.{IsQuiet}
+use Rattle.strm_ends.specs.Image.{Image, end_of}
 
 -- the ends that are open are the driver's
 abbrev pub HasItsEnds : {K : Type 0} → Image K → Type 0

@@ -6,9 +6,9 @@ use Rattle.strm_msg.specs.declared.words.End.{End}
 use Rattle.strm_queue.specs.Queue.{is_full, put_in}
 use Rattle.strm_module.specs.Kinds.{Meaning}
 use Rattle.strm_module.specs.declared.shape.Shape.{Shape}
+use Rattle.strm_module.specs.declared.driver.Driver.{Driver}
+use Rattle.strm_module.specs.declared.driver.Driver.TheVariants.{Echo, Loop, Line}
 use Rattle.strm_qpair.specs.Change.{ended}
-use Rattle.strm_qpair.specs.declared.driver.Driver.{Driver}
-use Rattle.strm_qpair.specs.declared.driver.Driver.TheVariants.{Echo, Loop, Line}
 use Rattle.strm_ends.specs.declared.place.Place.{Place}
 use Rattle.strm_chain.specs.declared.spot.Spot.TheVariants.{Up}
 use Rattle.strm_ends.specs.Image.{Image, end_of, with_drv, with_state, count_of}
@@ -23,9 +23,10 @@ use Rattle.strm_call.specs.declared.answer.Reply.{Reply}
 use Rattle.strm_call.specs.declared.answer.Answer.{Answer}
 use Rattle.strm_call.specs.declared.answer.Answer.TheVariants.{Done, Refused, Broke}
 use Rattle.strm_call.specs.Begun.{Begun, begun, reply_after}
-use Rattle.strm_head.specs.declared.event.Event.{Event}
-use Rattle.strm_head.specs.declared.event.Event.TheVariants.{Asked, Arrived}
-use Rattle.strm_head.specs.Begin.{refusal_of, begun_of, changes_no_queue, can_lack_memory, serials_of}
+use Rattle.strm_call.specs.declared.event.Event.{Event}
+use Rattle.strm_call.specs.declared.event.Event.TheVariants.{Asked, Arrived}
+use Rattle.strm_call.specs.Request.{changes_no_queue}
+use Rattle.strm_head.specs.Begin.{refusal_of, begun_of, can_lack_memory, serials_of}
 
 -- the refusal that a call has: the first that holds, and where none does want of memory, of a call that it can refuse
 abbrev pub IsRefusedBy : {P : Type 0} → Option Refusal → Request P → Refusal → Type 0
@@ -40,7 +41,7 @@ pub record IsRefused {K : Type 0} (first : Option Refusal) (request : Request (S
   pub unchanged : after ≡ image
 
 -- memory ran out after a first change: the stream is broken, and keeps the ends and modules that the call has left
-pub record IsBroken {K : Type 0} (begun : Begun K) (moves : List Place) (out : List ℕ) (after : Image K) : Type 0 where
+pub record IsBroken {K : Type 0} (begun : Begun (Image K) K) (moves : List Place) (out : List ℕ) (after : Image K) : Type 0 where
   pub breaks : Breaks begun.image after
   pub stays : moves ≡ []
   pub takes : out ≡ serials_of begun.out
@@ -58,7 +59,7 @@ can_arrive image e m =
     is_line image.driver && is_from_line m.kind && (end_of image e).is_open && not image.broken && (is_high m.kind || not (is_full (end_of image e).drv_marks (end_of image e).drv m.band))
 
 -- what an arrival has done before any queue moves
-abbrev pub arrival : {K : Type 0} → Image K → Begun K
+abbrev pub arrival : {K : Type 0} → Image K → Begun (Image K) K
 arrival image = begun image Reply.Line
 
 -- nothing moves
@@ -85,7 +86,7 @@ module _ {K : Type 0} (means : Meaning K) where
 
   -- a call on an end that is done: it was begun, and then what must move has moved. The answer that it awaits, if it does,
   -- is what its head has then
-  pub record IsDone (e : End) (begun : Begun K) (reply : Reply) (moves : List Place) (out : List ℕ) (after : Image K) : Type 0 where
+  pub record IsDone (e : End) (begun : Begun (Image K) K) (reply : Reply) (moves : List Place) (out : List ℕ) (after : Image K) : Type 0 where
     pub settled : Image K
     pub settles : SettlesUnless begun.image.broken begun.image moves settled
     pub replies : reply ≡ reply_after begun (end_of settled e).state.kept
@@ -93,7 +94,7 @@ module _ {K : Type 0} (means : Meaning K) where
     pub takes : out ≡ serials_of begun.out
 
   -- from what a call has begun to its answer
-  abbrev pub Finishes : End → Begun K → Answer → List Place → List ℕ → Image K → Type 0
+  abbrev pub Finishes : End → Begun (Image K) K → Answer → List Place → List ℕ → Image K → Type 0
   Finishes e begun (Refused refusal) moves out after = ⊥
   Finishes e begun (Done reply) moves out after = IsDone e begun reply moves out after
   Finishes e begun Broke moves out after = IsBroken begun moves out after

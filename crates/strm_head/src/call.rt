@@ -1,10 +1,11 @@
 //! A call on a chain: the first refusal that holds, what the call does, and the services after it.
 ghost use Rattle.std.specs.Prelude.{◌≡◌, true, false, [], None, IfOk};
 ghost use Rattle.strm_call.specs.declared.answer.Answer.TheVariants as Answer;
-ghost use Rattle.strm_call.specs.Begun.{begun, begun_ioctl};
 ghost use Rattle.strm_call.specs.Refusal.{first_that_holds};
 ghost use Rattle.strm_call.specs.Reply.{acknowledged};
-ghost use Rattle.strm_head.specs.Begin.{AreRefusalsInOrder, own_refusals, closed_refusals, errors_looked_at, error_refusals, common_refusals, refusal_of, begun_of, changes_no_queue, awaits_answer, takes_no_memory, back_of, out_of, wants_memory};
+ghost use Rattle.strm_call.specs.Begun.{begun, begun_ioctl};
+ghost use Rattle.strm_call.specs.Request.{changes_no_queue};
+ghost use Rattle.strm_head.specs.Begin.{AreRefusalsInOrder, own_refusals, closed_refusals, errors_looked_at, error_refusals, common_refusals, refusal_of, begun_of, awaits_answer, takes_no_memory, back_of, out_of, wants_memory};
 ghost use Rattle.strm_module.specs.Calm.{IsCalm};
 ghost use Rattle.strm_head.specs.Answered.{IsLooked, IsBounded};
 ghost use Rattle.strm_head.specs.Inside.{IsKept};

@@ -8,19 +8,17 @@ mod answered;
 mod arriving;
 mod beginning;
 mod call;
-mod event;
 mod fault;
 mod outcome;
 mod stream;
 
 pub use answered::Answered;
 pub use call::refusals_are_in_order;
-pub use event::Event;
 pub use fault::NewFault;
 pub use outcome::{Arrived, Outcome};
 pub use stream::Stream;
 pub use strm_call::{
-    Acknowledged, Answer, GetFlag, MAX_CONTROL, MAX_DATA, MOST_NAMES, More, Name, Peeked, Priority,
-    PutFlag, Received, Refusal, Reply, Request, Wanted,
+    Acknowledged, Answer, Event, GetFlag, MAX_CONTROL, MAX_DATA, MOST_NAMES, More, Name, Peeked,
+    Priority, PutFlag, Received, Refusal, Reply, Request, Wanted,
 };
 pub use strm_chain::{Driver, MOST_MODULES, Moves, Place};

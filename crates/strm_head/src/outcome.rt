@@ -1,5 +1,5 @@
 //! What becomes of a call, and of a message that comes in.
-ghost use Rattle.std.specs.Prelude.{◌≡◌, []};
+ghost use Rattle.std.specs.Prelude.{◌≡◌};
 ghost use Rattle.strm_head.specs.Begin.{pushed_of};
 
 use crate::answered::Answered;

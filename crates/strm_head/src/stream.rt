@@ -3,12 +3,12 @@ ghost use Rattle.std.specs.Prelude.{◌≡◌, ◌↔◌, ◌<◌, true, false, 
 ghost use Rattle.strm_msg.specs.Kind.{is_from_line};
 ghost use Rattle.strm_qpair.specs.End.{pair_at};
 ghost use Rattle.strm_ends.specs.Image.{end_of, fresh};
+ghost use Rattle.strm_call.specs.Setup.{are_marks};
 ghost use Rattle.strm_ioctl.specs.Names.{names_of};
-ghost use Rattle.strm_head.specs.declared.event.Event.TheVariants as Events;
+ghost use Rattle.strm_call.specs.declared.event.Event.TheVariants as Events;
 ghost use Rattle.strm_head.specs.Begin.{begun_of, takes_no_memory, back_of, out_of, wants_memory};
 ghost use Rattle.strm_module.specs.Calm.{IsCalm};
 ghost use Rattle.strm_head.specs.Answered.{IsLooked, IsBounded};
-ghost use Rattle.strm_head.specs.Inside.{are_marks};
 ghost use Rattle.strm_head.specs.Step.{Step};
 ghost use Rattle.strm_head.specs.Arrive.{Arrives};
 

@@ -8,12 +8,12 @@ use Rattle.strm_module.specs.Calm.{IsCalm}
 use Rattle.strm_module.specs.declared.shape.Shape.{Shape}
 use Rattle.strm_ends.specs.declared.place.Place.{Place}
 use Rattle.strm_call.specs.declared.answer.Answer.{Answer}
-use Rattle.strm_head.specs.declared.event.Event.TheVariants.{Asked}
+use Rattle.strm_call.specs.declared.call.Call.{Call}
+use Rattle.strm_call.specs.declared.event.Event.TheVariants.{Asked}
 use Rattle.strm_head.specs.Answered.{AnsweredCall, IsLooked, IsBounded}
 use Rattle.strm_head.specs.Begin.{back_of}
 use Rattle.strm_head.specs.Step.{Lands, arrived_of}
 use Rattle.strm_history.specs.declared.entry.Entry.{Entry}
-use Rattle.strm_history.specs.declared.call.Call.{Call}
 use Rattle.strm_history.specs.Entry.{out_in, IsStep}
 use Rattle.strm_history.specs.Log.{LogValue, arrival_entry, HasLanded, IsCalled}
 use Rattle.strm_history.specs.Receipt.{filled, ReceiptValue, RoomValue}

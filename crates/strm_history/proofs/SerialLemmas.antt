@@ -26,8 +26,8 @@ use Rattle.strm_call.specs.Begun.{Begun}
 use Rattle.strm_msgio.specs.Send.{sent_of, putmsg_message, putpmsg_message, ordinary_message}
 use Rattle.strm_ioctl.specs.Ioctl.{asked_of}
 use Rattle.strm_ioctl.specs.Close.{closed_image}
-use Rattle.strm_head.specs.declared.event.Event.{Event}
-use Rattle.strm_head.specs.declared.event.Event.TheVariants.{Asked, Arrived}
+use Rattle.strm_call.specs.declared.event.Event.{Event}
+use Rattle.strm_call.specs.declared.event.Event.TheVariants.{Asked, Arrived}
 use Rattle.strm_history.specs.declared.entry.Entry.{Entry}
 use Rattle.strm_head.specs.Begin.{begun_of, changes_modules, serials_of}
 use Rattle.strm_head.specs.Step.{Answers, IsDone, SettlesUnless, Lands, Step, answered_if}
@@ -209,7 +209,7 @@ module _ {K : Type 0} (means : Meaning K) where
   settled_standing true old moves new still = ap (λ (i : Image K). standing i) still.unchanged
   settled_standing false old moves new settles = standing_same old new (leads_keeps means old moves new settles.leads)
 
-  done_standing : (e : End) (begun : Begun K) (reply : Reply) (moves : List Place) (out : List ℕ) (after : Image K) → IsDone means e begun reply moves out after → standing after ≡ standing begun.image
+  done_standing : (e : End) (begun : Begun (Image K) K) (reply : Reply) (moves : List Place) (out : List ℕ) (after : Image K) → IsDone means e begun reply moves out after → standing after ≡ standing begun.image
   done_standing e begun reply moves out after done =
       ap (λ (i : Image K). standing i) done.leaves
       ∙ answered_standing begun.awaits e done.settled

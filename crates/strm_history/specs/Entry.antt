@@ -8,8 +8,8 @@ use Rattle.strm_module.specs.declared.shape.Shape.{Shape}
 use Rattle.strm_ends.specs.Image.{Image}
 use Rattle.strm_call.specs.declared.answer.Answer.{Answer}
 use Rattle.strm_call.specs.declared.answer.Answer.TheVariants.{Done, Refused, Broke}
-use Rattle.strm_head.specs.declared.event.Event.{Event}
-use Rattle.strm_head.specs.declared.event.Event.TheVariants.{Asked, Arrived}
+use Rattle.strm_call.specs.declared.event.Event.{Event}
+use Rattle.strm_call.specs.declared.event.Event.TheVariants.{Asked, Arrived}
 use Rattle.strm_head.specs.Answered.{IsLooked, IsBounded}
 use Rattle.strm_head.specs.Begin.{begun_of, pushed_of}
 use Rattle.strm_head.specs.Step.{Step, arrived_of}

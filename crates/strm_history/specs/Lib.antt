@@ -1,4 +1,4 @@
-pub mod Setup
+pub mod Opened
 pub mod Out
 pub mod Kept
 pub mod Entry

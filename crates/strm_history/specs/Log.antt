@@ -8,15 +8,15 @@ use Rattle.strm_module.specs.declared.shape.Shape.{Shape}
 use Rattle.strm_ends.specs.declared.place.Place.{Place}
 use Rattle.strm_ends.specs.Image.{Image}
 use Rattle.strm_call.specs.declared.answer.Answer.{Answer}
-use Rattle.strm_head.specs.declared.event.Event.{Event}
-use Rattle.strm_head.specs.declared.event.Event.TheVariants.{Asked, Arrived}
+use Rattle.strm_call.specs.declared.setup.Setup.{Setup}
+use Rattle.strm_call.specs.declared.call.Call.{Call}
+use Rattle.strm_call.specs.declared.event.Event.{Event}
+use Rattle.strm_call.specs.declared.event.Event.TheVariants.{Asked, Arrived}
 use Rattle.strm_head.specs.Begin.{back_of}
 use Rattle.strm_head.specs.Step.{can_arrive}
-use Rattle.strm_history.specs.declared.setup.Setup.{Setup}
 use Rattle.strm_history.specs.declared.entry.Who.{Who}
 use Rattle.strm_history.specs.declared.entry.Who.TheVariants.{Caller, Line}
 use Rattle.strm_history.specs.declared.entry.Entry.{Entry}
-use Rattle.strm_history.specs.declared.call.Call.{Call}
 use Rattle.strm_history.specs.declared.call.Called.{Called}
 use Rattle.strm_history.specs.declared.call.Called.TheVariants.{Done, NoRoom}
 use Rattle.strm_history.specs.declared.call.Landed.{Landed}

@@ -6,8 +6,8 @@ use Rattle.strm_ends.specs.Image.{Image}
 use Rattle.strm_call.specs.declared.request.Request.TheVariants.{Push}
 use Rattle.strm_call.specs.declared.answer.Answer.{Answer}
 use Rattle.strm_call.specs.declared.answer.Answer.TheVariants.{Done, Broke}
-use Rattle.strm_head.specs.declared.event.Event.{Event}
-use Rattle.strm_head.specs.declared.event.Event.TheVariants.{Asked}
+use Rattle.strm_call.specs.declared.event.Event.{Event}
+use Rattle.strm_call.specs.declared.event.Event.TheVariants.{Asked}
 use Rattle.strm_history.specs.declared.entry.Entry.{Entry}
 use Rattle.strm_head.specs.Begin.{serials_of}
 

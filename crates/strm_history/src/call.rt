@@ -1,20 +1,12 @@
-//! A call on a stream that keeps its history, and what becomes of it and of a message that comes in.
+//! What becomes of a call on a stream that keeps its history, and of a message that comes in.
 ghost use Rattle.std.specs.Prelude.{◌≡◌};
 ghost use Rattle.strm_history.specs.Log.{has_receipt, is_done};
 
 use crate::receipt::Receipt;
 use arrayvec::ArrayVec;
-use strm_head::{Answer, MOST_MODULES, Request};
-use strm_msg::{End, Message};
-
-/// A call on an end of a stream. A push carries `P`, the module.
-#[derive(Drop)]
-pub struct Call<P> {
-    /// The end.
-    pub end: End,
-    /// What is asked.
-    pub request: Request<P>,
-}
+use strm_call::{Answer, Call};
+use strm_module::MOST_MODULES;
+use strm_msg::Message;
 
 /// What becomes of a call on a stream that keeps its history, where `P` is a module of a kind of `K`.
 #[derive(Drop)]

@@ -5,7 +5,6 @@
 #![tactic(auto)]
 
 mod call;
-mod copying;
 mod entry;
 mod kept;
 mod log;
@@ -13,16 +12,14 @@ mod receipt;
 mod room;
 mod same;
 mod serials;
-mod setup;
 mod transcript;
 
-pub use call::{Call, Called, Landed};
+pub use call::{Called, Landed};
 pub use entry::{Entry, Who};
 pub use kept::Kept;
 pub use log::Log;
 pub use receipt::Receipt;
 pub use room::{Room, room_for};
-pub use same::SameKind;
 pub use serials::Serials;
-pub use setup::{MOST_RING, Setup};
+pub use strm_call::{Call, MOST_RING, SameKind, Setup};
 pub use transcript::{StreamLog, Transcript};

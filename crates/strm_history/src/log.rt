@@ -1,20 +1,21 @@
 //! A stream that keeps its history.
 ghost use Rattle.std.specs.Prelude.{◌≡◌, ◌↔◌, true, false, [], IfOk, IsErrOf};
 ghost use Rattle.strm_msg.specs.Kind.{is_from_line};
-ghost use Rattle.strm_history.specs.Setup.{is_fit, opened};
+ghost use Rattle.strm_call.specs.Setup.{is_fit};
 ghost use Rattle.strm_history.specs.History.{Legal};
 ghost use Rattle.strm_history.specs.Log.{CallsBy, Lands};
-ghost use Rattle.strm_head.specs.declared.event.Event.TheVariants.{Asked};
+ghost use Rattle.strm_call.specs.declared.event.Event.TheVariants.{Asked};
 ghost use Rattle.strm_history.specs.Serials.{AreAccounted};
+ghost use Rattle.strm_history.specs.Opened.{opened};
 
-use crate::call::{Call, Called, Landed};
+use crate::call::{Called, Landed};
 use crate::entry::{Entry, taken_out};
 use crate::kept::Kept;
 use crate::room::{Room, room_for, room_for_arrival, taken};
-use crate::setup::Setup;
 use arrayvec::ArrayVec;
 use std::alloc::Global;
 use std::marker::Model;
+use strm_call::{Call, Setup};
 use strm_head::{Arrived, NewFault, Stream};
 use strm_module::{Boxed, ModuleOf};
 use strm_msg::Message;
@@ -35,8 +36,8 @@ pub struct Log<M: ModuleOf> {
 
 impl<M: ModuleOf> Model for Log<M> {
     ghost use Rattle.strm_history.specs.Log.{LogValue};
-    ghost use Rattle.strm_history.specs.Setup.{opened};
     ghost use Rattle.strm_history.specs.History.{Legal};
+    ghost use Rattle.strm_history.specs.Opened.{opened};
 
     ghost Value = { LogValue M.Kind };
 

@@ -1,19 +1,18 @@
 //! Room for entries, found before there is something to enter.
 ghost use Rattle.std.specs.Prelude.{◌≡◌, false, [], IfOk, IfSome, is_some};
-ghost use Rattle.strm_head.specs.declared.event.Event.TheVariants.{Asked};
+ghost use Rattle.strm_call.specs.declared.event.Event.TheVariants.{Asked};
 ghost use Rattle.strm_call.specs.declared.answer.Answer.TheVariants.{Broke, Done};
 ghost use Rattle.strm_call.specs.declared.answer.Reply.TheVariants as Replies;
 ghost use Rattle.strm_history.specs.Log.{arrival_entry};
 ghost use Rattle.strm_history.specs.Receipt.{filled, may_take_out};
 
-use crate::call::Call;
-use crate::copying::copy_request;
 use crate::entry::{Entry, Who};
 use crate::kept::Kept;
 use crate::receipt::Receipt;
 use crate::serials::{AllSerials, Serials, room_for_serials};
 use std::alloc::Global;
 use std::marker::Model;
+use strm_call::{Call, copy_request};
 use strm_head::{Answer, Event, Moves, Reply};
 use strm_module::{Boxed, ModuleOf};
 use strm_msg::{BoxedMessage, End, Message, NoMem};

@@ -5,8 +5,9 @@ use Rattle.strm_msg.specs.declared.kind.MsgKind.TheVariants.{MHangup}
 use Rattle.strm_msg.specs.declared.words.End.{End}
 use Rattle.strm_msg.specs.declared.words.End.TheVariants.{A, B}
 use Rattle.strm_module.specs.Kinds.{Meaning}
+use Rattle.strm_module.specs.Driver.{partner}
+use Rattle.strm_ends.specs.Image.{Image, end_of, count_of}
 use Rattle.strm_chain.specs.declared.spot.Spot.TheVariants.{Up}
-use Rattle.strm_ends.specs.Image.{Image, end_of, partner, count_of}
 use Rattle.strm_ends.specs.Same.{SameModules}
 use Rattle.strm_chain.specs.Fault.{Breaks}
 use Rattle.strm_chain.proofs.QuietLemmas.{same_end}

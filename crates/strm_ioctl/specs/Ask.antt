@@ -16,16 +16,16 @@ first_data [] = 0
 first_data (m ∷ q) = part_len m.dat
 
 -- I_NREAD
-abbrev pub nread_begun : {K : Type 0} → Image K → End → Begun K
+abbrev pub nread_begun : {K : Type 0} → Image K → End → Begun (Image K) K
 nread_begun image e =
     let q = (end_of image e).head in begun image (Nread (length q) (first_data q))
 
 -- I_CANPUT: the first write queue is not full in the band
-abbrev pub canput_begun : {K : Type 0} → Image K → End → ℕ → Begun K
+abbrev pub canput_begun : {K : Type 0} → Image K → End → ℕ → Begun (Image K) K
 canput_begun image e band = begun image (Canput (not (full_in (below image.driver (end_of image e) 0) band)))
 
 -- I_CKBAND: an ordinary message of the band waits
-abbrev pub ckband_begun : {K : Type 0} → Image K → End → ℕ → Begun K
+abbrev pub ckband_begun : {K : Type 0} → Image K → End → ℕ → Begun (Image K) K
 ckband_begun image e band = begun image (Ckband (has_band (end_of image e).head band))
 
 abbrev pub is_empty : {X : Type 0} → List X → Bool
@@ -41,5 +41,5 @@ first_band [] = 0
 first_band (m ∷ q) = m.band
 
 -- I_GETBAND
-abbrev pub getband_begun : {K : Type 0} → Image K → End → Begun K
+abbrev pub getband_begun : {K : Type 0} → Image K → End → Begun (Image K) K
 getband_begun image e = begun image (Getband (first_band (end_of image e).head))

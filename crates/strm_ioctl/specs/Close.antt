@@ -4,10 +4,11 @@ use Rattle.strm_msg.specs.Message.{bare}
 use Rattle.strm_msg.specs.declared.kind.MsgKind.TheVariants.{MHangup}
 use Rattle.strm_msg.specs.declared.words.End.{End}
 use Rattle.strm_module.specs.Kinds.{Meaning}
+use Rattle.strm_module.specs.Driver.{partner}
 use Rattle.strm_qpair.specs.End.{shapes_of}
 use Rattle.strm_qpair.specs.Change.{closed}
+use Rattle.strm_ends.specs.Image.{Image, end_of, with_end, count_of}
 use Rattle.strm_chain.specs.declared.spot.Spot.TheVariants.{Up}
-use Rattle.strm_ends.specs.Image.{Image, end_of, with_end, partner, count_of}
 use Rattle.strm_chain.specs.Deliver.{deliver}
 use Rattle.strm_call.specs.declared.answer.Reply.TheVariants as Reply
 use Rattle.strm_call.specs.Begun.{Begun, begun_taking}
@@ -34,6 +35,6 @@ module _ {K : Type 0} (means : Meaning K) where
   after_close true image e = image
   after_close false image e = hung_up image (partner image.driver e)
 
-  abbrev pub close_begun : Image K → End → Begun K
+  abbrev pub close_begun : Image K → End → Begun (Image K) K
   close_begun image e =
       begun_taking (after_close image.broken (closed_image image e) e) (Reply.Close (record { items = names_of (end_of image e) })) (shapes_of (end_of image e))

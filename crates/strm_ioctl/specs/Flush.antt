@@ -22,8 +22,8 @@ module _ {K : Type 0} (means : Meaning K) where
   abbrev pub flushed_of : Image K → End → Bool → Bool → Option ℕ → Image K
   flushed_of image e r w band = deliver means image (Down e 1) (bare (MFlush r w band))
 
-  abbrev pub flush_begun : Image K → End → Bool → Bool → Begun K
+  abbrev pub flush_begun : Image K → End → Bool → Bool → Begun (Image K) K
   flush_begun image e r w = begun (flushed_of image e r w None) Reply.Flush
 
-  abbrev pub flush_band_begun : Image K → End → ℕ → Bool → Bool → Begun K
+  abbrev pub flush_band_begun : Image K → End → ℕ → Bool → Bool → Begun (Image K) K
   flush_band_begun image e band r w = begun (flushed_of image e r w (Some band)) Reply.FlushBand

@@ -27,5 +27,5 @@ module _ {K : Type 0} (means : Meaning K) where
       deliver means (with_state image e (begun_with (end_of image e).state (Some id))) (Down e 1) (ioctl_msg id cmd dat)
 
   -- the next id is taken
-  abbrev pub str_begun : Image K → End → ℕ → Part → Begun K
+  abbrev pub str_begun : Image K → End → ℕ → Part → Begun (Image K) K
   str_begun image e cmd dat = begun_ioctl (asked_of image e cmd dat (end_of image e).state.next)

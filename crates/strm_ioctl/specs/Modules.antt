@@ -17,7 +17,7 @@ abbrev pub push_refusals : {K : Type 0} → Image K → End → List (Bool × Re
 push_refusals image e = (not (has_room (end_of image e)), Invalid) ∷ ((end_of image e).state.hung, HungUp) ∷ []
 
 -- just below the head, with empty queues
-abbrev pub push_begun : {K : Type 0} → Image K → End → Shape K → Begun K
+abbrev pub push_begun : {K : Type 0} → Image K → End → Shape K → Begun (Image K) K
 push_begun image e shape = begun (with_end image e (inserted (end_of image e) shape)) Push
 
 abbrev pub pop_refusals : {K : Type 0} → Image K → End → List (Bool × Refusal)
@@ -29,7 +29,7 @@ first_name [] = record { items = [] }
 first_name (s ∷ modules) = s.shape.name
 
 -- what the queues of the module hold goes with it
-abbrev pub pop_begun : {K : Type 0} → Image K → End → Begun K
+abbrev pub pop_begun : {K : Type 0} → Image K → End → Begun (Image K) K
 pop_begun image e =
     let end = end_of image e in
     begun_taking (with_end image e (removed end)) (Pop (first_name end.modules)) (take 1 (shapes_of end))
@@ -37,5 +37,5 @@ pop_begun image e =
 abbrev pub look_refusals : {K : Type 0} → Image K → End → List (Bool × Refusal)
 look_refusals image e = (is_empty (end_of image e).modules, Invalid) ∷ []
 
-abbrev pub look_begun : {K : Type 0} → Image K → End → Begun K
+abbrev pub look_begun : {K : Type 0} → Image K → End → Begun (Image K) K
 look_begun image e = begun image (Look (first_name (end_of image e).modules))

@@ -5,9 +5,9 @@ use Rattle.std.specs.Str.{bytes_eq}
 use Rattle.arrayvec.specs.ArrayVec.{ArrayVec}
 use Rattle.strm_msg.specs.declared.words.End.{End}
 use Rattle.strm_module.specs.declared.shape.TheConstants.{LONGEST_NAME}
+use Rattle.strm_module.specs.declared.driver.Driver.{Driver}
+use Rattle.strm_module.specs.declared.driver.Driver.TheVariants.{Echo, Loop, Line}
 use Rattle.strm_qpair.specs.End.{EndState}
-use Rattle.strm_qpair.specs.declared.driver.Driver.{Driver}
-use Rattle.strm_qpair.specs.declared.driver.Driver.TheVariants.{Echo, Loop, Line}
 use Rattle.strm_ends.specs.Image.{Image, end_of}
 use Rattle.strm_call.specs.declared.refusal.Refusal.{Refusal}
 use Rattle.strm_call.specs.declared.refusal.Refusal.TheVariants.{Invalid}
@@ -24,7 +24,7 @@ driver_name Loop = record { items = codes "loop" }
 driver_name Line = record { items = codes "line" }
 
 -- the driver is the last
-abbrev pub list_begun : {K : Type 0} → Image K → End → Begun K
+abbrev pub list_begun : {K : Type 0} → Image K → End → Begun (Image K) K
 list_begun image e =
     begun image (Reply.List (record { items = names_of (end_of image e) ++ driver_name image.driver ∷ [] }))
 
@@ -36,6 +36,6 @@ abbrev pub has_name : ArrayVec ℕ → List ℕ → Bool
 has_name own name = bytes_eq own.items name
 
 -- the driver is no module
-abbrev pub find_begun : {K : Type 0} → Image K → End → List ℕ → Begun K
+abbrev pub find_begun : {K : Type 0} → Image K → End → List ℕ → Begun (Image K) K
 find_begun image e name =
     begun image (Reply.Find (list_any (λ own. has_name own name) (names_of (end_of image e))))

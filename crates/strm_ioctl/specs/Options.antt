@@ -7,10 +7,10 @@ use Rattle.strm_ends.specs.Image.{Image, end_of, with_state}
 use Rattle.strm_call.specs.declared.answer.Reply.TheVariants.{SetRead, GetRead}
 use Rattle.strm_call.specs.Begun.{Begun, begun}
 
-abbrev pub set_read_begun : {K : Type 0} → Image K → End → ReadMode → Prot → Begun K
+abbrev pub set_read_begun : {K : Type 0} → Image K → End → ReadMode → Prot → Begun (Image K) K
 set_read_begun image e mode prot =
     begun (with_state image e (with_mode (end_of image e).state mode prot)) SetRead
 
-abbrev pub get_read_begun : {K : Type 0} → Image K → End → Begun K
+abbrev pub get_read_begun : {K : Type 0} → Image K → End → Begun (Image K) K
 get_read_begun image e =
     let state = (end_of image e).state in begun image (GetRead state.mode state.prot)

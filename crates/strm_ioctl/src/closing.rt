@@ -1,28 +1,18 @@
 //! An end is closed.
 ghost use Rattle.std.specs.Prelude.{◌≡◌, true, false, map, Some, OnOk, OnErr, IfOk, IfErr};
 ghost use Rattle.strm_msg.specs.declared.words.End.{End};
+ghost use Rattle.strm_module.specs.Driver.{has_end, partner};
+ghost use Rattle.strm_ends.specs.Image.{end_of};
 ghost use Rattle.strm_chain.specs.declared.fault.ChainFault.TheVariants as ChainFaults;
 ghost use Rattle.strm_chain.specs.Fault.{Breaks, Fails};
-ghost use Rattle.strm_ends.specs.Image.{end_of, has_end, partner};
 ghost use Rattle.strm_ioctl.specs.Close.{hung_up, after_close, close_begun};
 
 use crate::names::names_of;
 use arrayvec::ArrayVec;
 use strm_call::Reply;
-use strm_chain::{Chain, ChainFault, Driver, MOST_MODULES, Spot, deliver};
+use strm_chain::{Chain, ChainFault, MOST_MODULES, Spot, deliver};
 use strm_module::{Boxed, ModuleOf};
 use strm_msg::{End, Message};
-
-/// The end to which the hangup goes when an end is closed.
-fn partner_of(driver: Driver, end: End) -> End
-    ensures { result ≡ partner driver end }
-{
-    match (driver, end) {
-        (Driver::Loop, End::A) => End::B,
-        (Driver::Loop, End::B) => End::A,
-        _ => end,
-    }
-}
 
 /// Sends a hangup up from the driver, to the head of an end, unless that is closed.
 fn hang_up<M: ModuleOf>(chain: &mut Chain<M>, end: End) -> Result<(), ChainFault>
@@ -49,7 +39,7 @@ fn after_close<M: ModuleOf>(chain: &mut Chain<M>, end: End) -> Result<(), ChainF
     if chain.is_broken() {
         return Ok(());
     }
-    match hang_up(chain, partner_of(chain.driver(), end)) {
+    match hang_up(chain, chain.driver().partner_of(end)) {
         Ok(()) => Ok(()),
         Err(ChainFault::NoMem) => {
             chain.break_off();

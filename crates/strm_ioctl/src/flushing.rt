@@ -1,5 +1,5 @@
 //! Flushes are sent down, of all bands and of one.
-ghost use Rattle.std.specs.Prelude.{◌≡◌, true, false, None, OnOk, IfOk, IfErr};
+ghost use Rattle.std.specs.Prelude.{◌≡◌, true, false, None, OnOk, IfErr};
 ghost use Rattle.strm_chain.specs.Deliver.{is_there};
 ghost use Rattle.strm_chain.specs.declared.spot.Spot.TheVariants as Spots;
 ghost use Rattle.strm_chain.specs.Fault.{Fails};

@@ -1,6 +1,5 @@
 //! An ioctl of a program's own: it is sent down, and its answer comes up.
 ghost use Rattle.std.specs.Prelude.{◌≡◌, true, false, IsNone, IsSome, OnOk, IfErr};
-ghost use Rattle.strm_qpair.specs.Change.{ended};
 ghost use Rattle.strm_chain.specs.Deliver.{is_there};
 ghost use Rattle.strm_ends.specs.Image.{end_of};
 ghost use Rattle.strm_chain.specs.declared.spot.Spot.TheVariants as Spots;

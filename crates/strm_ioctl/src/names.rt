@@ -1,7 +1,7 @@
 //! Look, list and find: questions about the modules, which change nothing and take no memory.
 ghost use Rattle.std.specs.Prelude.{◌≡◌, false, ◌≤◌, length};
 ghost use Rattle.std.specs.List.{list_any};
-ghost use Rattle.strm_qpair.specs.declared.end.TheConstants.{MOST_MODULES};
+ghost use Rattle.strm_module.specs.declared.driver.TheConstants.{MOST_MODULES};
 ghost use Rattle.strm_ends.specs.Image.{end_of};
 ghost use Rattle.strm_call.specs.Refusal.{first_that_holds};
 ghost use Rattle.strm_ioctl.specs.Ask.{is_empty};

@@ -1,7 +1,7 @@
 //! The calls of a script, made one after another by library calls alone. One for which memory is wanting is made again. When the stream has ended
 //! its history must have their receipts.
 ghost use Rattle.std.specs.Prelude.{◌≡◌, ℕ, true, None};
-ghost use Rattle.strm_history.specs.Setup.{is_fit};
+ghost use Rattle.strm_call.specs.Setup.{is_fit};
 
 use crate::script::script;
 use std::alloc::Global;
@@ -13,11 +13,11 @@ use strm_crew::{Feed, Script, ScriptCall, log_of};
 use strm_head::{Answer, Refusal};
 use strm_history::{Call, Called, Receipt, Setup, StreamLog, Transcript};
 use strm_module::{Boxed, Kind, ModuleOf, Plain};
-use strm_msg::Message;
+use strm_msg::{Message, NoMem};
 use strm_plan::{Plan, parse};
 use strm_play::{Handed, hand_over};
 use strm_script::print;
-use strm_shared::{EndFault, Ended, Feeder, Ring, Runs, Seat, Shared, SharedFault};
+use strm_shared::{EndFault, Ended, Feeder, Ring, Runs, Seat, Shared};
 
 /// What is done on a stream.
 #[derive(Drop)]
@@ -228,7 +228,7 @@ fn make_calls<N: Runs<Kind>, R: Print + Wait>(
 fn opened<M: ModuleOf, N: Runs<M::Kind>>(
     alloc: Global,
     ring: Ring,
-) -> Result<(Shared<M, N>, Vec<Seat>, Option<Feeder<M::Kind, N>>), SharedFault>
+) -> Result<(Shared<M, N>, Vec<Seat>, Option<Feeder<M::Kind, N>>), NoMem>
     requires marks { is_fit ring.setup ≡ true }
     requires name { ring.name ≡ N.ring 0 }
 {

@@ -4,4 +4,5 @@ pub mod Kinds
 pub mod Outs
 pub mod Builtin
 pub mod Module
+pub mod Driver
 pub mod Calm

@@ -1,4 +1,4 @@
--- What a module sends stands in two places.
+-- At most two messages leave a module at once.
 use Rattle.std.proofs.Common.{subst, sym}
 use Rattle.std.specs.Prelude.{◌≡◌, Option, Some, None, ◌++◌, slice_get, refl, ⊤}
 use Rattle.std.specs.Option.{option_to_list}
@@ -6,23 +6,24 @@ use Rattle.strm_msg.specs.Message.{Msg}
 use Rattle.strm_msg.specs.declared.words.Side.{Side}
 use Rattle.strm_module.specs.Kinds.{OutList}
 
-abbrev pub Place : Type 0
-Place = Option (Side × Msg)
+-- a message that leaves, with its side, if there is one
+abbrev pub Leaving : Type 0
+Leaving = Option (Side × Msg)
 
--- what stands in them, the first one first
-abbrev pub placed : Place → Place → OutList
-placed first second = option_to_list first ++ option_to_list second
+-- what leaves, the first one first
+abbrev pub leaving : Leaving → Leaving → OutList
+leaving first second = option_to_list first ++ option_to_list second
 
--- nothing stands in the second alone
-abbrev pub AreInOrder : Place → Place → Type 0
+-- none leaves as the second alone
+abbrev pub AreInOrder : Leaving → Leaving → Type 0
 AreInOrder None second = second ≡ None
 AreInOrder (Some sent) second = ⊤
 
--- the list tells what stands in each
-abbrev pub IsPlacedBack : Place → Place → Type 0
-IsPlacedBack first second = ◌≡◌ {A = Place × Place} (slice_get (placed first second) 0, slice_get (placed first second) 1) (first, second)
+-- the list tells which leaves first and which second
+abbrev pub TellsBoth : Leaving → Leaving → Type 0
+TellsBoth first second = ◌≡◌ {A = Leaving × Leaving} (slice_get (leaving first second) 0, slice_get (leaving first second) 1) (first, second)
 
-pub placed_back : (first second : Place) → AreInOrder first second → IsPlacedBack first second
-placed_back None second none = subst (IsPlacedBack None) (sym none) refl
-placed_back (Some one) None is = refl
-placed_back (Some one) (Some two) is = refl
+pub tells_both : (first second : Leaving) → AreInOrder first second → TellsBoth first second
+tells_both None second none = subst (TellsBoth None) (sym none) refl
+tells_both (Some one) None is = refl
+tells_both (Some one) (Some two) is = refl

@@ -14,6 +14,7 @@
 mod acts;
 mod boxed;
 mod bytes;
+mod driver;
 mod instance;
 mod kind;
 mod laws;
@@ -25,6 +26,7 @@ mod shape;
 mod vocabulary;
 
 pub use boxed::{Boxed, BoxedShape};
+pub use driver::{Driver, MOST_MODULES};
 pub use instance::Instance;
 pub use kind::{Kind, MOST_KEPT, MOST_SPLIT};
 pub use laws::builtin_are_calm;

@@ -1,7 +1,7 @@
 //! What a module answers and sends.
 ghost use Rattle.std.specs.Prelude.{◌≡◌, [], ◌∷◌};
 ghost use Rattle.strm_msg.specs.declared.words.Side.TheVariants as Side;
-ghost use Rattle.strm_module.specs.Outs.{AreInOrder, placed};
+ghost use Rattle.strm_module.specs.Outs.{AreInOrder, leaving};
 
 use std::marker::Model;
 use strm_msg::{BoxedMessage, Side as Sides};
@@ -19,17 +19,17 @@ impl Model for Outs {
     ghost use Rattle.std.specs.Prelude.{slice_get};
     ghost use Rattle.std.proofs.Common.{ap};
     ghost use Rattle.strm_module.specs.Kinds.{Sends};
-    ghost use Rattle.strm_module.specs.Outs.{AreInOrder, placed, placed_back};
+    ghost use Rattle.strm_module.specs.Outs.{AreInOrder, leaving, tells_both};
 
     ghost Value = { Sends };
 
     ghost invariant = { λ outs. AreInOrder outs.first outs.second };
 
-    ghost view = { λ outs. record { items = placed outs.first outs.second } };
+    ghost view = { λ outs. record { items = leaving outs.first outs.second } };
 
     ghost inverse = { λ sends. record { first = slice_get sends.items 0; second = slice_get sends.items 1 } };
 
-    ghost inverse_ok = { λ outs is. ap (λ parts. record { first = parts.0; second = parts.1 }) (placed_back outs.first outs.second is) };
+    ghost inverse_ok = { λ outs is. ap (λ parts. record { first = parts.0; second = parts.1 }) (tells_both outs.first outs.second is) };
 }
 
 impl Outs {
@@ -45,7 +45,7 @@ impl Outs {
 
     /// The messages, each with its side, in the order in which they leave.
     pub fn into_parts(self) -> (Option<(Sides, BoxedMessage)>, Option<(Sides, BoxedMessage)>)
-        ensures items { placed result.0 result.1 ≡ self.items }
+        ensures items { leaving result.0 result.1 ≡ self.items }
         ensures order { AreInOrder result.0 result.1 }
     {
         let Outs { first, second } = self;

@@ -1,5 +1,5 @@
 //! What a module is and what it keeps.
-ghost use Rattle.std.specs.Prelude.{◌≡◌, ◌&&◌, nat_le, length, is_some, is_ok, is_none, IfSome, IfOk, IfErr, Some};
+ghost use Rattle.std.specs.Prelude.{◌≡◌, is_some, is_ok, is_none, IfSome, IfOk, IfErr, Some};
 ghost use Rattle.std.specs.Fmt.{padded};
 ghost use Rattle.std.specs.List.{list_all};
 ghost use Rattle.strm_module.specs.Shape.{queues_on, is_name_byte, is_name, are_marks, marks_of, make_fault, number_of, text_of, new_shape};

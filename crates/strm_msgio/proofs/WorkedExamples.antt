@@ -8,7 +8,7 @@ use Rattle.strm_msg.specs.declared.words.ReadMode.{ReadMode}
 use Rattle.strm_msg.specs.declared.words.ReadMode.TheVariants.{Rnorm, Rmsgn, Rmsgd}
 use Rattle.strm_msg.specs.Marks.{WaterMarks}
 use Rattle.strm_module.specs.declared.kind.Kind.{Kind}
-use Rattle.strm_qpair.specs.declared.driver.Driver.TheVariants.{Line}
+use Rattle.strm_module.specs.declared.driver.Driver.TheVariants.{Line}
 use Rattle.strm_ends.specs.Image.{Image, fresh}
 use Rattle.strm_call.specs.declared.refusal.Refusal.TheVariants.{BadMessage, WouldWait}
 use Rattle.strm_call.specs.declared.answer.More.TheVariants.{Nothing, Ctl, Data, Both}

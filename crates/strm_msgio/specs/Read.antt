@@ -94,7 +94,7 @@ read_refusals image e (suc n) =
     let end = end_of image e in
     (is_bad_message end.state.prot end.head, BadMessage) ∷ (lacks_message end (first_of end.head) (λ m. true), WouldWait) ∷ []
 
-abbrev pub read_begun : {K : Type 0} → Image K → End → ℕ → Begun K
+abbrev pub read_begun : {K : Type 0} → Image K → End → ℕ → Begun (Image K) K
 read_begun image e zero = begun image (Reply.Read [])
 read_begun image e (suc n) =
     let end = end_of image e in

@@ -89,12 +89,12 @@ module _ {K : Type 0} (means : Meaning K) where
   sent_of image e None = image
   sent_of image e (Some m) = deliver means image (Down e 1) m
 
-  abbrev pub putmsg_begun : Image K → End → Part → Part → Priority → Begun K
+  abbrev pub putmsg_begun : Image K → End → Part → Part → Priority → Begun (Image K) K
   putmsg_begun image e ctl dat flag = begun (sent_of image e (putmsg_message ctl dat flag)) Reply.Putmsg
 
-  abbrev pub putpmsg_begun : Image K → End → Part → Part → ℕ → PutFlag → Begun K
+  abbrev pub putpmsg_begun : Image K → End → Part → Part → ℕ → PutFlag → Begun (Image K) K
   putpmsg_begun image e ctl dat band flag = begun (sent_of image e (putpmsg_message ctl dat band flag)) Reply.Putpmsg
 
   -- a write is one message of band 0, an empty one too
-  abbrev pub write_begun : Image K → End → List ℕ → Begun K
+  abbrev pub write_begun : Image K → End → List ℕ → Begun (Image K) K
   write_begun image e dat = begun (sent_of image e (Some (data_msg 0 dat))) (Reply.Write (length dat))

@@ -78,11 +78,11 @@ getpmsg_reply None maxctl maxdat = Reply.Getpmsg (Some []) (Some []) (Received.B
 getpmsg_reply (Some m) maxctl maxdat =
     let cut = cut_of m maxctl maxdat in Reply.Getpmsg cut.ctl cut.dat (received_of m) cut.more
 
-abbrev pub getmsg_begun : {K : Type 0} → Image K → End → Most → Most → Begun K
+abbrev pub getmsg_begun : {K : Type 0} → Image K → End → Most → Most → Begun (Image K) K
 getmsg_begun image e maxctl maxdat =
     let q = (end_of image e).head in begun (with_head image e (taken_from q maxctl maxdat)) (getmsg_reply (first_of q) maxctl maxdat)
 
-abbrev pub getpmsg_begun : {K : Type 0} → Image K → End → Most → Most → Begun K
+abbrev pub getpmsg_begun : {K : Type 0} → Image K → End → Most → Most → Begun (Image K) K
 getpmsg_begun image e maxctl maxdat =
     let q = (end_of image e).head in begun (with_head image e (taken_from q maxctl maxdat)) (getpmsg_reply (first_of q) maxctl maxdat)
 
@@ -96,6 +96,6 @@ peeked_of None maxctl maxdat flag = None
 peeked_of (Some m) maxctl maxdat flag = if is_wanted flag m then Some (shown_of m maxctl maxdat) else None
 
 -- a peek takes nothing away
-abbrev pub peek_begun : {K : Type 0} → Image K → End → Most → Most → Wanted → Begun K
+abbrev pub peek_begun : {K : Type 0} → Image K → End → Most → Most → Wanted → Begun (Image K) K
 peek_begun image e maxctl maxdat flag =
     begun image (Reply.Peek (peeked_of (first_of (end_of image e).head) maxctl maxdat flag))

@@ -1,8 +1,6 @@
 //! Getmsg, getpmsg and peek: the first message at the head is taken in part or whole, or looked at.
-ghost use Rattle.std.specs.Prelude.{◌≡◌, ◌<◌, true, [], OnOk, OnErr, IfOk, IsOk, IsNone, Some, drop, slice_get, is_some};
-ghost use Rattle.strm_msg.specs.Message.{rank_of};
-ghost use Rattle.strm_queue.specs.Room.{room_for};
-ghost use Rattle.strm_ends.specs.Image.{end_of, with_head, room_of};
+ghost use Rattle.std.specs.Prelude.{◌≡◌, ◌<◌, true, [], OnOk, OnErr, IfOk, IsOk, IsNone, Some, drop};
+ghost use Rattle.strm_ends.specs.Image.{end_of, with_head};
 ghost use Rattle.strm_call.specs.declared.answer.Reply.TheVariants as Replies;
 ghost use Rattle.strm_call.specs.declared.answer.Received.TheVariants as Receivers;
 ghost use Rattle.strm_call.specs.declared.answer.More.TheVariants as Mores;

@@ -4,14 +4,14 @@ use Rattle.std.specs.Option.{option_and_then}
 use Rattle.strm_msg.specs.Message.{Msg, bare, data_msg, proto_msg, pcproto_msg}
 use Rattle.strm_msg.specs.Kind.{is_from_line}
 use Rattle.strm_msg.specs.declared.kind.MsgKind.TheVariants.{MSetopts, MFlush, MHangup, MError}
+use Rattle.strm_module.specs.declared.driver.Driver.{Driver}
+use Rattle.strm_module.specs.declared.driver.Driver.TheVariants.{Echo, Loop, Line}
+use Rattle.strm_module.specs.Driver.{is_line}
 use Rattle.strm_call.specs.declared.request.TheConstants.{MAX_CONTROL, MAX_DATA}
-use Rattle.strm_qpair.specs.declared.driver.Driver.{Driver}
-use Rattle.strm_qpair.specs.declared.driver.Driver.TheVariants.{Echo, Loop, Line}
-use Rattle.strm_head.specs.Step.{is_line}
-use Rattle.strm_history.specs.Setup.{is_fit, is_ring}
-use Rattle.strm_history.specs.declared.setup.Setup.{Setup}
-use Rattle.strm_history.specs.declared.setup.TheConstants.{MOST_RING}
 use Rattle.strm_text.specs.Text.{number_of, number_from, halves_of}
+use Rattle.strm_call.specs.Setup.{is_fit, is_ring}
+use Rattle.strm_call.specs.declared.setup.Setup.{Setup}
+use Rattle.strm_call.specs.declared.setup.TheConstants.{MOST_RING}
 use Rattle.strm_verb.specs.Fault.{or_fault}
 use Rattle.strm_verb.specs.Field.{number_at, marks_at, kept_marks_at, part_upto, optional_upto, errno_at}
 use Rattle.strm_verb.specs.Arrival.{message_at, data_at, proto_at, pcproto_at, kept_mode_at, kept_prot_at, setopts_at, flush_at, flush_msg_at, hangup_at, error_at, kept_errno_at, error2_at}

@@ -7,12 +7,12 @@ use Rattle.std.proofs.lemmas.List.{length-append}
 use Rattle.std.proofs.lemmas.List.Elements.{All-nil, All-push}
 use Rattle.strm_msg.specs.Message.{Msg}
 use Rattle.strm_msg.specs.Kind.{is_from_line}
-use Rattle.strm_qpair.specs.declared.driver.Driver.{Driver}
-use Rattle.strm_head.specs.Step.{is_line}
-use Rattle.strm_history.specs.Setup.{is_fit, is_ring}
-use Rattle.strm_history.specs.declared.setup.Setup.{Setup}
 use Rattle.strm_text.specs.Bytes.{is_allowed}
 use Rattle.strm_text.specs.Text.{fields_of}
+use Rattle.strm_module.specs.declared.driver.Driver.{Driver}
+use Rattle.strm_module.specs.Driver.{is_line}
+use Rattle.strm_call.specs.Setup.{is_fit, is_ring}
+use Rattle.strm_call.specs.declared.setup.Setup.{Setup}
 use Rattle.strm_verb.specs.Naming.{KindWords}
 use Rattle.strm_verb.specs.Fault.{◌>>=◌, or_fault}
 use Rattle.strm_verb.specs.Arrival.{message_named, message_at}

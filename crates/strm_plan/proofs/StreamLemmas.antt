@@ -6,8 +6,8 @@ use Rattle.std.specs.List.{position_or_len, list_any}
 use Rattle.std.specs.Str.{bytes_eq}
 use Rattle.indexmap.specs.IndexMap.{insert_entry}
 use Rattle.std.proofs.lemmas.Option.{slice_get-map}
-use Rattle.strm_qpair.specs.declared.driver.Driver.{Driver}
-use Rattle.strm_history.specs.declared.setup.Setup.{Setup}
+use Rattle.strm_module.specs.declared.driver.Driver.{Driver}
+use Rattle.strm_call.specs.declared.setup.Setup.{Setup}
 use Rattle.strm_plan.specs.Plan.{Streams, process_view, feed_view}
 use Rattle.strm_plan.specs.Reading.{has_feed}
 use Rattle.strm_plan.specs.Targets.{stream_names, stream_of}

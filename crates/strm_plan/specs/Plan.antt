@@ -3,7 +3,7 @@ use Rattle.std.specs.Prelude.{ℕ, List, map}
 use Rattle.arrayvec.specs.ArrayVec.{ArrayVec}
 use Rattle.strm_msg.specs.Message.{Msg}
 use Rattle.strm_msg.specs.declared.words.End.{End}
-use Rattle.strm_history.specs.declared.setup.Setup.{Setup}
+use Rattle.strm_call.specs.declared.setup.Setup.{Setup}
 use Rattle.strm_verb.specs.Table.{Asked, asked_of}
 use Rattle.strm_plan.specs.declared.plan.CallLine.{CallLine}
 use Rattle.strm_plan.specs.declared.plan.ProcessDecl.{ProcessDecl}

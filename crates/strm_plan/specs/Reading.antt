@@ -4,13 +4,13 @@ use Rattle.std.specs.Str.{bytes_eq}
 use Rattle.std.specs.Str.Lines.{lines}
 use Rattle.std.specs.List.{list_any, list_all}
 use Rattle.strm_msg.specs.Message.{Msg}
-use Rattle.strm_qpair.specs.declared.driver.Driver.{Driver}
-use Rattle.strm_qpair.specs.declared.driver.Driver.TheVariants.{Echo, Loop, Line}
-use Rattle.strm_head.specs.Step.{is_line}
-use Rattle.strm_history.specs.declared.setup.Setup.{Setup}
-use Rattle.strm_history.specs.declared.setup.TheConstants.{MOST_RING}
 use Rattle.strm_text.specs.Bytes.{is_allowed}
 use Rattle.strm_text.specs.Text.{name_of, fields_of}
+use Rattle.strm_module.specs.declared.driver.Driver.{Driver}
+use Rattle.strm_module.specs.declared.driver.Driver.TheVariants.{Echo, Loop, Line}
+use Rattle.strm_module.specs.Driver.{is_line}
+use Rattle.strm_call.specs.declared.setup.Setup.{Setup}
+use Rattle.strm_call.specs.declared.setup.TheConstants.{MOST_RING}
 use Rattle.strm_verb.specs.Fault.{◌>>=◌, or_fault}
 use Rattle.strm_verb.specs.Field.{number_at, marks_at}
 use Rattle.strm_verb.specs.Naming.{KindWords}

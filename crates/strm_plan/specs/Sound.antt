@@ -2,10 +2,9 @@
 use Rattle.std.specs.Prelude.{◌≡◌, ◌≤◌, ℕ, Bool, true, false, Option, Some, None, List, length, All, AllPairs, slice_get}
 use Rattle.strm_msg.specs.Kind.{is_from_line}
 use Rattle.strm_msg.specs.declared.words.End.{End}
-use Rattle.strm_ends.specs.Image.{has_end}
-use Rattle.strm_head.specs.Step.{is_line}
-use Rattle.strm_history.specs.Setup.{is_fit, is_ring}
-use Rattle.strm_history.specs.declared.setup.Setup.{Setup}
+use Rattle.strm_module.specs.Driver.{has_end, is_line}
+use Rattle.strm_call.specs.Setup.{is_fit, is_ring}
+use Rattle.strm_call.specs.declared.setup.Setup.{Setup}
 use Rattle.strm_plan.specs.Plan.{Streams, Call, Process, Fed, Whole}
 use Rattle.strm_plan.specs.declared.draft.TheConstants.{MOST_STREAMS, MOST_PROCESSES}
 

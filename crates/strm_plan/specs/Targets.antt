@@ -3,9 +3,9 @@ use Rattle.std.specs.Prelude.{ℕ, List, Option, Some, None, codes, map, positio
 use Rattle.std.specs.Str.{bytes_eq}
 use Rattle.strm_msg.specs.declared.words.End.{End}
 use Rattle.strm_msg.specs.declared.words.End.TheVariants.{A, B}
-use Rattle.strm_qpair.specs.declared.driver.Driver.{Driver}
-use Rattle.strm_qpair.specs.declared.driver.Driver.TheVariants.{Loop}
 use Rattle.strm_text.specs.Text.{◌>>=◌, halves_of, name_of}
+use Rattle.strm_module.specs.declared.driver.Driver.{Driver}
+use Rattle.strm_module.specs.declared.driver.Driver.TheVariants.{Loop}
 use Rattle.strm_plan.specs.declared.plan.TheConstants.{LONGEST}
 use Rattle.strm_plan.specs.Plan.{Streams}
 

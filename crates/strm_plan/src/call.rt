@@ -3,8 +3,7 @@ ghost use Rattle.std.specs.Prelude.{◌≡◌, true, is_some, None, Some};
 ghost use Rattle.std.specs.Option.{option_map};
 ghost use Rattle.strm_plan.specs.Calls.{plain_of, pushed_of};
 
-use strm_call::Request;
-use strm_history::Call;
+use strm_call::{Call, Request};
 use strm_module::Kind;
 use strm_msg::End;
 use strm_verb::PushDecl;

@@ -10,7 +10,7 @@ use crate::plan::{CallLine, Name};
 use crate::target::target_of;
 use indexmap::IndexMap;
 use std::alloc::Global;
-use strm_history::Setup;
+use strm_call::Setup;
 use strm_verb::{Cause, ReadError, ReadKind, Verb, request_at};
 
 /// How many modules were declared when this call is.

@@ -13,8 +13,8 @@ use crate::target::stream_at;
 use indexmap::IndexMap;
 use std::alloc::Global;
 use std::mem;
-use strm_head::Driver;
-use strm_history::Setup;
+use strm_call::Setup;
+use strm_module::Driver;
 use strm_text::{fields, is_allowed};
 use strm_verb::{Cause, MessageWord, ReadError, ReadKind, Verb, message_at};
 

@@ -9,7 +9,7 @@ ghost use Rattle.strm_verb.specs.Fault.{Gives};
 
 use crate::plan::{LONGEST, Name, ProcessDecl};
 use indexmap::IndexMap;
-use strm_history::Setup;
+use strm_call::Setup;
 use strm_text::name;
 use strm_verb::{Cause, ReadError};
 

@@ -1,5 +1,5 @@
 //! A script, read from left to right.
-ghost use Rattle.std.specs.Prelude.{◌≡◌, ◌≤◌, length, IfOk};
+ghost use Rattle.std.specs.Prelude.{◌≤◌, length, IfOk};
 ghost use Rattle.std.specs.Str.Lines.{lines};
 ghost use Rattle.strm_plan.specs.Plan.{plan_view};
 ghost use Rattle.strm_plan.specs.Reading as reading;

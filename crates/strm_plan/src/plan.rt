@@ -2,7 +2,7 @@
 use crate::call::CallDecl;
 use arrayvec::ArrayVec;
 use indexmap::IndexMap;
-use strm_history::Setup;
+use strm_call::Setup;
 use strm_module::Kind;
 use strm_msg::Message;
 

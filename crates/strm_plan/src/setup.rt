@@ -3,8 +3,8 @@ ghost use Rattle.std.specs.Prelude.{◌≡◌, map};
 ghost use Rattle.strm_plan.specs.Reading as reading;
 ghost use Rattle.strm_verb.specs.Fault.{Gives};
 
-use strm_head::Driver;
-use strm_history::{MOST_RING, Setup};
+use strm_call::{MOST_RING, Setup};
+use strm_module::Driver;
 use strm_verb::{Cause, ReadError, marks_at, number_at};
 
 /// The driver that a word names.

@@ -6,8 +6,8 @@ ghost use Rattle.strm_plan.specs.declared.draft.TheConstants.{MOST_STREAMS};
 
 use crate::plan::{LONGEST, Name};
 use indexmap::IndexMap;
-use strm_head::Driver;
-use strm_history::Setup;
+use strm_call::Setup;
+use strm_module::Driver;
 use strm_msg::End;
 use strm_text::{name, split_once};
 

@@ -8,8 +8,8 @@ use Rattle.strm_msg.specs.Kind.{is_from_line}
 use Rattle.strm_msg.specs.declared.words.End.{End}
 use Rattle.strm_msg.specs.Message.{Msg}
 use Rattle.strm_module.specs.declared.shape.Shape.{Shape}
-use Rattle.strm_history.specs.Setup.{is_fit, is_ring}
-use Rattle.strm_history.specs.declared.setup.Setup.{Setup}
+use Rattle.strm_call.specs.Setup.{is_fit, is_ring}
+use Rattle.strm_call.specs.declared.setup.Setup.{Setup}
 use Rattle.strm_crew.specs.declared.script.Feed.{Feed}
 use Rattle.strm_crew.specs.declared.script.Script.{Script}
 use Rattle.strm_crew.specs.declared.script.ScriptCall.{ScriptCall}

@@ -3,7 +3,7 @@ use Rattle.std.specs.Prelude.{◌≡◌, ℕ, ◌<◌, ◌==◌, Bool, true, fal
 use Rattle.strm_msg.specs.Message.{Msg}
 use Rattle.strm_module.specs.declared.shape.Shape.{Shape}
 use Rattle.strm_module.specs.Kinds.{Meaning}
-use Rattle.strm_history.specs.declared.setup.Setup.{Setup}
+use Rattle.strm_call.specs.declared.setup.Setup.{Setup}
 use Rattle.strm_history.specs.History.{own}
 use Rattle.strm_history.specs.Entry.{asked_of}
 use Rattle.strm_crew.specs.declared.script.ScriptCall.{ScriptCall}

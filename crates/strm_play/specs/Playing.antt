@@ -2,8 +2,8 @@
 use Rattle.std.specs.Prelude.{ℕ, List, map}
 use Rattle.strm_msg.specs.Message.{Msg}
 use Rattle.strm_module.specs.declared.shape.Shape.{Shape}
-use Rattle.strm_history.specs.declared.setup.Setup.{Setup}
-use Rattle.strm_history.specs.declared.call.Call.{Call}
+use Rattle.strm_call.specs.declared.setup.Setup.{Setup}
+use Rattle.strm_call.specs.declared.call.Call.{Call}
 use Rattle.strm_crew.specs.declared.script.ScriptCall.{ScriptCall}
 use Rattle.strm_crew.specs.declared.script.Script.{Script}
 use Rattle.strm_crew.specs.declared.script.Feed.{Feed}

@@ -1,5 +1,5 @@
 //! What a run is given of a plan.
-ghost use Rattle.std.specs.Prelude.{◌≡◌, ◌++◌, ◌∷◌, [], map, IfOk};
+ghost use Rattle.std.specs.Prelude.{◌≡◌, map, IfOk};
 ghost use Rattle.strm_play.specs.Playing.{setups_of, played_call, played_line, calls_of_processes, calls_of_scripts, fed, played_fed, names_of};
 
 use crate::pushing::PlayModule;

@@ -12,12 +12,12 @@ use Rattle.strm_msg.specs.declared.words.Side.TheVariants.{Rd, Wr}
 use Rattle.strm_msg.specs.Marks.{WaterMarks}
 use Rattle.strm_module.specs.Shape.{marks_on, queues_on}
 use Rattle.strm_module.specs.declared.shape.Shape.{Shape}
+use Rattle.strm_module.specs.declared.driver.Driver.{Driver}
 use Rattle.strm_qpair.specs.Pair.{QueuePair, list_on}
 use Rattle.strm_qpair.specs.End.{EndState, pair_at, list_at, list_found}
 use Rattle.strm_qpair.specs.Modules.{Identity, identity_of, identities_of, are_ordinary, waits_in, waits_well, HoldsOrdinary}
 use Rattle.strm_qpair.specs.Canput.{Fill, fill_with, fill_on, or_else, first_fill, head_fill, driver_fill, above, below}
 use Rattle.strm_qpair.specs.Next.{marks_for, marks_at, identity_at, has_queue, first_from, last_below, next_below, next_above, queue_found, queue_at, or_at}
-use Rattle.strm_qpair.specs.declared.driver.Driver.{Driver}
 use Rattle.strm_qpair.proofs.EndLemmas.{pair_at-found}
 use Rattle.strm_qpair.proofs.WaitLemmas.{all-at, waits-on, is_low}
 

@@ -7,10 +7,10 @@ use Rattle.strm_msg.specs.declared.words.Side.TheVariants.{Rd, Wr}
 use Rattle.strm_msg.specs.Marks.{WaterMarks}
 use Rattle.strm_queue.specs.Queue.{Queue, is_full, is_slack}
 use Rattle.strm_module.specs.Shape.{marks_on}
+use Rattle.strm_module.specs.declared.driver.Driver.{Driver}
+use Rattle.strm_module.specs.declared.driver.Driver.TheVariants.{Echo, Loop, Line}
 use Rattle.strm_qpair.specs.Pair.{QueuePair, list_on}
 use Rattle.strm_qpair.specs.End.{EndState}
-use Rattle.strm_qpair.specs.declared.driver.Driver.{Driver}
-use Rattle.strm_qpair.specs.declared.driver.Driver.TheVariants.{Echo, Loop, Line}
 
 -- a queue as flow control sees it
 pub record Fill : Type 0 where

@@ -6,10 +6,10 @@ use Rattle.strm_msg.specs.declared.words.Prot.{Prot}
 use Rattle.strm_msg.specs.declared.words.Prot.TheVariants.{Norm}
 use Rattle.strm_msg.specs.Marks.{WaterMarks}
 use Rattle.strm_module.specs.declared.shape.Shape.{Shape}
+use Rattle.strm_module.specs.declared.driver.TheConstants.{MOST_MODULES}
 use Rattle.strm_qpair.specs.Pair.{fresh_pair}
 use Rattle.strm_qpair.specs.End.{EndState}
 use Rattle.strm_qpair.specs.declared.record.Record.{Record}
-use Rattle.strm_qpair.specs.declared.end.TheConstants.{MOST_MODULES}
 
 -- a module is pushed just below the head (I_PUSH)
 abbrev pub inserted : {K : Type 0} → EndState K → Shape K → EndState K

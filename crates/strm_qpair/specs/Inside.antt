@@ -3,9 +3,9 @@ use Rattle.std.specs.Prelude.{◌≡◌, ◌<◌, ◌≤◌, ℕ, true, List, le
 use Rattle.std.specs.List.{list_all}
 use Rattle.strm_msg.specs.Message.{Msg}
 use Rattle.strm_msg.specs.Marks.{WaterMarks}
+use Rattle.strm_module.specs.declared.driver.TheConstants.{MOST_MODULES}
 use Rattle.strm_qpair.specs.Pair.{QueuePair}
 use Rattle.strm_qpair.specs.Modules.{are_fit, are_ordinary, waits_well}
-use Rattle.strm_qpair.specs.declared.end.TheConstants.{MOST_MODULES}
 
 -- room for all modules that there can be, no more of them, marks whose low ones are below the high ones, and no high message in
 -- a queue of a module or in the driver's list

@@ -1,18 +1,5 @@
-//! The driver at the bottom of a stream.
+//! What the driver at the bottom of a stream sends.
 use strm_msg::{BoxedMessage, Prot, ReadMode};
-
-/// What stands at the bottom of a stream.
-#[derive(Clone, Copy, Debug, PartialEq, Eq)]
-pub enum Driver {
-    /// Sends what comes down back up the same end, and the options for the head up that an ioctl of command `SETOPTS`
-    /// asks for.
-    Echo,
-    /// Sends what comes down one end up the other.
-    Loop,
-    /// Consumes data and protocol messages that come down, answers flushes and ioctls, and sends up
-    /// what comes in from a line.
-    Line,
-}
 
 /// What a driver sends at once, when a message comes to it from above.
 #[derive(Debug, Drop, PartialEq, Eq)]

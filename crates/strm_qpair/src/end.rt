@@ -1,27 +1,21 @@
 //! One end of a stream.
-ghost use Rattle.std.specs.Prelude.{◌≡◌, ◌∷◌, [], ◌<◌, ◌≤◌, ℕ, OnOk, OnErr, IfOk, IfErr, IfSome, IfNone, IsOk, IsSome, IsNone, Some, true, length, map, MatchOption, drop, option_map, option_copied, slice_get, vec_capacity};
-ghost use Rattle.strm_msg.specs.Message.{rank_of};
-ghost use Rattle.strm_queue.specs.Queue.{put_in, put_back_in, is_full};
-ghost use Rattle.strm_queue.specs.Room.{room_for};
-ghost use Rattle.strm_qpair.specs.End.{KeepsRoom, in_head, in_state, in_drv, shapes_of, pair_at, list_at, end_gets, end_serves};
+ghost use Rattle.std.specs.Prelude.{◌≡◌, ◌∷◌, [], ◌<◌, ◌≤◌, OnOk, OnErr, IfOk, IfSome, IfNone, Some, true, length, map, option_map, option_copied, slice_get, vec_capacity};
+ghost use Rattle.strm_qpair.specs.End.{KeepsRoom, shapes_of, pair_at, list_at, end_gets, end_serves};
 ghost use Rattle.strm_qpair.specs.Modules.{SameEnd, IsFitEnd, HoldsOrdinary};
-ghost use Rattle.strm_qpair.specs.Change.{has_room, inserted, removed, closed, fresh_end, with_mode, begun, undone, ended};
+ghost use Rattle.strm_qpair.specs.Change.{has_room, inserted, removed, closed, fresh_end};
 
 use crate::pair::Pair;
 use crate::record::Record;
 use arrayvec::ArrayVec;
 use std::alloc::Global;
 use std::marker::Model;
-use strm_module::{Boxed, ModuleOf, Outs, Shape};
+use strm_module::{Boxed, MOST_MODULES, ModuleOf, Outs, Shape};
 use strm_msg::{BoxedMessage, Message, NoMem, Prot, ReadMode, Side};
 use strm_queue::{BandQueue, Marks};
 
 mod canput;
 mod driver;
 mod head;
-
-/// The most modules that an end can have.
-pub const MOST_MODULES: usize = 8;
 
 /// One end of a stream: the head's list and record, the modules with their queues, and the driver's
 /// list. Modules are counted from 1, which is the topmost.

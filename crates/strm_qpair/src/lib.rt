@@ -10,6 +10,6 @@ mod end;
 mod pair;
 mod record;
 
-pub use driver::{Driver, DriverSends};
-pub use end::{MOST_MODULES, StreamEnd};
+pub use driver::DriverSends;
+pub use end::StreamEnd;
 pub use record::Record;

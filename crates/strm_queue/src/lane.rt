@@ -1,6 +1,6 @@
 //! The messages of one rank.
 ghost use Rattle.std.specs.Prelude.{◌≡◌, ◌==◌, ◌+◌, ◌*◌, ◌^◌, ◌<◌, ◌≤◌, ◌∷◌, ◌++◌, [], not, true, length, sum_by, IsOk, OnOk, OnErr, IfErr, MatchOption, option_copied, slice_get};
-ghost use Rattle.std.specs.List.{list_any, list_all};
+ghost use Rattle.std.specs.List.{list_all};
 ghost use Rattle.strm_msg.specs.Message.{weight_of};
 ghost use Rattle.strm_queue.specs.Queue.{flush_of, is_flushed, has_pcproto};
 ghost use Rattle.strm_queue.specs.Lanes.{is_light};

@@ -1,6 +1,6 @@
 //! The queue of places that are to be looked at.
-ghost use Rattle.std.specs.Prelude.{◌≡◌, ◌+◌, ◌<◌, ◌≤◌, ◌||◌, ◌==◌, ◌∷◌, ℕ, [], true, length, drop, IfOk, IfSome, MatchOption, IsTrue, ◌↔◌};
-ghost use Rattle.strm_queue.specs.Run.{stands_in, is_enabled, AreOnce, with_place, one_more};
+ghost use Rattle.std.specs.Prelude.{◌≡◌, ◌+◌, ◌<◌, ◌≤◌, ◌||◌, ◌==◌, ◌∷◌, ℕ, [], length, drop, IfOk, IfSome, MatchOption, IsTrue, ◌↔◌};
+ghost use Rattle.strm_queue.specs.Run.{is_enabled, AreOnce, with_place, one_more};
 
 use std::alloc::Global;
 use std::collections::VecDeque;

@@ -6,19 +6,19 @@ use Rattle.std.proofs.Math.Seq.{get_or-append_seam}
 use Rattle.std.proofs.lemmas.List.{take_all, length-append, length-map, length-set, length_push, get_or-set_other, get_or_append_left}
 use Rattle.strm_msg.specs.Message.{Msg}
 use Rattle.strm_module.specs.Kinds.{Meaning}
-use Rattle.strm_head.specs.Step.{is_line}
-use Rattle.strm_history.specs.declared.setup.Setup.{Setup}
+use Rattle.strm_module.specs.Driver.{is_line}
+use Rattle.strm_call.specs.declared.setup.Setup.{Setup}
 use Rattle.strm_history.specs.declared.entry.Entry.{Entry}
+use Rattle.strm_history.specs.Opened.{opened}
 use Rattle.strm_shared.specs.declared.fault.EndFault.{EndFault}
 use Rattle.strm_shared.specs.Ended.{EndedValue}
-use Rattle.strm_history.specs.Setup.{opened}
 use Rattle.strm_history.specs.History.{own, calls_of, arrivals, Legal}
 use Rattle.strm_history.specs.Serials.{AreAccounted}
 use Rattle.strm_shared.specs.Seat.{SeatValue}
 use Rattle.strm_history.specs.Entry.{asked_of}
 use Rattle.strm_history.specs.Receipt.{ReceiptValue}
 use Rattle.strm_shared.specs.Turns.{AreFirstOf}
-use Rattle.strm_shared.specs.Feed.{FeedValue, accepted_of}
+use Rattle.strm_line.specs.Feed.{FeedValue, accepted_of}
 use Rattle.strm_shared.specs.Ending.{SharedValue, AreSeats, CountsAgree, is_fed}
 use Rattle.strm_run.specs.declared.fault.RunFault.{RunFault}
 use Rattle.strm_crew.specs.declared.script.Script.{Script}

@@ -5,9 +5,9 @@ use Rattle.std.proofs.Math.Seq.{get_or-append_seam}
 use Rattle.std.proofs.lemmas.Bool.{eqb-true, eqb-false, eq-eqb, ne_eqb}
 use Rattle.std.proofs.lemmas.List.{length-append, length-set, get_or-set_same, get_or-set_other, get_or_append_left}
 use Rattle.strm_msg.specs.Message.{Msg}
-use Rattle.strm_head.specs.Step.{is_line}
-use Rattle.strm_history.specs.declared.setup.Setup.{Setup}
-use Rattle.strm_shared.specs.Feed.{fresh_feeder, FeederValue}
+use Rattle.strm_module.specs.Driver.{is_line}
+use Rattle.strm_call.specs.declared.setup.Setup.{Setup}
+use Rattle.strm_line.specs.Feed.{fresh_feeder, FeederValue}
 use Rattle.strm_crew.specs.declared.script.Feed.{Feed}
 use Rattle.strm_crew.specs.Scripts.{feed_of}
 use Rattle.strm_run.specs.There.{line_is_there}

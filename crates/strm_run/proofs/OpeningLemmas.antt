@@ -1,10 +1,10 @@
 -- Streams that are made, one more at a time, and who sits there.
 use Rattle.std.proofs.Common.{◌≡◌, ℕ, zero, suc, true, ◌+◌, ◌<◌, Option, List, [], ◌∷◌, ◌++◌, length, get_or, map, Vec, Global, All, refl, sym, ◌∙◌, ap, subst, arith, below_more, Result, Ok, Err, IfOk, IsOk}
 use Rattle.std.proofs.lemmas.List.{length-map, get_or-map, length_push, get_or_push, get_or_append_left, get_or_default}
-use Rattle.strm_history.specs.declared.setup.Setup.{Setup}
-use Rattle.strm_shared.specs.declared.fault.SharedFault.{SharedFault}
+use Rattle.strm_call.specs.declared.setup.Setup.{Setup}
+use Rattle.strm_msg.specs.declared.memory.NoMem.{NoMem}
 use Rattle.strm_shared.specs.Seat.{SeatValue}
-use Rattle.strm_shared.specs.Feed.{fresh_feeder, FeederValue, RingValue}
+use Rattle.strm_line.specs.Feed.{fresh_feeder, FeederValue, RingValue}
 use Rattle.strm_shared.specs.Ending.{fresh_seats, SharedValue}
 use Rattle.strm_crew.specs.Run.{RunValue}
 use Rattle.strm_crew.specs.Scripts.{ring_of}
@@ -43,7 +43,7 @@ opened_more run at streams seats feeders e shared mine feeder was within shared_
     }
 
 -- where a stream was made and kept
-pub kept_more : {K : Type 0} (run : RunValue K) (at : ℕ) (streams kept_streams : List SharedValue) (seats kept_seats : List (Vec SeatValue Global)) (feeders kept_feeders : List (Option FeederValue)) (e : Setup) (made : Result (SharedValue × Vec SeatValue Global × Option FeederValue) SharedFault) → AreOpenedTo run at streams seats feeders → at < length run.setups → IfOk made (λ all. all.0 ≡ record { number = at; setup = get_or run.setups at e; seats = length run.scripts }) → IfOk made (λ all. all.1.items ≡ fresh_seats at (length run.scripts)) → IfOk made (λ all. all.2 ≡ fresh_feeder at (get_or run.setups at e)) → IsOk made → IfOk made (λ one. kept_streams ≡ streams ++ one.0 ∷ []) → IfOk made (λ one. kept_seats ≡ seats ++ one.1 ∷ []) → IfOk made (λ one. kept_feeders ≡ feeders ++ one.2 ∷ []) → AreOpenedTo run (at + 1) kept_streams kept_seats kept_feeders
+pub kept_more : {K : Type 0} (run : RunValue K) (at : ℕ) (streams kept_streams : List SharedValue) (seats kept_seats : List (Vec SeatValue Global)) (feeders kept_feeders : List (Option FeederValue)) (e : Setup) (made : Result (SharedValue × Vec SeatValue Global × Option FeederValue) NoMem) → AreOpenedTo run at streams seats feeders → at < length run.setups → IfOk made (λ all. all.0 ≡ record { number = at; setup = get_or run.setups at e; seats = length run.scripts }) → IfOk made (λ all. all.1.items ≡ fresh_seats at (length run.scripts)) → IfOk made (λ all. all.2 ≡ fresh_feeder at (get_or run.setups at e)) → IsOk made → IfOk made (λ one. kept_streams ≡ streams ++ one.0 ∷ []) → IfOk made (λ one. kept_seats ≡ seats ++ one.1 ∷ []) → IfOk made (λ one. kept_feeders ≡ feeders ++ one.2 ∷ []) → AreOpenedTo run (at + 1) kept_streams kept_seats kept_feeders
 kept_more run at streams kept_streams seats kept_seats feeders kept_feeders e (Ok one) was within shared_is mine_is feeder_is is streams_is seats_is feeders_is =
     rw (streams_is, seats_is, feeders_is) (opened_more run at streams seats feeders e one.0 one.1 one.2 was within shared_is mine_is feeder_is)
 kept_more run at streams kept_streams seats kept_seats feeders kept_feeders e (Err fault) was within shared_is mine_is feeder_is is streams_is seats_is feeders_is = absurd cc

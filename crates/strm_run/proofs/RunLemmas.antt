@@ -1,8 +1,8 @@
 -- What a run that gave a transcript has.
 use Rattle.std.proofs.Common.{Result, Ok, Err, IsErrOf}
 use Rattle.std.specs.Prelude.{IfOk, IfErr}
-use Rattle.strm_qpair.specs.declared.driver.Driver.TheVariants.{Echo}
-use Rattle.strm_history.specs.declared.setup.Setup.{Setup}
+use Rattle.strm_module.specs.declared.driver.Driver.TheVariants.{Echo}
+use Rattle.strm_call.specs.declared.setup.Setup.{Setup}
 use Rattle.strm_run.specs.declared.fault.RunFault.{RunFault}
 use Rattle.strm_run.specs.declared.fault.RunFault.TheVariants.{Workers, NoSuch, NoMem, Unfinished, NoReceipt}
 use Rattle.strm_run.specs.Inside.Ending.{IsLate}

@@ -6,8 +6,8 @@ use Rattle.std.proofs.lemmas.Option.{slice_get-get_or}
 use Rattle.strm_msg.specs.Message.{Msg}
 use Rattle.strm_msg.specs.Kind.{is_from_line}
 use Rattle.strm_msg.specs.declared.words.End.{End}
-use Rattle.strm_head.specs.Step.{is_line}
-use Rattle.strm_history.specs.declared.setup.Setup.{Setup}
+use Rattle.strm_module.specs.Driver.{is_line}
+use Rattle.strm_call.specs.declared.setup.Setup.{Setup}
 use Rattle.strm_crew.specs.declared.script.Script.{Script}
 use Rattle.strm_crew.specs.declared.script.Feed.{Feed}
 use Rattle.strm_crew.specs.Scripts.{feed_of}

@@ -1,6 +1,6 @@
 //! The streams of a run, as they end.
 ghost use Rattle.std.specs.Prelude.{◌≡◌, true, false, [], length, map, option_map, All, IfErr, IfOk, IfSome, Some};
-ghost use Rattle.strm_head.specs.Step.{is_line};
+ghost use Rattle.strm_module.specs.Driver.{is_line};
 ghost use Rattle.strm_crew.specs.Transcript.{AreLogs, IsLog};
 ghost use Rattle.strm_crew.specs.Play.{ArePlayed, HasPlayed};
 ghost use Rattle.strm_run.specs.Inside.Ending.{is_end_refused, overrun_of, AreLinesFed, AreParted, AreSeatsPlayed, IsLate, IsOffered, IsStream, Leaves};

@@ -1,5 +1,5 @@
 //! The feeders of a run, each with its feed.
-ghost use Rattle.std.specs.Prelude.{◌≡◌, ◌<◌, true, [], length, All, AllPairs, IfOk};
+ghost use Rattle.std.specs.Prelude.{◌≡◌, ◌<◌, true, length, All, AllPairs, IfOk};
 ghost use Rattle.strm_msg.specs.Kind.{is_from_line};
 ghost use Rattle.strm_run.specs.Inside.Opening.{lines_of, AreFeeders, AreFeeds};
 

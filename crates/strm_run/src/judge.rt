@@ -2,7 +2,6 @@
 ghost use Rattle.std.specs.Prelude.{◌≡◌, ◌↔◌, true, All, AllPairs, slice_get};
 ghost use Rattle.strm_run.specs.There.{end_is_there, line_is_there, is_crew, is_setup, AreCallsThere, AreFromLine, AreThere, IsFromLine};
 
-use strm_chain::has_end;
 use strm_crew::{Feed, Script, ScriptCall};
 use strm_history::Setup;
 use strm_msg::End;
@@ -49,7 +48,7 @@ fn end_is_there(setups: &[Setup], stream: u32, end: End) -> bool
     ensures { result ≡ end_is_there (slice_get setups.now stream) end }
 {
     match setups.get(stream as usize) {
-        Some(setup) => has_end(setup.driver, end),
+        Some(setup) => setup.driver.has_end(end),
         None => false,
     }
 }

@@ -1,6 +1,6 @@
 //! The streams of a run, as they are made.
-ghost use Rattle.std.specs.Prelude.{◌≡◌, ◌<◌, ◌^◌, ◌∷◌, ◌++◌, [], true, length, map, All, IfOk, IsErrOf, IsOk, OnOk};
-ghost use Rattle.strm_history.specs.Setup.{is_fit, is_ring};
+ghost use Rattle.std.specs.Prelude.{◌≡◌, ◌<◌, ◌^◌, ◌∷◌, ◌++◌, [], true, length, map, All, IfOk, IsOk, OnOk};
+ghost use Rattle.strm_call.specs.Setup.{is_fit, is_ring};
 ghost use Rattle.strm_run.specs.Inside.Opening.{AreOpened};
 
 use std::alloc::Global;

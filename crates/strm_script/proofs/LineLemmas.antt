@@ -4,7 +4,7 @@ use Rattle.std.specs.Io.KnownBytes.{Appends}
 use Rattle.std.proofs.lemmas.List.{append-nil}
 use Rattle.std.proofs.lemmas.Option.{slice_get-map}
 use Rattle.arrayvec.specs.ArrayVec.{ArrayVec}
-use Rattle.strm_history.specs.declared.setup.Setup.{Setup}
+use Rattle.strm_call.specs.declared.setup.Setup.{Setup}
 use native.Mathlib.Numerals.{unary_clauses}
 use Rattle.strm_text.proofs.WriteLemmas.{appends_then}
 use Rattle.strm_script.specs.Fields.{KindSpelling}

@@ -5,13 +5,13 @@ use Rattle.arrayvec.specs.ArrayVec.{ArrayVec}
 use Rattle.strm_msg.specs.declared.words.End.{End}
 use Rattle.strm_msg.specs.declared.words.End.TheVariants.{A, B}
 use Rattle.strm_module.specs.declared.shape.Shape.{Shape}
-use Rattle.strm_qpair.specs.declared.driver.Driver.{Driver}
-use Rattle.strm_qpair.specs.declared.driver.Driver.TheVariants.{Loop, Line}
+use Rattle.strm_module.specs.declared.driver.Driver.{Driver}
+use Rattle.strm_module.specs.declared.driver.Driver.TheVariants.{Loop, Line}
 use Rattle.strm_call.specs.declared.request.Request.{Request}
 use Rattle.strm_call.specs.declared.answer.Answer.{Answer}
-use Rattle.strm_head.specs.declared.event.Event.{Event}
-use Rattle.strm_head.specs.declared.event.Event.TheVariants.{Asked, Arrived}
-use Rattle.strm_history.specs.declared.setup.Setup.{Setup}
+use Rattle.strm_call.specs.declared.setup.Setup.{Setup}
+use Rattle.strm_call.specs.declared.event.Event.{Event}
+use Rattle.strm_call.specs.declared.event.Event.TheVariants.{Asked, Arrived}
 use Rattle.strm_history.specs.declared.entry.Who.{Who}
 use Rattle.strm_history.specs.declared.entry.Who.TheVariants as whos
 use Rattle.strm_history.specs.declared.entry.Entry.{Entry}

@@ -1,5 +1,5 @@
 //! The lines of a stream.
-ghost use Rattle.std.specs.Prelude.{◌≡◌, ◌∷◌, ◌++◌, [], OnOk, codes, map};
+ghost use Rattle.std.specs.Prelude.{◌∷◌, ◌++◌, [], OnOk, codes, map};
 ghost use Rattle.std.specs.Io.KnownBytes.{Appends};
 ghost use Rattle.strm_plan.specs.Plan.{process_view};
 ghost use Rattle.strm_verb.specs.Field.{Number, Word};

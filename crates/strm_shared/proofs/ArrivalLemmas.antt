@@ -5,18 +5,18 @@ use Rattle.strm_msg.specs.Message.{Msg}
 use Rattle.strm_msg.specs.declared.words.End.{End}
 use Rattle.strm_module.specs.Kinds.{Meaning}
 use Rattle.strm_module.specs.declared.shape.Shape.{Shape}
-use Rattle.strm_head.specs.Step.{is_line}
-use Rattle.strm_head.specs.declared.event.Event.{Event}
-use Rattle.strm_head.specs.declared.event.Event.TheVariants.{Asked, Arrived}
+use Rattle.strm_module.specs.Driver.{is_line}
+use Rattle.strm_call.specs.declared.call.Call.{Call}
+use Rattle.strm_call.specs.declared.event.Event.{Event}
+use Rattle.strm_call.specs.declared.event.Event.TheVariants.{Asked, Arrived}
 use Rattle.strm_history.specs.declared.entry.Entry.{Entry}
-use Rattle.strm_history.specs.declared.call.Call.{Call}
 use Rattle.strm_history.specs.declared.call.Called.{Called}
 use Rattle.strm_history.specs.declared.call.Called.TheVariants.{Done, NoRoom}
 use Rattle.strm_history.specs.Entry.{came_in}
 use Rattle.strm_history.specs.History.{arrivals}
 use Rattle.strm_history.specs.Log.{LogValue, HasLanded, CallsBy}
-use Rattle.strm_shared.specs.Inlet.{InletValue}
-use Rattle.strm_shared.specs.Runs.{IsNextOf}
+use Rattle.strm_line.specs.Inlet.{InletValue}
+use Rattle.strm_line.specs.Runs.{IsNextOf}
 use Rattle.strm_shared.specs.Seat.{SeatValue}
 use Rattle.strm_shared.specs.Turns.{turned, IsLocked, TurnsValue}
 use Rattle.strm_shared.specs.Arrivals.{TakesIn, ComesIn}

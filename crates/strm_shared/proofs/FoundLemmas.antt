@@ -19,15 +19,15 @@ use Rattle.strm_call.specs.declared.request.Request.TheVariants as Requests
 use Rattle.strm_call.specs.declared.refusal.Refusal.{Refusal}
 use Rattle.strm_call.specs.declared.refusal.Refusal.TheVariants.{Invalid, HungUp}
 use Rattle.strm_call.specs.Refusal.{first_that_holds}
+use Rattle.strm_call.specs.declared.call.Call.{Call}
 use Rattle.strm_call.specs.Begun.{reply_after}
 use Rattle.strm_ioctl.specs.Ask.{is_empty}
 use Rattle.strm_ioctl.specs.Modules.{pop_refusals, first_name}
-use Rattle.strm_head.specs.declared.event.Event.{Event}
-use Rattle.strm_head.specs.declared.event.Event.TheVariants.{Asked}
+use Rattle.strm_call.specs.declared.event.Event.{Event}
+use Rattle.strm_call.specs.declared.event.Event.TheVariants.{Asked}
 use Rattle.strm_head.specs.Begin.{back_of, begun_of, common_refusals, handed_out, refusal_of}
 use Rattle.strm_head.specs.Step.{Step}
 use Rattle.strm_head.proofs.RefusalLemmas.{first_of_all}
-use Rattle.strm_history.specs.declared.call.Call.{Call}
 use Rattle.strm_history.specs.declared.call.Called.{Called}
 use Rattle.strm_history.specs.declared.call.Called.TheVariants.{Done, NoRoom}
 use Rattle.strm_history.specs.declared.entry.Entry.{Entry}

@@ -9,23 +9,22 @@ use Rattle.strm_msg.specs.declared.words.End.{End}
 use Rattle.strm_module.specs.Kinds.{Meaning}
 use Rattle.strm_module.specs.declared.shape.Shape.{Shape}
 use Rattle.strm_call.specs.declared.answer.Answer.{Answer}
-use Rattle.strm_head.specs.declared.event.Event.{Event}
-use Rattle.strm_head.specs.declared.event.Event.TheVariants.{Asked}
+use Rattle.strm_call.specs.declared.call.Call.{Call}
+use Rattle.strm_call.specs.declared.event.Event.{Event}
+use Rattle.strm_call.specs.declared.event.Event.TheVariants.{Asked}
 use Rattle.strm_history.specs.declared.entry.Who.TheVariants.{Caller, Line}
 use Rattle.strm_history.specs.declared.entry.Entry.{Entry}
+use Rattle.strm_history.specs.Entry.{is_caller, asked_of}
 use Rattle.strm_shared.specs.declared.fault.EndFault.{EndFault}
 use Rattle.strm_shared.specs.declared.fault.EndFault.TheVariants as EndFaults
-use Rattle.strm_history.specs.declared.call.Call.{Call}
 use Rattle.strm_history.specs.declared.call.Called.{Called}
 use Rattle.strm_history.specs.declared.call.Called.TheVariants.{Done, NoRoom}
-use Rattle.strm_history.specs.Entry.{is_caller}
 use Rattle.strm_history.specs.History.{own, calls_of}
 use Rattle.strm_history.specs.Log.{LogValue, Enters, CallsBy, has_receipt, is_done}
 use Rattle.strm_shared.specs.Seat.{SeatValue}
 use Rattle.strm_shared.specs.Ending.{has_seat, CountsAgree, Counted}
-use Rattle.strm_history.specs.Entry.{asked_of}
 use Rattle.strm_shared.specs.Turns.{counted, has_count, is_next, turned, AreFirstOf, AreInTurn, TurnsValue}
-use Rattle.strm_shared.specs.Runs.{IsNextOf}
+use Rattle.strm_line.specs.Runs.{IsNextOf}
 
 -- the first elements, with one more
 take_next : {A : Type 0} (all : List A) (count : ℕ) (one : A) → slice_get all count ≡ Some one → take (suc count) all ≡ take count all ++ one ∷ []

@@ -1,26 +1,26 @@
 -- What a shared stream and its seats are to a contract, what comes back of a call, and what must agree at the end.
 use Rattle.std.specs.Prelude.{◌≡◌, ℕ, ◌+◌, ◌<◌, ◌==◌, nat_lt, zero, suc, not, ◌&&◌, Bool, true, Option, Some, None, IfSome, List, [], ◌∷◌, ◌++◌, length, map, flat_map, is_some, All, Any, ⊤}
 use Rattle.strm_module.specs.declared.shape.Shape.{Shape}
+use Rattle.strm_module.specs.Driver.{is_line}
 use Rattle.strm_call.specs.declared.request.Request.{Request}
 use Rattle.strm_call.specs.declared.request.Request.TheVariants as Requests
 use Rattle.strm_call.specs.declared.answer.Reply.{Reply}
 use Rattle.strm_call.specs.declared.answer.Reply.TheVariants as ReplyOf
 use Rattle.strm_call.specs.declared.answer.Answer.{Answer}
 use Rattle.strm_call.specs.declared.answer.Answer.TheVariants as Answers
-use Rattle.strm_head.specs.declared.event.Event.TheVariants.{Asked}
+use Rattle.strm_call.specs.declared.setup.Setup.{Setup}
+use Rattle.strm_call.specs.declared.call.Call.{Call}
+use Rattle.strm_call.specs.declared.event.Event.TheVariants.{Asked}
 use Rattle.strm_head.specs.Begin.{pushed_of, handed_out}
-use Rattle.strm_head.specs.Step.{is_line}
-use Rattle.strm_history.specs.declared.setup.Setup.{Setup}
 use Rattle.strm_history.specs.declared.entry.Who.{Who}
 use Rattle.strm_history.specs.declared.entry.Who.TheVariants.{Caller, Line}
 use Rattle.strm_history.specs.declared.entry.Entry.{Entry}
-use Rattle.strm_history.specs.declared.call.Call.{Call}
 use Rattle.strm_history.specs.declared.call.Called.{Called}
 use Rattle.strm_history.specs.declared.call.Called.TheVariants.{Done, NoRoom}
 use Rattle.strm_history.specs.Entry.{asked_of, due_back, serial_of}
 use Rattle.strm_history.specs.History.{calls_of}
 use Rattle.strm_history.specs.Receipt.{ReceiptValue, RoomValue}
-use Rattle.strm_shared.specs.Feed.{FeedValue}
+use Rattle.strm_line.specs.Feed.{FeedValue}
 use Rattle.strm_shared.specs.Seat.{SeatValue}
 
 -- a shared stream: its number, its setup, and how many callers it has

@@ -1,21 +1,9 @@
--- Why a shared stream, or its ring, was not made, and why a shared stream was not ended.
+-- Why a shared stream was not ended.
 use Rattle.std.specs.Prelude.{ℕ, List, codes}
-use Rattle.strm_shared.specs.declared.fault.SharedFault.{SharedFault}
-use Rattle.strm_shared.specs.declared.fault.SharedFault.TheVariants as Shared
 use Rattle.strm_shared.specs.declared.fault.EndFault.{EndFault}
 use Rattle.strm_shared.specs.declared.fault.EndFault.TheVariants.{Seats, Unfinished, NoMem, NoReceipt}
 
--- of making, in the order in which the faults are looked for
-abbrev pub shared_number : SharedFault → ℕ
-shared_number Shared.Ring = 1
-shared_number Shared.NoMem = 2
-
--- the texts that the faults print
-abbrev pub shared_text : SharedFault → List ℕ
-shared_text Shared.Ring = codes "the ring of a line does not hold 1 to 4096 messages"
-shared_text Shared.NoMem = codes "no memory"
-
--- of ending; they are looked for in the order 1, 2, 4, 3
+-- they are looked for in the order 1, 2, 4, 3
 abbrev pub end_number : EndFault → ℕ
 end_number Seats = 1
 end_number Unfinished = 2

@@ -1,8 +1,3 @@
-pub mod Name
-pub mod Runs
-pub mod Feed
-pub mod Ring
-pub mod Inlet
 pub mod Fault
 pub mod Seat
 pub mod Ending

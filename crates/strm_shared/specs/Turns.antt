@@ -2,15 +2,15 @@
 use Rattle.std.specs.Prelude.{◌≡◌, ℕ, ◌+◌, ◌<◌, ◌&&◌, ◌==◌, nat_lt, Bool, true, false, Option, Some, None, List, All, get_or, length, map, set, take, if◌then◌else◌, ⊤}
 use Rattle.strm_msg.specs.declared.words.End.{End}
 use Rattle.strm_module.specs.declared.shape.Shape.{Shape}
-use Rattle.strm_head.specs.declared.event.Event.{Event}
+use Rattle.strm_module.specs.Driver.{is_line}
+use Rattle.strm_call.specs.declared.event.Event.{Event}
 use Rattle.strm_history.specs.declared.entry.Entry.{Entry}
 use Rattle.strm_history.specs.declared.call.Called.{Called}
 use Rattle.strm_history.specs.declared.call.Called.TheVariants.{Done, NoRoom}
 use Rattle.strm_history.specs.Entry.{asked_of}
 use Rattle.strm_history.specs.History.{arrivals, own, calls_of}
 use Rattle.strm_history.specs.Log.{LogValue}
-use Rattle.strm_head.specs.Step.{is_line}
-use Rattle.strm_shared.specs.Inlet.{InletValue}
+use Rattle.strm_line.specs.Inlet.{InletValue}
 use Rattle.strm_shared.specs.Seat.{SeatValue}
 use Rattle.strm_shared.specs.Ending.{has_seat}
 

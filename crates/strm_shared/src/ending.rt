@@ -1,19 +1,18 @@
 //! What must agree before a shared stream has ended.
 ghost use Rattle.std.specs.Prelude.{◌≡◌, ◌↔◌, ◌<◌, ◌++◌, ℕ, true, All, Any, IfErr, IfOk, OnOk, IsErrOf, length};
-ghost use Rattle.strm_history.specs.Setup.{opened};
 ghost use Rattle.strm_history.specs.History.{arrivals, Legal};
-ghost use Rattle.strm_shared.specs.Feed.{accepted_of};
+ghost use Rattle.strm_history.specs.Opened.{opened};
+ghost use Rattle.strm_line.specs.Feed.{accepted_of};
 ghost use Rattle.strm_shared.specs.Ending.{is_fed, AreSeats, AreShown};
 ghost use Rattle.strm_shared.specs.Turns.{has_count, AreInTurn};
 
 use crate::ended::{Ended, places_of};
 use crate::fault::EndFault;
-use crate::feeder::FeedEnd;
 use crate::locked::Locked;
-use crate::runs::Runs;
 use crate::seat::Seat;
 use std::alloc::Global;
 use strm_history::Setup;
+use strm_line::{FeedEnd, Runs};
 use strm_module::ModuleOf;
 
 /// Whether a caller has a seat among these.

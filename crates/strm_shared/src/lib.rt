@@ -7,20 +7,13 @@
 mod ended;
 mod ending;
 mod fault;
-mod feeder;
-mod inlet;
 mod locked;
-mod ring;
-mod runs;
 mod seat;
 mod shared;
 mod turns;
 
 pub use ended::Ended;
-pub use fault::{EndFault, SharedFault};
-pub use feeder::{FeedEnd, Feeder};
-pub use inlet::Inlet;
-pub use ring::Ring;
-pub use runs::{AnyCalls, Runs};
+pub use fault::EndFault;
 pub use seat::Seat;
 pub use shared::Shared;
+pub use strm_line::{AnyCalls, FeedEnd, Feeder, Inlet, Ring, RingFault, Runs};

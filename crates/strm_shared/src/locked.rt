@@ -1,23 +1,23 @@
 //! What stands under the lock of a shared stream.
 ghost use Rattle.std.specs.Prelude.{◌≡◌, ◌↔◌, ◌+◌, ◌<◌, ◌^◌, true, false, [], All, IfOk, length, replicate};
-ghost use Rattle.strm_head.specs.Step.{is_line};
-ghost use Rattle.strm_head.specs.declared.event.Event.TheVariants.{Asked};
+ghost use Rattle.strm_module.specs.Driver.{is_line};
+ghost use Rattle.strm_call.specs.Setup.{is_fit};
+ghost use Rattle.strm_call.specs.declared.event.Event.TheVariants.{Asked};
 ghost use Rattle.strm_history.specs.History.{arrivals};
-ghost use Rattle.strm_history.specs.Setup.{is_fit, opened};
 ghost use Rattle.strm_history.specs.Log.{CallsBy};
-ghost use Rattle.strm_shared.specs.Runs.{IsNextOf};
-ghost use Rattle.strm_shared.specs.Inlet.{fresh_inlet};
+ghost use Rattle.strm_history.specs.Opened.{opened};
+ghost use Rattle.strm_line.specs.Runs.{IsNextOf};
+ghost use Rattle.strm_line.specs.Inlet.{fresh_inlet};
 ghost use Rattle.strm_shared.specs.Ending.{room_of, Counted};
 ghost use Rattle.strm_shared.specs.Turns.{has_count, turned, AreInTurn};
 ghost use Rattle.strm_shared.specs.Arrivals.{Intakes, CallsAfter, ComesIn};
 
-use crate::inlet::Inlet;
-use crate::runs::Runs;
 use crate::seat::Seat;
 use crate::turns::Turns;
 use std::alloc::Global;
 use std::marker::Model;
 use strm_history::{Call, Called, Landed, Log, Room, Setup};
+use strm_line::{Inlet, Runs};
 use strm_module::{Boxed, ModuleOf};
 use strm_msg::NoMem;
 

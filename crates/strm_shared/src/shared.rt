@@ -1,26 +1,25 @@
 //! A stream that several callers share.
-ghost use Rattle.std.specs.Prelude.{◌≡◌, ◌↔◌, ◌++◌, ℕ, true, false, All, IfErr, IfOk, OnOk, IsErrOf};
-ghost use Rattle.strm_head.specs.declared.event.Event.TheVariants.{Asked};
-ghost use Rattle.strm_history.specs.Setup.{is_fit, opened};
+ghost use Rattle.std.specs.Prelude.{◌≡◌, ◌↔◌, ◌++◌, ℕ, true, All, IfOk, OnOk, IsErrOf};
+ghost use Rattle.strm_call.specs.Setup.{is_fit};
+ghost use Rattle.strm_call.specs.declared.event.Event.TheVariants.{Asked};
 ghost use Rattle.strm_history.specs.History.{arrivals, own, Legal};
 ghost use Rattle.strm_history.specs.Serials.{AreAccounted};
-ghost use Rattle.strm_shared.specs.Feed.{accepted_of, fresh_feeder};
-ghost use Rattle.strm_shared.specs.Runs.{IsNextOf};
+ghost use Rattle.strm_history.specs.Opened.{opened};
+ghost use Rattle.strm_line.specs.Feed.{accepted_of, fresh_feeder};
+ghost use Rattle.strm_line.specs.Runs.{IsNextOf};
 ghost use Rattle.strm_shared.specs.Ending.{fresh_seats, has_seat, is_fed, AreSeats, AreShown, CountsAgree, Counted, HandsBack, Shows};
 ghost use Rattle.strm_shared.specs.Turns.{AreFirstOf};
 
 use crate::ended::Ended;
 use crate::ending::{have_ended, left_of};
-use crate::fault::{EndFault, SharedFault};
-use crate::feeder::{FeedEnd, Feeder};
+use crate::fault::EndFault;
 use crate::locked::Locked;
-use crate::ring::Ring;
-use crate::runs::{AnyCalls, Runs};
 use crate::seat::Seat;
 use std::alloc::Global;
 use std::marker::Model;
 use std::sync::{Mutex, Wait};
 use strm_history::{Call, Called, Setup, room_for};
+use strm_line::{AnyCalls, FeedEnd, Feeder, Ring, Runs};
 use strm_module::{Boxed, ModuleOf};
 use strm_msg::NoMem;
 
@@ -66,25 +65,24 @@ impl<M: ModuleOf, N: Runs<M::Kind>> Shared<M, N> {
         number: u32,
         seats: u32,
         ring: Ring,
-    ) -> Result<(Shared<M, N>, Vec<Seat>, Option<Feeder<M::Kind, N>>), SharedFault>
+    ) -> Result<(Shared<M, N>, Vec<Seat>, Option<Feeder<M::Kind, N>>), NoMem>
         requires marks { is_fit ring.setup ≡ true }
         requires name { ring.name ≡ N.ring number }
         ensures shared { IfOk result (λ all. all.0 ≡ record { number = number; setup = ring.setup; seats = seats }) }
         ensures seats { IfOk result (λ all. all.1.items ≡ fresh_seats number seats) }
         ensures feeder { IfOk result (λ all. all.2 ≡ fresh_feeder number ring.setup) }
-        ensures memory { IfErr result (λ fault. fault ≡ SharedFault.NoMem) }
     {
         let setup = ring.setup();
         let (inlet, feeder) = ring.into_ends(number);
         let Ok(all) = seats_of(alloc, number, seats) else {
             drop(inlet);
             drop(feeder);
-            return Err(SharedFault::NoMem);
+            return Err(NoMem);
         };
         let Ok(locked) = Locked::new(alloc, number, setup, seats, inlet) else {
             drop(all);
             drop(feeder);
-            return Err(SharedFault::NoMem);
+            return Err(NoMem);
         };
         let shared = Shared {
             number,

@@ -1,5 +1,5 @@
 //! The calls of a script, read from their fields.
-ghost use Rattle.std.specs.Prelude.{◌≡◌, map};
+ghost use Rattle.std.specs.Prelude.{map};
 ghost use Rattle.strm_verb.specs.Fault.{Gives};
 ghost use Rattle.strm_verb.specs.Table as table;
 

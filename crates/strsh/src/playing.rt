@@ -12,6 +12,7 @@ use crate::options::Options;
 use std::alloc::Global;
 use std::fs;
 use std::io::{self, BufWriter, Write};
+use std::mem;
 use std::rt::Files;
 use std::sync::Wait;
 use std::thread::Threads;
@@ -75,7 +76,8 @@ fn put_out<R: Print>(
     put(outcome, as_chart, &mut out).map_err(|_| Fault::Write)
 }
 
-/// Plays the script that a command line names, and prints its transcript, or its chart where that is asked for.
+/// Plays the script that a command line names, and prints its transcript, or its chart where that is asked for. What is left of
+/// the run is not taken apart: the program ends now, and its memory with it.
 ///
 /// Refused where the command line is no good, the script cannot be read, it is no script, it does
 /// not run or what it leaves cannot be printed, in this order.
@@ -87,5 +89,7 @@ pub fn serve<R: Files + Print + Threads + Wait + AllocGlobal + Sync>(
     let options = Options::read(alloc, words)?;
     let plan = plan_at(rt, alloc, options.path)?;
     let outcome = play_plan::<Plain, R>(rt, alloc, plan, options.workers)?;
-    put_out(rt, alloc, &outcome, options.chart)
+    let printed = put_out(rt, alloc, &outcome, options.chart);
+    mem::forget(outcome);
+    printed
 }

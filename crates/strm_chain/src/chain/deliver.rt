@@ -1,5 +1,5 @@
 //! Delivery: a message is carried to its end, and what comes of it.
-ghost use Rattle.std.specs.Prelude.{◌≡◌, OnOk, IfOk, IfErr, true, false};
+ghost use Rattle.std.specs.Prelude.{◌≡◌, OnOk, IfErr, true, false};
 ghost use Rattle.strm_chain.specs.Deliver.{deliver, is_there};
 ghost use Rattle.strm_ends.specs.Same.{SameModules};
 ghost use Rattle.strm_chain.specs.Fault.{Refuses};
@@ -11,7 +11,6 @@ use super::hop::Hop;
 use crate::fault::ChainFault;
 use crate::spot::Spot;
 use std::collections::VecDeque;
-use strm_ends::has_end;
 use strm_module::ModuleOf;
 use strm_msg::{BoxedMessage, Message};
 
@@ -22,9 +21,9 @@ impl<M: ModuleOf> Chain<M> {
     {
         match spot {
             Spot::Down { end, i } => {
-                has_end(self.driver(), end) && 1 <= i && usize::from(i) <= self.count(end) + 1
+                self.driver().has_end(end) && 1 <= i && usize::from(i) <= self.count(end) + 1
             }
-            Spot::Up { end, i } => has_end(self.driver(), end) && usize::from(i) <= self.count(end),
+            Spot::Up { end, i } => self.driver().has_end(end) && usize::from(i) <= self.count(end),
         }
     }
 

@@ -1,8 +1,8 @@
 //! Messages on their way, one hop at a time.
 ghost use Rattle.std.specs.VecDeque.{deque_len, deque_capacity};
-ghost use Rattle.std.specs.Prelude.{true, ◌≡◌, ◌∷◌, ◌++◌, [], ◌<◌, ◌≤◌, ◌+◌, ◌-◌, OnOk, OnErr, IfOk, map, length};
+ghost use Rattle.std.specs.Prelude.{true, ◌≡◌, ◌∷◌, ◌++◌, ◌<◌, ◌≤◌, ◌+◌, ◌-◌, OnOk, OnErr, map, length};
 ghost use Rattle.strm_msg.specs.declared.words.Side.TheVariants as Side;
-ghost use Rattle.strm_ends.specs.Image.{end_of, with_end, partner, count_of};
+ghost use Rattle.strm_module.specs.Driver.{partner};
 ghost use Rattle.strm_chain.specs.Deliver.{put_at, up, down};
 ghost use Rattle.strm_ends.specs.Same.{SameModules};
 ghost use Rattle.strm_module.specs.Calm.{is_calm, IsCalm};
@@ -12,10 +12,9 @@ ghost use Rattle.strm_chain.specs.Hop.{carry, carry_all, load, up_hop, down_hop,
 use super::Chain;
 use std::alloc::Global;
 use std::collections::VecDeque;
-use strm_ends::partner_of;
-use strm_module::{ModuleOf, Outs};
+use strm_module::{MOST_MODULES, ModuleOf, Outs};
 use strm_msg::{BoxedMessage, End, Message, NoMem, Side as Sides};
-use strm_qpair::{DriverSends, MOST_MODULES};
+use strm_qpair::DriverSends;
 
 /// A message that is on its way, up to the head or down to the driver, with a number of modules
 /// still ahead.
@@ -165,7 +164,7 @@ impl<M: ModuleOf> Chain<M> {
         ensures given { self.new.run.given ≡ self.old.run.given }
         ensures grows { OnOk result (IsCalm M.Kind.means → is_calm m.kind ≡ true → are_calm_hops hops.old.items ≡ true → Grows self.old (options_in self.old.image m + options_carried self.old.image hops.old.items) self.new (options_carried self.old.image hops.new.items) × (are_calm_hops hops.new.items ≡ true)) }
     {
-        let partner = partner_of(self.driver(), end);
+        let partner = self.driver().partner_of(end);
         let own = self.count(end);
         let across = self.count(partner);
         match self.driver_does(end, m)? {

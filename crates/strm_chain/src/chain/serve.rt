@@ -1,12 +1,12 @@
 //! Service: which places may move, and their moves.
 ghost use Rattle.std.specs.VecDeque.{deque_len, deque_capacity};
-ghost use Rattle.std.specs.Prelude.{◌≡◌, ◌∷◌, [], OnOk, IfErr, IfOk, IfSome, IfNone, true, false, ◌≤◌, ◌+◌, option_copied};
+ghost use Rattle.std.specs.Prelude.{◌≡◌, [], OnOk, IfErr, true, false, ◌≤◌, ◌+◌};
 ghost use Rattle.strm_ends.specs.declared.place.Place.TheVariants as Places;
 ghost use Rattle.strm_qpair.specs.Canput.{below, full_in};
-ghost use Rattle.strm_ends.specs.Image.{end_of, with_drv};
+ghost use Rattle.strm_ends.specs.Image.{end_of};
 ghost use Rattle.strm_ends.specs.Same.{SameModules};
 ghost use Rattle.strm_chain.specs.Fault.{Refuses};
-ghost use Rattle.strm_ends.specs.Path.{ahead, front_of};
+ghost use Rattle.strm_ends.specs.Path.{ahead};
 ghost use Rattle.strm_ends.specs.Flow.{may};
 ghost use Rattle.strm_chain.specs.Service.{move, serve_at};
 ghost use Rattle.strm_module.specs.Calm.{IsCalm};
@@ -18,7 +18,7 @@ use super::Chain;
 use super::hop::{Hop, push_outs};
 use crate::fault::ChainFault;
 use std::collections::VecDeque;
-use strm_ends::{Place, partner_of};
+use strm_ends::Place;
 use strm_module::ModuleOf;
 use strm_msg::{End, NoMem, Side};
 
@@ -70,7 +70,7 @@ impl<M: ModuleOf> Chain<M> {
         ensures given { self.new.run.given ≡ self.old.run.given }
         ensures moves { OnOk result (IsCalm M.Kind.means → is_enabled self.old.run (Places.Drv end) ≡ true → HasMoved self.old self.new 0) }
     {
-        let partner = partner_of(self.driver(), end);
+        let partner = self.driver().partner_of(end);
         let ahead = self.count(partner);
         // The proof learns from the number of modules that no high message waits in the driver's list.
         let _ = self.count(end);

@@ -1,6 +1,6 @@
 //! Flow control: which queue is next after a place's, and whether a place may or must move.
 ghost use Rattle.std.specs.Prelude.{◌≡◌, ◌≤◌, true, false, IfSome, is_some, length, option_copied, option_map};
-ghost use Rattle.strm_qpair.specs.declared.end.TheConstants.{MOST_MODULES};
+ghost use Rattle.strm_module.specs.declared.driver.TheConstants.{MOST_MODULES};
 ghost use Rattle.strm_qpair.specs.Canput.{fill_of, below, full_in, slack_in};
 ghost use Rattle.strm_ends.specs.Image.{end_of};
 ghost use Rattle.strm_ends.specs.Path.{ahead, front_of};
@@ -10,11 +10,10 @@ ghost use Rattle.strm_ends.specs.Next.{next_of, next_down, next_up, modules_at, 
 ghost use Rattle.strm_ends.specs.declared.place.NextQueue.TheVariants.{Of};
 ghost use Rattle.strm_qpair.specs.Next.{next_above};
 
-use super::{Ends, has_end, partner_of};
+use super::Ends;
 use crate::place::{NextQueue, Place};
-use strm_module::ModuleOf;
+use strm_module::{Driver, ModuleOf};
 use strm_msg::{End, Message, Side};
-use strm_qpair::Driver;
 use strm_queue::BandQueue;
 
 /// The queue below a module, where the first write queue below it was looked for.
@@ -75,7 +74,7 @@ impl<M: ModuleOf> Ends<M> {
                 next_down(self.driver, end, state.next_below(usize::from(i)))
             }
             Place::Drv { end } => {
-                let partner = partner_of(self.driver, end);
+                let partner = self.driver.partner_of(end);
                 self.next_above(partner, self.count(partner) + 1)
             }
             Place::Rd { end, i } => self.next_above(end, usize::from(i)),
@@ -89,7 +88,7 @@ impl<M: ModuleOf> Ends<M> {
         match place {
             Place::Wr { end, i } => self.end(end).queue_below(self.driver, usize::from(i)),
             Place::Drv { end } => {
-                let partner = partner_of(self.driver, end);
+                let partner = self.driver.partner_of(end);
                 self.end(partner).queue_above(self.count(partner) + 1)
             }
             Place::Rd { end, i } => self.end(end).queue_above(usize::from(i)),
@@ -135,7 +134,7 @@ impl<M: ModuleOf> Ends<M> {
         match place {
             Place::Wr { end, i } => self.end(end).front(i, Side::Wr),
             Place::Drv { end } => {
-                if has_end(self.driver, end) {
+                if self.driver.has_end(end) {
                     self.end(end).driver_list().first()
                 } else {
                     None

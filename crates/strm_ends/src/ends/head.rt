@@ -1,5 +1,5 @@
 //! The heads, for the calls of a stream.
-ghost use Rattle.std.specs.Prelude.{◌≡◌, ◌∷◌, [], ◌<◌, ◌≤◌, OnOk, OnErr, IfErr, IsOk, IsNone, IsSome, MatchOption, drop};
+ghost use Rattle.std.specs.Prelude.{◌≡◌, ◌∷◌, [], ◌<◌, OnOk, OnErr, IfErr, IsOk, IsNone, IsSome, MatchOption, drop};
 ghost use Rattle.strm_msg.specs.Message.{rank_of};
 ghost use Rattle.strm_queue.specs.Queue.{put_back_in};
 ghost use Rattle.strm_queue.specs.Room.{room_for};

@@ -1,12 +1,12 @@
 //! What comes in from a line.
-ghost use Rattle.std.specs.Prelude.{◌≡◌, ◌<◌, ◌≤◌, false, OnOk, OnErr, IfErr, IsOk};
+ghost use Rattle.std.specs.Prelude.{◌≡◌, ◌<◌, false, OnOk, OnErr, IfErr, IsOk};
 ghost use Rattle.strm_msg.specs.Kind.{is_high};
 ghost use Rattle.strm_msg.specs.Message.{rank_of};
 ghost use Rattle.strm_msg.specs.declared.words.End.TheVariants.{A};
-ghost use Rattle.strm_queue.specs.Queue.{put_in, is_full};
+ghost use Rattle.strm_queue.specs.Queue.{put_in};
 ghost use Rattle.strm_queue.specs.Room.{room_for};
+ghost use Rattle.strm_module.specs.declared.driver.Driver.TheVariants as Drivers;
 ghost use Rattle.strm_qpair.specs.End.{KeepsRoom, SpendsOne};
-ghost use Rattle.strm_qpair.specs.declared.driver.Driver.TheVariants as Drivers;
 ghost use Rattle.strm_ends.specs.Image.{with_drv};
 
 use super::Ends;

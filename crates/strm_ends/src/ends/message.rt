@@ -5,7 +5,7 @@ ghost use Rattle.strm_qpair.specs.Head.{head_does};
 ghost use Rattle.strm_ends.specs.Image.{end_of, with_end, with_drv, driver_does};
 ghost use Rattle.strm_ends.specs.Same.{SameModules};
 
-use super::{Ends, has_end};
+use super::Ends;
 use strm_module::{ModuleOf, Outs};
 use strm_msg::{BoxedMessage, End, NoMem, Side};
 use strm_qpair::DriverSends;
@@ -34,7 +34,7 @@ impl<M: ModuleOf> Ends<M> {
         ensures same { SameModules self.old.image self.new.image }
     {
         let driver = self.driver;
-        if !has_end(driver, end) {
+        if !driver.has_end(end) {
             return Ok(DriverSends::Nothing);
         }
         match end {

@@ -5,8 +5,7 @@ ghost use Rattle.strm_qpair.specs.Canput.{fill_of, above, below};
 ghost use Rattle.strm_qpair.specs.Next.{next_below, next_above, queue_at};
 
 use super::StreamEnd;
-use crate::driver::Driver;
-use strm_module::ModuleOf;
+use strm_module::{Driver, ModuleOf};
 use strm_msg::Side;
 use strm_queue::BandQueue;
 

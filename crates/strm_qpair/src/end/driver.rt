@@ -1,5 +1,5 @@
 //! The driver's list of an end.
-ghost use Rattle.std.specs.Prelude.{◌≡◌, ◌∷◌, [], ◌<◌, ◌≤◌, false, OnOk, OnErr, IfOk, IfErr, IfSome, IfNone, IsOk};
+ghost use Rattle.std.specs.Prelude.{◌≡◌, ◌∷◌, [], ◌<◌, false, OnOk, OnErr, IfOk, IfErr, IfSome, IfNone, IsOk};
 ghost use Rattle.strm_msg.specs.Kind.{is_high};
 ghost use Rattle.strm_msg.specs.Message.{bare, rank_of};
 ghost use Rattle.strm_msg.specs.declared.kind.MsgKind.TheVariants.{MIocnak};
@@ -15,8 +15,8 @@ ghost use Rattle.strm_qpair.specs.Driver.{flush_up, line_does, loop_does, option
 
 use super::StreamEnd;
 use super::head::{flush_list, put_in_list};
-use crate::driver::{Driver, DriverSends};
-use strm_module::ModuleOf;
+use crate::driver::DriverSends;
+use strm_module::{Driver, ModuleOf};
 use strm_msg::{BoxedMessage, Errno, Message, MsgKind, NoMem, SETOPTS, options_asked};
 use strm_queue::BandQueue;
 

@@ -2,9 +2,9 @@
 use Rattle.std.specs.Prelude.{◌≡◌, ℕ, ◌<◌, Option, List, filter, get_or, length, slice_get, Vec}
 use Rattle.std.specs.Global.{Global}
 use Rattle.strm_msg.specs.Message.{Msg}
-use Rattle.strm_history.specs.declared.setup.Setup.{Setup}
+use Rattle.strm_call.specs.declared.setup.Setup.{Setup}
 use Rattle.strm_shared.specs.Seat.{SeatValue}
-use Rattle.strm_shared.specs.Feed.{fresh_feeder, FeederValue}
+use Rattle.strm_line.specs.Feed.{fresh_feeder, FeederValue}
 use Rattle.strm_shared.specs.Ending.{fresh_seats, SharedValue}
 use Rattle.strm_crew.specs.declared.script.Feed.{Feed}
 use Rattle.strm_crew.specs.Scripts.{feed_of}

@@ -1,5 +1,5 @@
 //! Runs: what each stream's history has, whatever the threads do, and when a run is refused.
-ghost use Rattle.std.specs.Prelude.{◌≡◌, ◌<◌, ◌^◌, length};
+ghost use Rattle.std.specs.Prelude.{◌<◌, length};
 ghost use Rattle.std.specs.Mem.{FitsInMemory};
 ghost use Rattle.strm_module.specs.contracts.boxed.Boxed as boxed_type;
 ghost use Rattle.strm_history.specs.contracts.call.Called as called_type;

@@ -1,6 +1,6 @@
 //! Streams that several callers share: what each call answers, what the history has of it, and when a shared stream ends.
 ghost use Rattle.std.specs.Prelude.{◌≡◌, ℕ, true, None};
-ghost use Rattle.strm_history.specs.Setup.{is_fit};
+ghost use Rattle.strm_call.specs.Setup.{is_fit};
 
 use super::{ECHO, are_writes, told};
 use std::alloc::Global;

@@ -1,5 +1,5 @@
 use Rattle.std.proofs.Common.{◌≡◌, ◌+◌, ◌≤◌, ◌++◌, length, map, Some, vec_len, vec_capacity}
-use Rattle.strm_qpair.specs.declared.end.TheConstants.{MOST_MODULES}
+use Rattle.strm_module.specs.declared.driver.TheConstants.{MOST_MODULES}
 use Rattle.strm_qpair.proofs.end.take_modules.Given as goal
 
 abbrev pub invariant-loop-pairs : goal.invariant-loop-pairs

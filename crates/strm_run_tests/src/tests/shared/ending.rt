@@ -7,16 +7,16 @@ use std::sync::Wait;
 use strm_head::{Answer, Reply, Request};
 use strm_history::Setup;
 use strm_module::{Boxed, Plain};
-use strm_shared::{EndFault, Ring, Seat, Shared, SharedFault};
+use strm_shared::{EndFault, Ring, RingFault, Seat, Shared};
 
 /// A number of messages, and whether a ring for so many is made for a line.
 const RINGS: &[(u16, bool)] = &[(0, false), (1, true), (4096, true), (4097, false)];
 
 /// Whether a ring is of this setup, or is refused where none is to be made.
-fn is_ring(made: Result<Ring, SharedFault>, setup: Setup, is_made: bool) -> bool {
+fn is_ring(made: Result<Ring, RingFault>, setup: Setup, is_made: bool) -> bool {
     match made {
         Ok(ring) => is_made && ring.setup() == setup,
-        Err(fault) => !is_made && fault == SharedFault::Ring && fault.number() == 1,
+        Err(fault) => !is_made && fault == RingFault::Slots && fault.number() == 1,
     }
 }
 

@@ -1,6 +1,6 @@
 //! Lines, which are fed through a ring: what is offered, what is asked, and what the history has of both.
 ghost use Rattle.std.specs.Prelude.{◌≡◌, ℕ, true, None};
-ghost use Rattle.strm_history.specs.Setup.{is_fit};
+ghost use Rattle.strm_call.specs.Setup.{is_fit};
 
 use super::{Left, answer, ended, leaves, made};
 use crate::tests::{bytes, came, data_of, line};

@@ -2,7 +2,7 @@
 ghost use Rattle.std.specs.Prelude.{◌≡◌, ℕ, true, None, IfSome};
 ghost use Rattle.std.specs.Thread.{IsSend, IsSync};
 ghost use Rattle.strm_msg.specs.Kind.{is_from_line};
-ghost use Rattle.strm_history.specs.Setup.{is_fit};
+ghost use Rattle.strm_call.specs.Setup.{is_fit};
 
 use super::{Left, answer, ended, leaves, made};
 use crate::tests::line;

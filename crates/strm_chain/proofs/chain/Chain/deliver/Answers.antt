@@ -1,4 +1,4 @@
-use Rattle.std.proofs.Common.{◌≡◌, ◌∙◌, false, sym, refl}
+use Rattle.std.proofs.Common.{◌∙◌, false, sym, refl}
 use Rattle.strm_chain.proofs.QuietLemmas.{same_end, same_trans}
 use Rattle.strm_chain.proofs.chain.Chain.deliver.Goals as goal
 

@@ -1,21 +1,19 @@
-use Rattle.std.proofs.Common.{◌≡◌, ◌∙◌, false, OnOk, ap, subst}
-use Rattle.strm_ends.specs.Image.{Image, partner, end_of}
+use Rattle.std.proofs.Common.{◌≡◌, ◌∙◌, false, OnOk, ap, subst, true, Some, [], slice_get, refl, arith}
+use Rattle.strm_module.specs.Driver.{partner}
+use Rattle.strm_module.specs.Calm.{is_calm, options_of}
+use Rattle.strm_ends.specs.Image.{Image, end_of}
 use Rattle.strm_chain.specs.Service.{move}
-use Rattle.strm_chain.specs.Hop.{carry_all}
 use Rattle.strm_ends.specs.declared.place.Place.TheVariants as Place
 use Rattle.strm_chain.proofs.HopLemmas.{carries_up, driver_moves, driver_stays}
-use Rattle.std.proofs.Common.{true, Some, [], slice_get, refl, arith}
-use Rattle.strm_module.specs.Calm.{is_calm}
 use Rattle.strm_module.proofs.CalmLemmas.{ordinary_calm}
 use Rattle.strm_qpair.proofs.NextLemmas.{drv_ordinary}
-use Rattle.strm_chain.specs.Hop.{up_hop}
-use Rattle.strm_module.specs.Calm.{options_of}
 use Rattle.strm_ends.specs.Count.{answers_options}
 use Rattle.strm_chain.specs.Count.{options_carried, are_calm_hops}
 use Rattle.strm_chain.proofs.CaseLemmas.{on_ok}
 use Rattle.strm_chain.proofs.CountLemmas.{one_calm, hop_adds}
 use Rattle.strm_chain.proofs.QuietLemmas.{same_trans}
 use Rattle.strm_chain.proofs.chain.Chain.move_driver.Goals as goal
+use Rattle.strm_chain.specs.Hop.{carry_all, up_hop}
 
 pub returns-in-Some-clause-ok : goal.returns-in-Some-clause-ok
 returns-in-Some-clause-ok g c =

@@ -1,6 +1,6 @@
-use Rattle.std.proofs.Common.{◌≡◌, ◌≤◌, ◌<◌, ◌∷◌, ◌∙◌, ap, sym, arith}
-use Rattle.std.proofs.Common.{true, None, refl}
+use Rattle.std.proofs.Common.{◌≡◌, ◌≤◌, ◌<◌, ◌∷◌, ◌∙◌, ap, sym, arith, true, None, refl}
 use Rattle.strm_module.specs.Calm.{is_calm, options_of}
+use Rattle.strm_module.specs.Driver.{partner}
 use Rattle.strm_qpair.specs.declared.driver.DriverSends.TheVariants.{Reply, Across}
 use Rattle.strm_ends.specs.Count.{answers_options, options_driven}
 use Rattle.strm_ends.specs.Image.{end_of, driver_does}
@@ -9,7 +9,6 @@ use Rattle.strm_chain.specs.Count.{options_carried}
 use Rattle.strm_chain.proofs.CountLemmas.{one_calm, hop_adds}
 use Rattle.strm_msg.specs.Message.{bare, ack_msg}
 use Rattle.strm_msg.specs.declared.kind.MsgKind.TheVariants.{MSetopts}
-use Rattle.strm_ends.specs.Image.{partner}
 use Rattle.strm_chain.specs.Hop.{carry_all, up_hop, down_hop, rank}
 use Rattle.strm_chain.proofs.HopLemmas.{carries_up, carries_two, driver_nothing, driver_reply, driver_across, driver_options}
 use Rattle.strm_chain.proofs.CaseLemmas.{on_ok, always}

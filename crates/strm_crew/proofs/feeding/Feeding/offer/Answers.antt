@@ -2,7 +2,7 @@ use Rattle.std.proofs.Common.{◌≡◌, true, ◌∷◌, ◌++◌, append_assoc
 use Rattle.std.specs.Vec.Iter.{into_iter_items}
 use Rattle.strm_msg.specs.Message.{Msg}
 use Rattle.strm_msg.specs.Kind.{is_from_line}
-use Rattle.strm_shared.specs.Feed.{FeedValue}
+use Rattle.strm_line.specs.Feed.{FeedValue}
 use Rattle.strm_crew.specs.Scripts.{feed_of}
 use Rattle.strm_crew.proofs.EachLemmas.{of_others}
 use Rattle.strm_crew.proofs.PartLemmas.{part_less, part_more}

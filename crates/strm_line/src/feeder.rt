@@ -3,8 +3,8 @@ ghost use Rattle.std.specs.Prelude.{◌≡◌, ◌≤◌, ◌<◌, ◌+◌, ◌�
 ghost use Rattle.strm_msg.specs.Kind.{is_from_line};
 ghost use Rattle.strm_queue.specs.Run.{one_more};
 ghost use Rattle.rtrb.specs.Ring.{sent, all_sent, known_free};
-ghost use Rattle.strm_shared.specs.Name.{producer_name, finished_name};
-ghost use Rattle.strm_shared.specs.Runs.{IsNextOf};
+ghost use Rattle.strm_line.specs.Name.{producer_name, finished_name};
+ghost use Rattle.strm_line.specs.Runs.{IsNextOf};
 
 use crate::ring::FromLine;
 use crate::runs::Runs;
@@ -28,8 +28,8 @@ pub struct Feeder<K, N: Runs<K>> {
 impl<K, N: Runs<K>> Model for Feeder<K, N> {
     ghost use Rattle.std.specs.Prelude.{◌≡◌, Some};
     ghost use Rattle.rtrb.specs.Ring.{sent, known_free};
-    ghost use Rattle.strm_shared.specs.Name.{producer_name};
-    ghost use Rattle.strm_shared.specs.Feed.{FeederValue};
+    ghost use Rattle.strm_line.specs.Name.{producer_name};
+    ghost use Rattle.strm_line.specs.Feed.{FeederValue};
 
     ghost Value = { FeederValue };
 
@@ -50,8 +50,8 @@ pub struct FeedEnd<K, N: Runs<K>> {
 impl<K, N: Runs<K>> Model for FeedEnd<K, N> {
     ghost use Rattle.std.specs.Prelude.{◌≡◌, Some};
     ghost use Rattle.rtrb.specs.Ring.{all_sent};
-    ghost use Rattle.strm_shared.specs.Name.{finished_name};
-    ghost use Rattle.strm_shared.specs.Feed.{FeedValue};
+    ghost use Rattle.strm_line.specs.Name.{finished_name};
+    ghost use Rattle.strm_line.specs.Feed.{FeedValue};
 
     ghost Value = { FeedValue };
 

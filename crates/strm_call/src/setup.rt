@@ -1,14 +1,14 @@
-//! How a stream that keeps its history is made.
+//! How a stream is opened.
 ghost use Rattle.std.specs.Prelude.{◌≡◌};
-ghost use Rattle.strm_head.specs.Step.{is_line};
-ghost use Rattle.strm_history.specs.Setup.{is_fit, is_ring};
+ghost use Rattle.strm_module.specs.Driver.{is_line};
+ghost use Rattle.strm_call.specs.Setup.{is_fit, is_ring};
 
-use strm_head::Driver;
+use strm_module::Driver;
 
 /// The most messages that the ring of a line holds.
 pub const MOST_RING: u16 = 4096;
 
-/// How a stream that keeps its history is made.
+/// How a stream that keeps its history is opened.
 #[derive(Clone, Copy, Debug, PartialEq, Eq)]
 pub struct Setup {
     /// The driver at the bottom.
@@ -27,7 +27,7 @@ impl Setup {
     pub fn is_line(&self) -> bool
         ensures { result ≡ is_line self.now.driver }
     {
-        self.driver == Driver::Line
+        self.driver.is_line()
     }
 
     /// Whether each low mark is below its high one.

@@ -1,12 +1,12 @@
 //! Where the messages of a line come in.
-ghost use Rattle.std.specs.Prelude.{◌≡◌, ◌++◌, ◌∷◌, [], true, false, None, List, IfNone, IfOk, IfSome, MatchOption, is_some};
+ghost use Rattle.std.specs.Prelude.{◌≡◌, ◌++◌, ◌∷◌, [], true, None, List, IfNone, IfOk, IfSome, is_some};
 ghost use Rattle.std.specs.Option.{option_map};
 ghost use Rattle.strm_msg.specs.Message.{Msg};
 ghost use Rattle.strm_msg.specs.Kind.{is_from_line};
 ghost use Rattle.rtrb.specs.Ring.{received, all_sent, IsFinishedOf};
-ghost use Rattle.strm_shared.specs.Name.{consumer_name};
-ghost use Rattle.strm_shared.specs.Feed.{accepted_of};
-ghost use Rattle.strm_shared.specs.Inlet.{fresh_inlet, taken_of, HasFed};
+ghost use Rattle.strm_line.specs.Name.{consumer_name};
+ghost use Rattle.strm_line.specs.Feed.{accepted_of};
+ghost use Rattle.strm_line.specs.Inlet.{fresh_inlet, taken_of, HasFed};
 
 use crate::feeder::FeedEnd;
 use crate::ring::FromLine;
@@ -29,7 +29,7 @@ pub struct Inlet<K, N: Runs<K>> {
 
 impl<K, N: Runs<K>> Model for Inlet<K, N> {
     ghost use Rattle.std.specs.Prelude.{is_some};
-    ghost use Rattle.strm_shared.specs.Inlet.{came_of, taken_of, InletValue, IsInlet};
+    ghost use Rattle.strm_line.specs.Inlet.{came_of, taken_of, InletValue, IsInlet};
 
     ghost Value = { InletValue };
 

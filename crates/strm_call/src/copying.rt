@@ -2,8 +2,9 @@
 ghost use Rattle.std.specs.Prelude.{◌≡◌, IfOk};
 ghost use Rattle.strm_call.specs.declared.request.Request.TheVariants as Requests;
 
+use crate::answer::copy_part;
+use crate::request::{Priority, PutFlag, Request};
 use std::alloc::Global;
-use strm_call::{Priority, PutFlag, Request, copy_part};
 use strm_module::{Boxed, BoxedShape, ModuleOf};
 use strm_msg::{Bytes, NoMem};
 
@@ -90,7 +91,7 @@ fn copy_str<P>(alloc: Global, cmd: u32, dat: &Option<Bytes>) -> Result<Request<P
 
 /// A request as a history has it: a copy, with the module's shape in the module's place. Refused for
 /// want of memory alone.
-pub(crate) fn copy_request<M: ModuleOf>(
+pub fn copy_request<M: ModuleOf>(
     alloc: Global,
     request: &Request<Boxed<M>>,
 ) -> Result<Request<BoxedShape<M::Kind>>, NoMem>

@@ -1,7 +1,7 @@
 use Rattle.std.proofs.Common.{◌≡◌, ◌+◌, ◌++◌, List, length}
 use Rattle.rtrb.specs.Ring.{received, known_items}
 use Rattle.strm_msg.specs.Message.{Msg}
-use Rattle.strm_shared.proofs.inlet.drained.Given as goal
+use Rattle.strm_line.proofs.inlet.drained.Given as goal
 
 -- what was popped is left behind what was left before, and the rest is still in the ring
 abbrev pub invariant-loop-at : goal.invariant-loop-at

@@ -1,5 +1,5 @@
 //! What happens to a stream.
-use strm_call::Request;
+use crate::request::Request;
 use strm_msg::BoxedMessage;
 
 /// One thing that happens to a stream. A push carries `P`: the module when the call is made, and the

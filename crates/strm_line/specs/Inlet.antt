@@ -6,8 +6,8 @@ use Rattle.rtrb.specs.declared.consumer.Consumer.{Consumer}
 use Rattle.rtrb.specs.Ring.{received}
 use Rattle.strm_msg.specs.Message.{Msg}
 use Rattle.strm_msg.specs.Kind.{is_from_line}
-use Rattle.strm_shared.specs.Name.{RingName, consumer_name}
-use Rattle.strm_shared.specs.Feed.{FeedValue}
+use Rattle.strm_line.specs.Name.{RingName, consumer_name}
+use Rattle.strm_line.specs.Feed.{FeedValue}
 
 -- where messages come in: the number of the stream, whether it is fed through a ring, the messages that have left the inlet, in
 -- order, and the one that is held back

@@ -1,18 +1,18 @@
 //! The ring of a line.
 ghost use Rattle.std.specs.Prelude.{◌≡◌, ◌↔◌, true, false, is_some, IfOk, IsErrOf};
-ghost use Rattle.strm_head.specs.Step.{is_line};
-ghost use Rattle.strm_history.specs.Setup.{is_ring};
-ghost use Rattle.strm_shared.specs.Feed.{fresh_feeder};
-ghost use Rattle.strm_shared.specs.Inlet.{fresh_inlet};
+ghost use Rattle.strm_module.specs.Driver.{is_line};
+ghost use Rattle.strm_call.specs.Setup.{is_ring};
+ghost use Rattle.strm_line.specs.Feed.{fresh_feeder};
+ghost use Rattle.strm_line.specs.Inlet.{fresh_inlet};
 
-use crate::fault::SharedFault;
+use crate::fault::RingFault;
 use crate::feeder::Feeder;
 use crate::inlet::Inlet;
 use crate::runs::Runs;
 use rtrb::{Consumer, Producer, Protocol, RingBuffer};
 use std::alloc::Global;
 use std::marker::Model;
-use strm_history::Setup;
+use strm_call::Setup;
 use strm_msg::Message;
 
 /// What goes through a ring: messages of kinds that come from a line.
@@ -42,10 +42,10 @@ pub struct Ring {
 impl Model for Ring {
     ghost use Rattle.std.specs.Prelude.{◌≡◌, is_some};
     ghost use Rattle.std.specs.Option.{option_map};
-    ghost use Rattle.strm_head.specs.Step.{is_line};
-    ghost use Rattle.strm_shared.specs.Name.{producer_name};
-    ghost use Rattle.strm_shared.specs.Feed.{RingValue};
-    ghost use Rattle.strm_shared.specs.Ring.{AreNew};
+    ghost use Rattle.strm_module.specs.Driver.{is_line};
+    ghost use Rattle.strm_line.specs.Name.{producer_name};
+    ghost use Rattle.strm_line.specs.Feed.{RingValue};
+    ghost use Rattle.strm_line.specs.Ring.{AreNew};
 
     ghost Value = { RingValue };
 
@@ -58,22 +58,22 @@ impl Ring {
     /// The ring for a stream that is made by this setup: for as many messages as the setup says if it is a line, and else
     /// none.
     ///
-    /// Refused with `Ring` exactly where the ring of a line does not hold 1 to 4096 messages, which is looked at first, and
+    /// Refused with `Slots` exactly where the ring of a line does not hold 1 to 4096 messages, which is looked at first, and
     /// with `NoMem` for want of memory.
-    pub fn new(alloc: Global, setup: Setup) -> Result<Ring, SharedFault>
+    pub fn new(alloc: Global, setup: Setup) -> Result<Ring, RingFault>
         ensures setup { IfOk result (λ ring. ring.setup ≡ setup) }
         ensures line { IfOk result (λ ring. is_some ring.name ≡ is_line setup.driver) }
-        ensures ring { IsErrOf result SharedFault.Ring ↔ (is_ring setup ≡ false) }
+        ensures slots { IsErrOf result RingFault.Slots ↔ (is_ring setup ≡ false) }
     {
         if !setup.is_ring() {
-            return Err(SharedFault::Ring);
+            return Err(RingFault::Slots);
         }
         if !setup.is_line() {
             return Ok(Ring { setup, ends: None });
         }
         let Ok(ends) = RingBuffer::with_protocol::<Global, FromLine>(alloc, setup.ring as usize)
         else {
-            return Err(SharedFault::NoMem);
+            return Err(RingFault::NoMem);
         };
         Ok(Ring {
             setup,

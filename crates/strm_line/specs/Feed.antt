@@ -1,9 +1,9 @@
 -- What a ring, a feeder and what it leaves are to a contract.
 use Rattle.std.specs.Prelude.{ℕ, Option, Some, None, List, [], if◌then◌else◌}
 use Rattle.strm_msg.specs.Message.{Msg}
-use Rattle.strm_head.specs.Step.{is_line}
-use Rattle.strm_history.specs.declared.setup.Setup.{Setup}
-use Rattle.strm_shared.specs.Name.{RingName}
+use Rattle.strm_module.specs.Driver.{is_line}
+use Rattle.strm_call.specs.declared.setup.Setup.{Setup}
+use Rattle.strm_line.specs.Name.{RingName}
 
 -- a ring that has no owner yet: the setup of the stream that it is for, and its name if that is a line
 pub record RingValue : Type 0 where

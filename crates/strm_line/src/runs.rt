@@ -10,8 +10,8 @@ pub trait Runs<K> {
     ghost use Rattle.strm_msg.specs.Message.{Msg};
     ghost use Rattle.strm_msg.specs.declared.words.End.{End};
     ghost use Rattle.strm_module.specs.declared.shape.Shape.{Shape};
-    ghost use Rattle.strm_head.specs.declared.event.Event.{Event};
-    ghost use Rattle.strm_shared.specs.Name.{RingName};
+    ghost use Rattle.strm_call.specs.declared.event.Event.{Event};
+    ghost use Rattle.strm_line.specs.Name.{RingName};
 
     /// Of a stream's number and a caller: the calls that the caller makes there, in order, or none where
     /// it may make any.

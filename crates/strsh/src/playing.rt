@@ -10,11 +10,11 @@ ghost use Rattle.strm_chart.specs.Chart.{chart_text};
 use crate::fault::Fault;
 use crate::options::Options;
 use std::alloc::Global;
+use std::fs;
 use std::io::{self, BufWriter, Write};
 use std::rt::Files;
 use std::sync::Wait;
 use std::thread::Threads;
-use std::{fs, mem};
 use strm_chart::chart;
 use strm_module::{Kind, Plain};
 use strm_plan::{Plan, parse};
@@ -75,8 +75,7 @@ fn put_out<R: Print>(
     put(outcome, as_chart, &mut out).map_err(|_| Fault::Write)
 }
 
-/// Plays the script that a command line names, and prints its transcript, or its chart where that is asked for. What is left of
-/// the run is not taken apart: the program ends now, and its memory with it.
+/// Plays the script that a command line names, and prints its transcript, or its chart where that is asked for.
 ///
 /// Refused where the command line is no good, the script cannot be read, it is no script, it does
 /// not run or what it leaves cannot be printed, in this order.
@@ -88,7 +87,5 @@ pub fn serve<R: Files + Print + Threads + Wait + AllocGlobal + Sync>(
     let options = Options::read(alloc, words)?;
     let plan = plan_at(rt, alloc, options.path)?;
     let outcome = play_plan::<Plain, R>(rt, alloc, plan, options.workers)?;
-    let printed = put_out(rt, alloc, &outcome, options.chart);
-    mem::forget(outcome);
-    printed
+    put_out(rt, alloc, &outcome, options.chart)
 }

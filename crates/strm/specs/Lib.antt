@@ -16,6 +16,8 @@ pub use Rattle.strm_chain.specs.Service
 pub use Rattle.strm_head.specs.Begin
 pub use Rattle.strm_head.specs.Step
 pub use Rattle.strm_call.specs.Setup
+pub use Rattle.strm_job.specs.Scripts
+pub use Rattle.strm_job.specs.There
 pub use Rattle.strm_history.specs.Opened
 pub use Rattle.strm_history.specs.Entry
 pub use Rattle.strm_history.specs.History
@@ -27,5 +29,5 @@ pub use Rattle.strm_verb.specs.Naming
 pub use Rattle.strm_script.specs.Fields
 pub use Rattle.strm_script.specs.Lines
 pub use Rattle.strm_chart.specs.Chart
-pub use Rattle.strm_play.specs.Playing
+pub use Rattle.strm_plan.specs.Handing
 pub use Rattle.strm_play.specs.Played

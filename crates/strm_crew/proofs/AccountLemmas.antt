@@ -15,7 +15,7 @@ use Rattle.strm_shared.specs.Seat.{SeatValue}
 use Rattle.strm_shared.specs.Ending.{IsReceiptOf}
 use Rattle.strm_crew.specs.Account.{numbers_to, AreReceipts, HasReceipts}
 use Rattle.strm_crew.specs.Run.{RunValue}
-use Rattle.strm_crew.specs.Scripts.{calls_on, script_of}
+use Rattle.strm_job.specs.Scripts.{calls_on, script_of}
 
 -- the first elements, with the next one, and how many they are
 take_next : {A : Type 0} (all : List A) (count : ℕ) (one : A) → slice_get all count ≡ Some one → take (suc count) all ≡ take count all ++ one ∷ []

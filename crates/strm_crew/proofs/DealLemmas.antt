@@ -6,9 +6,9 @@ use Rattle.std.proofs.lemmas.Bool.{eqb-true, eqb-false}
 use Rattle.std.proofs.lemmas.List.{length-set, get_or-set_same, get_or-set_other}
 use Rattle.strm_module.specs.declared.shape.Shape.{Shape}
 use Rattle.strm_shared.specs.Seat.{SeatValue}
-use Rattle.strm_crew.specs.declared.script.ScriptCall.{ScriptCall}
-use Rattle.strm_crew.specs.declared.script.Script.{Script}
-use Rattle.strm_crew.specs.Scripts.{calls_on, script_of}
+use Rattle.strm_job.specs.declared.script.ScriptCall.{ScriptCall}
+use Rattle.strm_job.specs.declared.script.Script.{Script}
+use Rattle.strm_job.specs.Scripts.{calls_on, script_of}
 use Rattle.strm_crew.specs.Run.{RunValue}
 use Rattle.strm_crew.specs.Play.{IsPlayer, IsSeated}
 use Rattle.strm_crew.specs.Dealing.{callers_of, AreDealt, AreSeated}

@@ -1,7 +1,6 @@
 pub mod AccountLemmas
 pub mod ArrivalLemmas
 pub mod DealLemmas
-pub mod EachLemmas
 pub mod FeedLemmas
 pub mod PartLemmas
 pub mod PlayLemmas

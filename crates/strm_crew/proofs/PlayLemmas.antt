@@ -6,8 +6,8 @@ use Rattle.strm_module.specs.declared.shape.Shape.{Shape}
 use Rattle.strm_call.specs.declared.event.Event.TheVariants.{Asked}
 use Rattle.strm_shared.specs.Seat.{SeatValue}
 use Rattle.strm_shared.specs.Ending.{SharedValue}
-use Rattle.strm_crew.specs.declared.script.ScriptCall.{ScriptCall}
-use Rattle.strm_crew.specs.Scripts.{calls_on, script_of}
+use Rattle.strm_job.specs.declared.script.ScriptCall.{ScriptCall}
+use Rattle.strm_job.specs.Scripts.{calls_on, script_of}
 use Rattle.strm_crew.specs.Run.{RunValue}
 use Rattle.strm_crew.specs.Play.{ArePlayed, AreStreams, IsPlayer, IsSeated}
 

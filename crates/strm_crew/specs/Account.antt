@@ -9,7 +9,7 @@ use Rattle.strm_history.specs.History.{entry_at}
 use Rattle.strm_history.specs.Receipt.{ReceiptValue}
 use Rattle.strm_shared.specs.Seat.{SeatValue}
 use Rattle.strm_crew.specs.Run.{RunValue}
-use Rattle.strm_crew.specs.Scripts.{calls_on, script_of}
+use Rattle.strm_job.specs.Scripts.{calls_on, script_of}
 
 -- the numbers of so many calls, counted from 1
 abbrev pub numbers_to : ℕ → List ℕ

@@ -1,4 +1,4 @@
-pub mod Scripts
+pub mod Rings
 pub mod Run
 pub mod Transcript
 pub mod Account

@@ -13,8 +13,8 @@ use Rattle.strm_history.specs.contracts.call.Called as called
 use Rattle.strm_shared.specs.Seat.{SeatValue}
 use Rattle.strm_line.specs.Feed.{FeedValue}
 use Rattle.strm_shared.specs.Ending.{SharedValue}
-use Rattle.strm_crew.specs.declared.script.ScriptCall.{ScriptCall}
-use Rattle.strm_crew.specs.Scripts.{calls_on, script_of, feed_of}
+use Rattle.strm_job.specs.declared.script.ScriptCall.{ScriptCall}
+use Rattle.strm_job.specs.Scripts.{calls_on, script_of, feed_of}
 use Rattle.strm_crew.specs.Run.{RunValue}
 use Rattle.strm_crew.specs.Transcript.{IsPartOf}
 

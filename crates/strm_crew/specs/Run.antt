@@ -7,8 +7,8 @@ use Rattle.strm_module.specs.declared.vocabulary.Kinds.{Ghosts}
 use Rattle.strm_module.specs.contracts.boxed.Boxed as boxed
 use Rattle.strm_call.specs.declared.setup.Setup.{Setup}
 use Rattle.strm_history.specs.contracts.call.Called as called
-use Rattle.strm_crew.specs.declared.script.Script.{Script}
-use Rattle.strm_crew.specs.declared.script.Feed.{Feed}
+use Rattle.strm_job.specs.declared.script.Script.{Script}
+use Rattle.strm_job.specs.declared.script.Feed.{Feed}
 
 -- what becomes of a call fits into memory, as each type does that a compiler takes: for modules and kinds of these types
 abbrev pub CallsFit : (M K : RattleType) → Ghosts K.Denot → Type 0

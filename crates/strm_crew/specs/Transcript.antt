@@ -15,7 +15,7 @@ use Rattle.strm_history.specs.History.{arrivals, own, Legal}
 use Rattle.strm_history.specs.Serials.{AreAccounted}
 use Rattle.strm_history.specs.declared.transcript.StreamLog.{StreamLog}
 use Rattle.strm_history.specs.Opened.{opened}
-use Rattle.strm_crew.specs.Scripts.{calls_on, script_of, feed_of}
+use Rattle.strm_job.specs.Scripts.{calls_on, script_of, feed_of}
 use Rattle.strm_crew.specs.Run.{RunValue}
 
 -- a message came in (no public clause cites it)

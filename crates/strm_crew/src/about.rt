@@ -32,7 +32,8 @@ pub struct Of<N>(PhantomData<N>);
 
 impl<K, N: Plays<K>> Runs<K> for Of<N> {
     ghost use Rattle.std.specs.Prelude.{Some};
-    ghost use Rattle.strm_crew.specs.Scripts.{calls_on, script_of, feed_of, ring_of};
+    ghost use Rattle.strm_job.specs.Scripts.{calls_on, script_of, feed_of};
+    ghost use Rattle.strm_crew.specs.Rings.{ring_of};
 
     ghost calls = { λ number caller. Some (calls_on number (script_of N.run.scripts caller)) };
 

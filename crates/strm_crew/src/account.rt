@@ -2,7 +2,7 @@
 ghost use Rattle.std.specs.Prelude.{◌≡◌, ◌↔◌, ◌+◌, true, All, slice_get, IfOk, OnOk, Some};
 ghost use Rattle.strm_call.specs.declared.event.Event.TheVariants.{Asked};
 ghost use Rattle.strm_crew.specs.Account.{HasReceipts, IsHeld};
-ghost use Rattle.strm_crew.specs.Scripts.{calls_on, script_of};
+ghost use Rattle.strm_job.specs.Scripts.{calls_on, script_of};
 ghost use Rattle.strm_crew.specs.Play.{CallsDoFit};
 
 use crate::about::{Of, Plays};

@@ -9,8 +9,8 @@ mod about;
 mod account;
 mod dealing;
 mod feeding;
+mod gate;
 mod player;
-mod script;
 mod streams;
 mod transcript;
 
@@ -18,7 +18,7 @@ pub use about::{Of, Plays};
 pub use account::{Account, holds_all};
 pub use dealing::{deal, seated};
 pub use feeding::{Feeding, Offered};
+pub use gate::Gate;
 pub use player::{Played, Player, play_each};
-pub use script::{Feed, Gate, Script, ScriptCall};
 pub use streams::Streams;
 pub use transcript::log_of;

@@ -4,11 +4,12 @@ ghost use Rattle.strm_crew.specs.Play.{ArePlayed, CallsDoFit, IsPlayer};
 
 use crate::about::Plays;
 use crate::account::{Account, call_on};
-use crate::script::{Gate, ScriptCall};
+use crate::gate::Gate;
 use crate::streams::Streams;
 use std::alloc::Global;
 use std::marker::Model;
 use std::sync::Wait;
+use strm_job::ScriptCall;
 use strm_module::{Boxed, ModuleOf};
 use strm_msg::NoMem;
 

@@ -9,13 +9,13 @@ use std::marker::Brand;
 use std::rt::Files;
 use std::sync::Wait;
 use std::{io, vec};
-use strm_crew::{Feed, Script, ScriptCall, log_of};
+use strm_crew::log_of;
 use strm_head::{Answer, Refusal};
 use strm_history::{Call, Called, Receipt, Setup, StreamLog, Transcript};
+use strm_job::{Feed, Script, ScriptCall};
 use strm_module::{Boxed, Kind, ModuleOf, Plain};
 use strm_msg::{Message, NoMem};
-use strm_plan::{Plan, parse};
-use strm_play::{Handed, hand_over};
+use strm_plan::{Handed, Plan, hand_over, parse};
 use strm_script::print;
 use strm_shared::{EndFault, Ended, Feeder, Ring, Runs, Seat, Shared};
 

@@ -1,5 +1,7 @@
 pub mod FieldLemmas
+pub mod HandingLemmas
 pub mod LineLemmas
+pub mod MoreLemmas
 pub mod SoundLemmas
 pub mod StepLemmas
 pub mod StreamLemmas

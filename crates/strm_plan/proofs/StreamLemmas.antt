@@ -12,7 +12,7 @@ use Rattle.strm_plan.specs.Plan.{Streams, process_view, feed_view}
 use Rattle.strm_plan.specs.Reading.{has_feed}
 use Rattle.strm_plan.specs.Targets.{stream_names, stream_of}
 use Rattle.strm_plan.specs.declared.plan.ProcessDecl.{ProcessDecl}
-use Rattle.strm_plan.specs.declared.plan.FeedDecl.{FeedDecl}
+use Rattle.strm_job.specs.declared.script.Feed.{Feed}
 
 abbrev at : ℕ → Driver → ℕ × Driver
 at number driver = (number, driver)
@@ -75,6 +75,6 @@ any_name wanted [] = refl
 any_name wanted (process ∷ processes) = ap (λ (b : Bool). bytes_eq wanted process.name.items || b) (any_name wanted processes)
 
 -- a feed for some stream
-pub any_feed : (number : ℕ) (feeds : List FeedDecl) → list_any (λ (feed : FeedDecl). feed.stream == number) feeds ≡ has_feed (map feed_view feeds) number
+pub any_feed : (number : ℕ) (feeds : List Feed) → list_any (λ (feed : Feed). feed.stream == number) feeds ≡ has_feed (map feed_view feeds) number
 any_feed number [] = refl
 any_feed number (feed ∷ feeds) = ap (λ (b : Bool). (feed.stream == number) || b) (any_feed number feeds)

@@ -3,6 +3,6 @@ pub mod Targets
 pub mod Reading
 pub mod Spelling
 pub mod Sound
-pub mod Calls
+pub mod Handing
 pub mod Fault
 pub mod Load

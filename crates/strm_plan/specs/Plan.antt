@@ -3,11 +3,12 @@ use Rattle.std.specs.Prelude.{ℕ, List, map}
 use Rattle.arrayvec.specs.ArrayVec.{ArrayVec}
 use Rattle.strm_msg.specs.Message.{Msg}
 use Rattle.strm_msg.specs.declared.words.End.{End}
+use Rattle.strm_module.specs.declared.shape.Shape.{Shape}
 use Rattle.strm_call.specs.declared.setup.Setup.{Setup}
 use Rattle.strm_verb.specs.Table.{Asked, asked_of}
-use Rattle.strm_plan.specs.declared.plan.CallLine.{CallLine}
+use Rattle.strm_job.specs.declared.script.ScriptCall.{ScriptCall}
+use Rattle.strm_job.specs.declared.script.Feed.{Feed}
 use Rattle.strm_plan.specs.declared.plan.ProcessDecl.{ProcessDecl}
-use Rattle.strm_plan.specs.declared.plan.FeedDecl.{FeedDecl}
 use Rattle.strm_plan.specs.declared.plan.Plan.{Plan}
 use Rattle.strm_plan.specs.declared.draft.Current.{Current}
 use Rattle.strm_plan.specs.declared.draft.Draft.{Draft}
@@ -55,7 +56,7 @@ pub record Partial (K : Type 0) : Type 0 where
 -- ---- the values of the code, without where they lie in memory
 
 -- a call
-abbrev pub call_view : {K : Type 0} → CallLine K → Call K
+abbrev pub call_view : {K : Type 0} → ScriptCall (Shape K) → Call K
 call_view line = record { stream = line.stream; end = line.call.end; asked = asked_of line.call.request }
 
 -- a process, its calls without their places in memory
@@ -63,7 +64,7 @@ abbrev pub process_view : {K : Type 0} → ProcessDecl K → Process K
 process_view process = record { name = process.name.items; calls = map call_view process.calls.items }
 
 -- what a line is fed with
-abbrev pub feed_view : FeedDecl → Fed
+abbrev pub feed_view : Feed → Fed
 feed_view feed = record { stream = feed.stream; messages = feed.messages.items }
 
 -- the streams, with the bytes of their names

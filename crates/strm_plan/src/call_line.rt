@@ -5,13 +5,13 @@ ghost use Rattle.strm_plan.specs.Reading as reading;
 ghost use Rattle.strm_plan.specs.declared.draft.TheConstants.{MOST_STREAMS};
 ghost use Rattle.strm_verb.specs.Fault.{Gives};
 
-use crate::call::CallDecl;
-use crate::plan::{CallLine, Name};
+use crate::plan::Name;
 use crate::target::target_of;
 use indexmap::IndexMap;
 use std::alloc::Global;
-use strm_call::Setup;
-use strm_verb::{Cause, ReadError, ReadKind, Verb, request_at};
+use strm_call::{Call, Setup};
+use strm_job::ScriptCall;
+use strm_verb::{Cause, PushDecl, ReadError, ReadKind, Verb, request_at};
 
 /// How many modules were declared when this call is.
 pub(crate) fn modules_after(verb: Verb, modules: u64) -> u64
@@ -32,7 +32,7 @@ fn placed_call<K: ReadKind>(
     verb: Verb,
     target: &[u8],
     texts: &[&[u8]],
-) -> Result<CallLine<K>, ReadError>
+) -> Result<ScriptCall<PushDecl<K>>, ReadError>
     requires { length streams.now.entries ≤ MOST_STREAMS }
     ensures { Gives call_view result (reading.placed_call K.words (streams_view streams.now.entries) serial verb target.now (map (λ text. text.now) texts.now)) }
 {
@@ -40,8 +40,8 @@ fn placed_call<K: ReadKind>(
         return Err(ReadError::Fault(Cause::NoSuch));
     };
     let request = request_at(alloc, serial, verb, texts)?;
-    let call = CallDecl { end, request };
-    Ok(CallLine { stream, call })
+    let call = Call { end, request };
+    Ok(ScriptCall { stream, call })
 }
 
 /// The call of this verb with these fields: NAME:END and what follows it.
@@ -52,7 +52,7 @@ pub(crate) fn call_at<K: ReadKind>(
     serial: u64,
     verb: Verb,
     texts: &[&[u8]],
-) -> Result<CallLine<K>, ReadError>
+) -> Result<ScriptCall<PushDecl<K>>, ReadError>
     requires { length streams.now.entries ≤ MOST_STREAMS }
     ensures { Gives call_view result (reading.call_at K.words (streams_view streams.now.entries) serial verb (map (λ text. text.now) texts.now)) }
 {

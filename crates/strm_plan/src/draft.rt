@@ -7,13 +7,14 @@ ghost use Rattle.strm_verb.specs.Fault.{Gives};
 
 use crate::call_line::{call_at, modules_after};
 use crate::names::{add_stream, process_name, stream_name};
-use crate::plan::{FeedDecl, Name, Plan, ProcessDecl};
+use crate::plan::{Name, Plan, ProcessDecl};
 use crate::setup::{arity, driver_at, setup_at};
 use crate::target::stream_at;
 use indexmap::IndexMap;
 use std::alloc::Global;
 use std::mem;
 use strm_call::Setup;
+use strm_job::Feed;
 use strm_module::Driver;
 use strm_text::{fields, is_allowed};
 use strm_verb::{Cause, MessageWord, ReadError, ReadKind, Verb, message_at};
@@ -41,7 +42,7 @@ enum Current<K> {
     /// To a process.
     Process(ProcessDecl<K>),
     /// To a feed.
-    Feed(FeedDecl),
+    Feed(Feed),
 }
 
 /// A plan while it is read: what has ended, how many modules were declared, and what goes on.
@@ -52,7 +53,7 @@ pub(crate) struct Draft<K> {
     /// The processes that have ended.
     processes: Vec<ProcessDecl<K>>,
     /// The feeds that have ended.
-    feeds: Vec<FeedDecl>,
+    feeds: Vec<Feed>,
     /// How many modules were declared, by all processes.
     modules: u64,
     /// What goes on.
@@ -67,7 +68,7 @@ fn has_room(streams: &IndexMap<Name, Setup>) -> bool
 }
 
 /// Whether a line has a feed.
-fn has_feed(feeds: &[FeedDecl], number: u32) -> bool
+fn has_feed(feeds: &[Feed], number: u32) -> bool
     ensures { result ≡ reading.has_feed (map feed_view feeds.now) number }
 {
     feeds.iter().any(|feed| feed.stream == number)
@@ -169,7 +170,7 @@ impl<K: ReadKind> Draft<K> {
             return Err(ReadError::Fault(Cause::OutOfPlace));
         }
         let messages = Vec::new(alloc);
-        self.current = Current::Feed(FeedDecl { stream, messages });
+        self.current = Current::Feed(Feed { stream, messages });
         Ok(())
     }
 
@@ -201,7 +202,7 @@ impl<K: ReadKind> Draft<K> {
     fn message_line(
         &mut self,
         alloc: Global,
-        mut feed: FeedDecl,
+        mut feed: Feed,
         word: MessageWord,
         texts: &[&[u8]],
     ) -> Result<(), ReadError>
@@ -238,7 +239,7 @@ impl<K: ReadKind> Draft<K> {
     fn feed_word(
         &mut self,
         alloc: Global,
-        feed: FeedDecl,
+        feed: Feed,
         word: &[u8],
         texts: &[&[u8]],
     ) -> Result<(), ReadError>

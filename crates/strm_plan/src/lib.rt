@@ -2,20 +2,22 @@
 //! are fed with.
 #![tactic(auto)]
 
-mod call;
 mod call_line;
 mod draft;
 mod fault;
+mod handing;
 mod loading;
 mod names;
 mod parsing;
 mod plan;
+mod pushing;
 mod setup;
 mod target;
 
-pub use call::CallDecl;
 pub use fault::ScriptFault;
+pub use handing::{Handed, hand_over};
 pub use loading::{LoadFault, MOST_READ, load};
 pub use parsing::{LONGEST_SCRIPT, parse};
-pub use plan::{CallLine, FeedDecl, Name, Plan, ProcessDecl};
+pub use plan::{Name, Plan, ProcessDecl};
+pub use pushing::PlayModule;
 pub use strm_verb::{Cause, PushDecl, ReadKind};

@@ -1,3 +1,1 @@
 pub mod FaultLemmas
-pub mod MoreLemmas
-pub mod PlanLemmas

@@ -1,3 +1,2 @@
-pub mod Playing
 pub mod Played
 pub mod Fault

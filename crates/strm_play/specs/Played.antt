@@ -1,15 +1,14 @@
 -- What a script that was played leaves.
-use Rattle.std.specs.Prelude.{◌≡◌, ℕ, ◌<◌, ◌==◌, Bool, true, false, not, List, [], ◌∷◌, length, map, get_or, Ok, Err, if◌then◌else◌}
-use Rattle.strm_msg.specs.Message.{Msg}
+use Rattle.std.specs.Prelude.{◌≡◌, ℕ, ◌<◌, Bool, true, false, not, List, [], length, map, get_or, Ok, Err}
 use Rattle.strm_module.specs.declared.shape.Shape.{Shape}
 use Rattle.strm_module.specs.Kinds.{Meaning}
 use Rattle.strm_call.specs.declared.setup.Setup.{Setup}
 use Rattle.strm_history.specs.History.{own}
 use Rattle.strm_history.specs.Entry.{asked_of}
-use Rattle.strm_crew.specs.declared.script.ScriptCall.{ScriptCall}
+use Rattle.strm_job.specs.declared.script.ScriptCall.{ScriptCall}
 use Rattle.strm_history.specs.declared.transcript.StreamLog.{StreamLog}
-use Rattle.strm_crew.specs.Scripts.{calls_on}
-use Rattle.strm_run.specs.There.{is_crew}
+use Rattle.strm_job.specs.Scripts.{calls_on, feed_of}
+use Rattle.strm_job.specs.There.{is_crew}
 use Rattle.strm_crew.specs.Transcript.{IsFed, IsLegal}
 use Rattle.strm_run.specs.declared.fault.RunFault.{RunFault}
 use Rattle.strm_run.specs.declared.fault.RunFault.TheVariants as runs
@@ -18,7 +17,7 @@ use Rattle.strm_plan.specs.Plan.{plan_view}
 use Rattle.strm_plan.specs.Reading.{spelt}
 use Rattle.strm_plan.specs.Spelling.{Spells}
 use Rattle.strm_plan.specs.declared.plan.Plan.{Plan}
-use Rattle.strm_play.specs.Playing.{setups_of, calls_of_processes, fed, names_of}
+use Rattle.strm_plan.specs.Handing.{setups_of, calls_of_processes, names_of}
 use Rattle.strm_play.specs.declared.playing.Outcome.{Outcome}
 use Rattle.strm_play.specs.declared.fault.PlayFault.{PlayFault}
 use Rattle.strm_play.specs.declared.fault.PlayFault.TheVariants.{Script, Run}
@@ -26,11 +25,6 @@ use Rattle.strm_play.specs.declared.fault.PlayFault.TheVariants.{Script, Run}
 -- the calls of a process, by its number; there are none past the last
 abbrev pub calls_of : {K : Type 0} → Plan K → ℕ → List (ScriptCall (Shape K))
 calls_of plan caller = get_or (calls_of_processes plan.processes.items) caller []
-
--- the messages that feeds have for a stream
-abbrev pub messages_for : List (ℕ × List Msg) → ℕ → List Msg
-messages_for [] number = []
-messages_for (feed ∷ feeds) number = if feed.0 == number then feed.1 else messages_for feeds number
 
 -- what is left of a plan that was played are its names; each stream that it declares has a log, in order, with a legal history that
 -- has each process's calls there, in order, and in which what came in is of the stream's feed
@@ -40,7 +34,7 @@ pub record IsPlayedPlan {K : Type 0} (means : Meaning K) (plan : Plan K) (outcom
   pub many : length outcome.transcript.streams.items ≡ length (setups_of plan)
   pub legal : (k : ℕ) (setup : Setup) (log : StreamLog K) → k < length (setups_of plan) → IsLegal means (get_or (setups_of plan) k setup) (get_or outcome.transcript.streams.items k log)
   pub calls : (k caller : ℕ) (log : StreamLog K) → k < length (setups_of plan) → map asked_of (own caller (get_or outcome.transcript.streams.items k log).history.items) ≡ calls_on k (calls_of plan caller)
-  pub arrivals : (k : ℕ) (log : StreamLog K) → k < length (setups_of plan) → IsFed (messages_for (map fed plan.feeds.items) k) (get_or outcome.transcript.streams.items k log)
+  pub arrivals : (k : ℕ) (log : StreamLog K) → k < length (setups_of plan) → IsFed (feed_of plan.feeds.items k) (get_or outcome.transcript.streams.items k log)
 
 -- the plan is what the script spells, and it was played
 pub record IsPlayed {K : Type 0} (means : Meaning K) (words : KindWords K) (bytes : List ℕ) (outcome : Outcome K) : Type 0 where

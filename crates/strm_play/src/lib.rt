@@ -3,11 +3,8 @@
 #![tactic(auto)]
 
 mod fault;
-mod handing;
 mod playing;
-mod pushing;
 
 pub use fault::PlayFault;
-pub use handing::{Handed, hand_over};
 pub use playing::{Outcome, play, play_plan};
-pub use pushing::PlayModule;
+pub use strm_plan::{Handed, PlayModule, hand_over};

@@ -1,20 +1,18 @@
 //! A script is read and run.
 ghost use Rattle.std.specs.Prelude.{◌≡◌, true, IfOk, IfErr};
 ghost use Rattle.strm_crew.specs.Run.{CallsFit};
-ghost use Rattle.strm_run.specs.There.{is_crew};
+ghost use Rattle.strm_job.specs.There.{is_crew};
 ghost use Rattle.strm_plan.specs.Plan.{plan_view};
 ghost use Rattle.strm_plan.specs.Sound.{IsSound};
 ghost use Rattle.strm_play.specs.Played.{IsPlayed, IsPlayedPlan, IsFaultOf, may_have};
 
 use crate::fault::PlayFault;
-use crate::handing::{Handed, hand_over};
-use crate::pushing::PlayModule;
 use std::alloc::Global;
 use std::sync::Wait;
 use std::thread::Threads;
 use strm_history::SameKind;
 use strm_module::Kind;
-use strm_plan::{Plan, ReadKind, parse};
+use strm_plan::{Handed, Plan, PlayModule, ReadKind, hand_over, parse};
 use strm_run::{Gate, RunFault, Transcript, run};
 
 /// What is left of a script that was played.

@@ -21,9 +21,9 @@ use Rattle.strm_shared.specs.Turns.{AreFirstOf}
 use Rattle.strm_line.specs.Feed.{FeedValue, accepted_of}
 use Rattle.strm_shared.specs.Ending.{SharedValue, AreSeats, CountsAgree, is_fed}
 use Rattle.strm_run.specs.declared.fault.RunFault.{RunFault}
-use Rattle.strm_crew.specs.declared.script.Script.{Script}
+use Rattle.strm_job.specs.declared.script.Script.{Script}
 use Rattle.strm_history.specs.declared.transcript.StreamLog.{StreamLog}
-use Rattle.strm_crew.specs.Scripts.{calls_on, script_of, feed_of}
+use Rattle.strm_job.specs.Scripts.{calls_on, script_of, feed_of}
 use Rattle.strm_crew.specs.Account.{HasReceipts}
 use Rattle.strm_crew.specs.Run.{RunValue}
 use Rattle.strm_crew.specs.Transcript.{AreLogs, IsFed, IsLog, IsPartOf}

@@ -8,9 +8,9 @@ use Rattle.strm_msg.specs.Message.{Msg}
 use Rattle.strm_module.specs.Driver.{is_line}
 use Rattle.strm_call.specs.declared.setup.Setup.{Setup}
 use Rattle.strm_line.specs.Feed.{fresh_feeder, FeederValue}
-use Rattle.strm_crew.specs.declared.script.Feed.{Feed}
-use Rattle.strm_crew.specs.Scripts.{feed_of}
-use Rattle.strm_run.specs.There.{line_is_there}
+use Rattle.strm_job.specs.declared.script.Feed.{Feed}
+use Rattle.strm_job.specs.Scripts.{feed_of}
+use Rattle.strm_job.specs.There.{line_is_there}
 use Rattle.strm_crew.specs.Run.{RunValue}
 use Rattle.strm_crew.specs.Play.{IsFeeding}
 use Rattle.strm_crew.specs.Dealing.{callers_of}

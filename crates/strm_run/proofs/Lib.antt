@@ -1,6 +1,5 @@
 pub mod EndingLemmas
 pub mod FeedsLemmas
-pub mod OnceLemmas
 pub mod OpeningLemmas
 pub mod RunLemmas
 pub mod TableLemmas

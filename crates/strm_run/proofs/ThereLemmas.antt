@@ -8,10 +8,10 @@ use Rattle.strm_msg.specs.Kind.{is_from_line}
 use Rattle.strm_msg.specs.declared.words.End.{End}
 use Rattle.strm_module.specs.Driver.{is_line}
 use Rattle.strm_call.specs.declared.setup.Setup.{Setup}
-use Rattle.strm_crew.specs.declared.script.Script.{Script}
-use Rattle.strm_crew.specs.declared.script.Feed.{Feed}
-use Rattle.strm_crew.specs.Scripts.{feed_of}
-use Rattle.strm_run.specs.There.{end_is_there, line_is_there, AreThere}
+use Rattle.strm_job.specs.declared.script.Script.{Script}
+use Rattle.strm_job.specs.declared.script.Feed.{Feed}
+use Rattle.strm_job.specs.Scripts.{feed_of}
+use Rattle.strm_job.specs.There.{end_is_there, line_is_there, AreThere}
 use Rattle.strm_crew.specs.Run.{RunValue}
 use Rattle.strm_run.specs.Inside.Opening.{AreFeeds}
 use Rattle.strm_run.specs.Inside.Ending.{AreLinesFed}

@@ -1,3 +1,2 @@
-pub mod There
 pub mod Fault
 pub mod Inside

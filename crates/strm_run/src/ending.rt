@@ -4,7 +4,7 @@ ghost use Rattle.strm_module.specs.Driver.{is_line};
 ghost use Rattle.strm_crew.specs.Transcript.{AreLogs, IsLog};
 ghost use Rattle.strm_crew.specs.Play.{ArePlayed, HasPlayed};
 ghost use Rattle.strm_run.specs.Inside.Ending.{is_end_refused, overrun_of, AreLinesFed, AreParted, AreSeatsPlayed, IsLate, IsOffered, IsStream, Leaves};
-ghost use Rattle.strm_crew.specs.Scripts.{feed_of};
+ghost use Rattle.strm_job.specs.Scripts.{feed_of};
 
 use crate::fault::RunFault;
 use crate::feeds::offered_on;

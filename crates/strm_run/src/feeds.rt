@@ -6,7 +6,8 @@ ghost use Rattle.strm_run.specs.Inside.Opening.{lines_of, AreFeeders, AreFeeds};
 use crate::table::empty_rows;
 use std::alloc::Global;
 use std::mem;
-use strm_crew::{Feed, Feeding, Of, Offered, Plays};
+use strm_crew::{Feeding, Of, Offered, Plays};
+use strm_job::Feed;
 use strm_msg::{Message, NoMem};
 use strm_shared::Feeder;
 

@@ -8,14 +8,13 @@
 mod ending;
 mod fault;
 mod feeds;
-mod judge;
 mod opening;
 mod running;
 mod table;
 mod threads;
 
 pub use fault::RunFault;
-pub use judge::{MOST_WORKERS, are_from_line, are_setups};
 pub use running::run;
-pub use strm_crew::{Feed, Gate, Script, ScriptCall};
+pub use strm_crew::Gate;
 pub use strm_history::{StreamLog, Transcript};
+pub use strm_job::{Feed, MOST_WORKERS, Script, ScriptCall, are_from_line, are_setups};

@@ -6,7 +6,6 @@
 #![tactic(auto)]
 
 mod fault;
-mod options;
 mod playing;
 
 use fault::Fault;

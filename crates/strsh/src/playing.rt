@@ -8,7 +8,6 @@ ghost use Rattle.strm_script.specs.Lines.{transcript_text};
 ghost use Rattle.strm_chart.specs.Chart.{chart_text};
 
 use crate::fault::Fault;
-use crate::options::Options;
 use std::alloc::Global;
 use std::fs;
 use std::io::{self, BufWriter, Write};
@@ -20,6 +19,7 @@ use strm_module::{Kind, Plain};
 use strm_plan::{Plan, parse};
 use strm_play::{Outcome, play_plan};
 use strm_script::{LoadFault, load, print};
+use strsh_options::Options;
 
 /// How much is printed at once, in bytes.
 const BUFFER: usize = 65_536;

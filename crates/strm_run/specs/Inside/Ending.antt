@@ -18,7 +18,7 @@ use Rattle.strm_shared.specs.Ending.{SharedValue}
 use Rattle.strm_run.specs.declared.fault.RunFault.{RunFault}
 use Rattle.strm_run.specs.declared.fault.RunFault.TheVariants as RunFaults
 use Rattle.strm_history.specs.declared.transcript.StreamLog.{StreamLog}
-use Rattle.strm_crew.specs.Scripts.{feed_of}
+use Rattle.strm_job.specs.Scripts.{feed_of}
 use Rattle.strm_crew.specs.Account.{HasReceipts, IsHeld}
 use Rattle.strm_crew.specs.Run.{RunValue}
 use Rattle.strm_crew.specs.Play.{OfferedValue, HasOffered, HasPlayed}

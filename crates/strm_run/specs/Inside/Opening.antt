@@ -6,9 +6,9 @@ use Rattle.strm_call.specs.declared.setup.Setup.{Setup}
 use Rattle.strm_shared.specs.Seat.{SeatValue}
 use Rattle.strm_line.specs.Feed.{fresh_feeder, FeederValue}
 use Rattle.strm_shared.specs.Ending.{fresh_seats, SharedValue}
-use Rattle.strm_crew.specs.declared.script.Feed.{Feed}
-use Rattle.strm_crew.specs.Scripts.{feed_of}
-use Rattle.strm_run.specs.There.{line_is_there}
+use Rattle.strm_job.specs.declared.script.Feed.{Feed}
+use Rattle.strm_job.specs.Scripts.{feed_of}
+use Rattle.strm_job.specs.There.{line_is_there}
 use Rattle.strm_crew.specs.Run.{RunValue}
 use Rattle.strm_crew.specs.Dealing.{callers_of}
 use Rattle.strm_crew.specs.Play.{AreStreams}

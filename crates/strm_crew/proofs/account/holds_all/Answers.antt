@@ -2,7 +2,7 @@ use Rattle.std.proofs.Common.{All, Vec}
 use Rattle.std.specs.Global.{Global}
 use Rattle.strm_history.specs.Receipt.{ReceiptValue}
 use Rattle.strm_crew.specs.Account.{IsHeld}
-use Rattle.strm_crew.proofs.EachLemmas.{each_more, of_this}
+use Rattle.strm_job.proofs.EachLemmas.{each_more, of_this}
 use Rattle.strm_crew.proofs.account.holds_all.Goals as goal
 
 pub returns-then-not-holds_each : goal.returns-then-not-holds_each

@@ -1,6 +1,6 @@
 use Rattle.strm_history.specs.Receipt.{ReceiptValue}
 use Rattle.strm_crew.specs.Account.{IsHeld}
-use Rattle.strm_crew.proofs.EachLemmas.{each_more, of_this}
+use Rattle.strm_job.proofs.EachLemmas.{each_more, of_this}
 use Rattle.strm_crew.proofs.account.holds_each.Goals as goal
 
 pub returns-then-not-holds : goal.returns-then-not-holds

@@ -1,7 +1,7 @@
 use Rattle.std.proofs.Common.{◌≡◌, ◌+◌, ◌<◌, ◌∷◌, ◌++◌, append_assoc, length, All, ap, subst, sym, ◌∙◌}
 use Rattle.std.proofs.lemmas.List.{length-set, length_push}
 use Rattle.std.specs.Vec.Iter.{into_iter_items}
-use Rattle.strm_crew.specs.declared.script.Script.{Script}
+use Rattle.strm_job.specs.declared.script.Script.{Script}
 use Rattle.strm_crew.proofs.PlayLemmas.{iterated_len}
 use Rattle.strm_crew.proofs.ReachedLemmas.{behind_more, reached_is, reached_there}
 use Rattle.strm_crew.proofs.DealLemmas.{caller_more, none_called, player_before, script_reached}

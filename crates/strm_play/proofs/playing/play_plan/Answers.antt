@@ -1,9 +1,9 @@
 use Rattle.std.proofs.Common.{◌≡◌, true, [], length, get_or, rules, arith, refl, ap, ◌∙◌}
-use Rattle.strm_crew.specs.Scripts.{calls_on}
-use Rattle.strm_run.specs.There.{is_crew}
+use Rattle.strm_job.specs.Scripts.{calls_on}
+use Rattle.strm_job.specs.There.{is_crew}
 use Rattle.strm_play.specs.Played.{may_have}
 use Rattle.strm_play.proofs.FaultLemmas.{may_be, unless_false}
-use Rattle.strm_play.proofs.PlanLemmas.{all_there, setups_meet, feeds_meet, few_setups, few_scripts, script_calls, fed_of_plan}
+use Rattle.strm_plan.proofs.HandingLemmas.{all_there, setups_meet, feeds_meet, few_setups, few_scripts, script_calls}
 use Rattle.strm_play.proofs.playing.play_plan.Goals as goal
 
 pub run-requires-clause-few : goal.run-requires-clause-few
@@ -18,15 +18,15 @@ run-requires-clause-setups g c κs within =
 
 pub run-requires-clause-feeds : goal.run-requires-clause-feeds
 run-requires-clause-feeds g c κs within =
-    feeds_meet _ c.args.plan.feeds.items c.in_ok-names.ensures.feeds c.requires.sound.messages
+    rw c.in_ok-names.ensures.feeds (feeds_meet c.args.plan.feeds.items c.requires.sound.messages)
 
 pub returns-in_err-transcript-clause-fault : goal.returns-in_err-transcript-clause-fault
 returns-in_err-transcript-clause-fault g c =
     let handed = c.in_ok-names.ensures in
     let sound = c.requires.sound in
-    let there = all_there c.args.plan.streams.entries _ c.args.plan.processes.items _ c.args.plan.feeds.items handed.scripts handed.feeds sound.calls sound.lines sound.once in
+    let there = all_there c.args.plan.streams.entries _ c.args.plan.processes.items c.args.plan.feeds.items handed.scripts sound.calls sound.lines sound.once in
     let ran = c.in_err-transcript.ensures in
-    let told : may_have c.args.workers c.in_err-transcript.field-0.0 ≡ true = may_be c.args.workers c.in_err-transcript.field-0.0 _ refl ran.workers ran.no_such (rw handed.setups there) in
+    let told : may_have c.args.workers c.in_err-transcript.field-0.0 ≡ true = may_be c.args.workers c.in_err-transcript.field-0.0 _ refl ran.workers ran.no_such (rw (handed.setups, handed.feeds) there) in
     search rules
 
 pub returns-clause-workers : goal.returns-clause-workers
@@ -43,5 +43,5 @@ returns-clause-played g c =
       many = ran.many ∙ as_many;
       legal = λ k setup log under. rw (← handed.setups) (ran.legal k setup log (rw as_many under));
       calls = λ k caller log under. ran.calls k caller log (rw as_many under) ∙ ap (λ calls. calls_on k calls) (script_calls _ caller ∙ ap (λ all. get_or all caller []) handed.scripts);
-      arrivals = λ k log under. fed_of_plan _ _ c.args.plan.feeds.items k handed.feeds (ran.arrivals k log (rw as_many under));
+      arrivals = λ k log under. rw (← handed.feeds) (ran.arrivals k log (rw as_many under));
     }

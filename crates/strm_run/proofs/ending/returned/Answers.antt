@@ -1,5 +1,5 @@
 use Rattle.strm_crew.specs.Play.{ArePlayed}
-use Rattle.strm_crew.proofs.EachLemmas.{each_pushed}
+use Rattle.strm_job.proofs.EachLemmas.{each_pushed}
 use Rattle.strm_run.proofs.ending.returned.Goals as goal
 
 pub loop-one-preserved : goal.loop-one-preserved

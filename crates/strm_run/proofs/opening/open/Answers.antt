@@ -3,7 +3,7 @@ use Rattle.std.proofs.lemmas.List.{length_push, length-map, nil_from_length}
 use Rattle.std.specs.Vec.Iter.{into_iter_items}
 use Rattle.strm_call.specs.Setup.{is_fit}
 use Rattle.strm_line.specs.Feed.{RingValue}
-use Rattle.strm_crew.specs.Scripts.{ring_of}
+use Rattle.strm_crew.specs.Rings.{ring_of}
 use Rattle.strm_crew.proofs.PlayLemmas.{iterated_len}
 use Rattle.strm_run.proofs.OpeningLemmas.{kept_more, opened_all, ring_there, ring_setup, ring_named}
 use Rattle.strm_run.proofs.opening.open.Goals as goal

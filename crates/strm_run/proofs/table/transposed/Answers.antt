@@ -1,5 +1,5 @@
 use Rattle.std.proofs.Common.{◌≡◌, append_assoc, length, Vec, Global}
-use Rattle.strm_crew.proofs.EachLemmas.{of_first, of_others}
+use Rattle.strm_job.proofs.EachLemmas.{of_first, of_others}
 use Rattle.strm_crew.proofs.PlayLemmas.{iterated_len}
 use Rattle.strm_run.proofs.TableLemmas.{transposed_more}
 use Rattle.strm_run.proofs.table.transposed.Goals as goal

@@ -3,8 +3,8 @@ use Rattle.std.specs.Vec.Iter.{into_iter_items}
 use Rattle.strm_msg.specs.Message.{Msg}
 use Rattle.strm_msg.specs.Kind.{is_from_line}
 use Rattle.strm_line.specs.Feed.{FeedValue}
-use Rattle.strm_crew.specs.Scripts.{feed_of}
-use Rattle.strm_crew.proofs.EachLemmas.{of_others}
+use Rattle.strm_job.specs.Scripts.{feed_of}
+use Rattle.strm_job.proofs.EachLemmas.{of_others}
 use Rattle.strm_crew.proofs.PartLemmas.{part_less, part_more}
 use Rattle.strm_crew.proofs.PlayLemmas.{iterated_len}
 use Rattle.strm_crew.proofs.FeedLemmas.{taken_more, back_more, next_of_feed, offered_more}

@@ -1,7 +1,7 @@
 use Rattle.std.proofs.Common.{◌≡◌, true, ◌+◌, ◌++◌, ◌<◌, ◌^◌, length, All}
 use Rattle.std.specs.Vec.Iter.{into_iter_items, into_iter_len}
 use Rattle.strm_msg.specs.Kind.{is_from_line}
-use Rattle.strm_crew.specs.Scripts.{feed_of}
+use Rattle.strm_job.specs.Scripts.{feed_of}
 use Rattle.strm_crew.specs.Transcript.{IsPartOf}
 use Rattle.strm_crew.proofs.feeding.Feeding.offer.Given as goal
 

@@ -1,0 +1,2 @@
+pub mod EachLemmas
+pub mod OnceLemmas

@@ -1,0 +1,27 @@
+-- Scripts and feeds: what they ask of each stream.
+use Rattle.std.specs.Prelude.{ℕ, zero, suc, ◌==◌, List, [], ◌∷◌, if◌then◌else◌}
+use Rattle.strm_msg.specs.Message.{Msg}
+use Rattle.strm_msg.specs.declared.words.End.{End}
+use Rattle.strm_module.specs.declared.shape.Shape.{Shape}
+use Rattle.strm_call.specs.declared.event.Event.{Event}
+use Rattle.strm_call.specs.declared.event.Event.TheVariants.{Asked}
+use Rattle.strm_job.specs.declared.script.ScriptCall.{ScriptCall}
+use Rattle.strm_job.specs.declared.script.Script.{Script}
+use Rattle.strm_job.specs.declared.script.Feed.{Feed}
+
+-- the calls that a script has for a stream, in order: the end, and what is asked
+abbrev pub calls_on : {K : Type 0} → ℕ → List (ScriptCall (Shape K)) → List (End × Event (Shape K))
+calls_on number [] = []
+calls_on number (one ∷ rest) =
+    if one.stream == number then (one.call.end, Asked one.call.request) ∷ calls_on number rest else calls_on number rest
+
+-- the calls of a caller; there are none past the last
+abbrev pub script_of : {P : Type 0} → List (Script P) → ℕ → List (ScriptCall P)
+script_of [] caller = []
+script_of (script ∷ rest) zero = script.calls.items
+script_of (script ∷ rest) (suc caller) = script_of rest caller
+
+-- the messages that a stream is fed
+abbrev pub feed_of : List Feed → ℕ → List Msg
+feed_of [] number = []
+feed_of (feed ∷ rest) number = if feed.stream == number then feed.messages.items else feed_of rest number

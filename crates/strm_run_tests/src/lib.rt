@@ -1,4 +1,4 @@
-//! Worked examples of streams, of shared streams and of runs, by their public calls alone.
+//! Worked examples of shared streams and of runs, by their public calls alone.
 #![tactic(auto)]
 
 #[cfg(test)]

@@ -7,7 +7,6 @@ use strm_history::{Called, Kept, Setup, Who};
 use strm_module::{Boxed, Instance, Kind, Module, ModuleOf, Plain, Shape};
 use strm_msg::{Bytes, Message};
 
-mod head;
 mod runs;
 mod shared;
 mod sizes;

@@ -1,6 +1,5 @@
 //! A module that wants memory once: before a change the call is refused and can be made again, after one the stream is broken.
-use super::{apply, stream_over};
-use crate::tests::{boxed, bytes, check, serial_at};
+use super::{apply, boxed, bytes, check, serial_at, stream_over};
 use std::alloc::Global;
 use std::process::Abort;
 use strm_head::{Answer, Driver, Outcome, Refusal, Reply, Request, Stream};

@@ -1,7 +1,6 @@
 //! Streams are made, and what happens to one makes a history.
 use super::tables::{ECHOES, LINES, MIXED};
-use super::{Call, Comes, Happens, Row, Want, answer_of, message, request_of};
-use crate::tests::{check, told};
+use super::{Call, Comes, Happens, Row, Want, answer_of, came_back, check, message, request_of};
 use std::alloc::Global;
 use std::process::Abort;
 use strm_head::{Answer, Driver, Event, NewFault, Reply, Request, Stream};
@@ -188,21 +187,25 @@ fn asks(
     at: usize,
 ) -> bool {
     let request = request_of(rt, alloc, at as u64, call);
-    is_told(
-        told(call_on(log, caller_of(at), end, request), back),
-        answer_of(rt, alloc, want),
-    )
+    let called = call_on(log, caller_of(at), end, request);
+    is_told(called, answer_of(rt, alloc, want), back)
 }
 
-/// Whether a call found room, is answered so, and the modules came back that are wanted.
-fn is_told(told: Option<(Answer, bool)>, want: Answer) -> bool {
-    match told {
-        Some((answer, is_back)) => {
-            let is_so = is_answer(&answer, want);
+/// Whether a call found room, is answered so, and the modules that came back have these serials.
+fn is_told<M: ModuleOf>(called: Called<Boxed<M>, M::Kind>, want: Answer, serials: &[u64]) -> bool {
+    match called {
+        Called::Done {
+            answer,
+            back,
+            receipt,
+        } => {
+            let is_so = is_answer(&answer, want) && came_back(back.as_slice(), serials);
+            drop(receipt);
+            drop(back);
             drop(answer);
-            is_so && is_back
+            is_so
         }
-        None => false,
+        Called::NoRoom(_) => false,
     }
 }
 

@@ -1,6 +1,6 @@
-//! A stream that is called by one: messages that come in at a known point between the calls, the histories
-//! that they leave, and the serials of modules that come back.
-use super::{bytes, push, write};
+//! Worked examples of what no script can say, by the public calls alone: a stream that is called by one, messages that come
+//! in at a known point between the calls, the histories that they leave, and the serials of modules that come back. What is
+//! expected is worked out by hand from the rules.
 use arrayvec::ArrayVec;
 use std::alloc::Global;
 use std::process::Abort;
@@ -8,8 +8,8 @@ use strm_head::{
     Answer, Driver, GetFlag, More, Name, Outcome, Priority, Received, Refusal, Reply, Request,
     Stream, Wanted,
 };
-use strm_module::{Boxed, Kind, ModuleOf, Plain};
-use strm_msg::{End, Errno, Message, NoMem};
+use strm_module::{Boxed, Instance, Kind, Module, ModuleOf, Plain, Shape};
+use strm_msg::{Bytes, End, Errno, Message, NoMem};
 
 mod histories;
 mod owners;
@@ -91,6 +91,44 @@ enum Happens {
 
 type Row = (End, Happens);
 
+/// Stops the test where a row of a table does not hold: the name of the table, and the number of the row, counted from 0.
+fn check(rt: &impl Abort, (name, at): (&str, usize), is_so: bool) {
+    assert!(rt; is_so, "{name}: row {at}");
+}
+
+fn bytes(rt: &impl Abort, alloc: Global, bytes: &[u8]) -> Bytes {
+    Bytes::from_slice(alloc, bytes).expect(rt, "no memory")
+}
+
+/// A module of this serial, name and kind, without queues of its own.
+fn boxed<M: Module>(
+    rt: &impl Abort,
+    alloc: Global,
+    (serial, name, kind): (u64, &[u8], Kind),
+    object: M,
+) -> Boxed<M> {
+    let shape = Shape::new(serial, name, None, None, kind).expect(rt, "a good name");
+    Boxed::new(alloc, Instance::new(shape, object)).expect(rt, "no memory")
+}
+
+/// The serial of a module that came back.
+fn serial_at<M: ModuleOf>(back: &[Option<Boxed<M>>], i: usize) -> Option<u64> {
+    match back.get(i) {
+        Some(Some(instance)) => Some(instance.shape().serial),
+        _ => None,
+    }
+}
+
+/// Whether the modules that came back have these serials, topmost first, and there are no others.
+fn came_back<M: ModuleOf>(back: &[Option<Boxed<M>>], serials: &[u64]) -> bool {
+    for (i, serial) in serials.iter().enumerate() {
+        if serial_at(back, i) != Some(*serial) {
+            return false;
+        }
+    }
+    back.len() == serials.len()
+}
+
 /// A new stream over this driver, whose lists are full at 16 bytes.
 fn stream_over<M: ModuleOf>(rt: &impl Abort, alloc: Global, driver: Driver) -> Stream<M> {
     Stream::new(alloc, driver, (16, 4), (16, 4)).expect(rt, "no memory for a stream")
@@ -139,9 +177,13 @@ fn request_of(rt: &impl Abort, alloc: Global, serial: u64, call: Call) -> Reques
             flag: GetFlag::Any,
         },
         Call::Read(max) => Request::Read { max },
-        Call::Write(dat) => write(rt, alloc, dat),
+        Call::Write(dat) => Request::Write {
+            dat: bytes(rt, alloc, dat),
+        },
         Call::Nread => Request::Nread,
-        Call::Push(pushes, name) => push(rt, alloc, (serial, name, kind_of(pushes))),
+        Call::Push(pushes, name) => Request::Push {
+            instance: boxed(rt, alloc, (serial, name, kind_of(pushes)), Plain),
+        },
         Call::Pop => Request::Pop,
         Call::Look => Request::Look,
         Call::List => Request::List,

@@ -1,6 +1,5 @@
 //! Boxed modules are handed in and back, and each is closed once.
-use super::{apply, stream_over};
-use crate::tests::{boxed, came_back, check};
+use super::{apply, boxed, came_back, check, stream_over};
 use std::alloc::Global;
 use std::process::Abort;
 use std::sync::Arc;

@@ -9,6 +9,7 @@ ghost use Rattle.strm_chain.specs.Enabled.{is_enabled, DueAreEnabled};
 use crate::enabling::Enabling;
 use arrayvec::ArrayVec;
 use std::alloc::Global;
+use std::collections::VecDeque;
 use std::marker::Model;
 use strm_ends::{Ends, Place};
 use strm_module::{Boxed, Driver, MOST_MODULES, ModuleOf, Shape};
@@ -23,6 +24,7 @@ mod serve;
 mod settle;
 
 pub use deliver::head_sends_once;
+use hop::Hop;
 
 /// The queues of a stream, with its modules, what its heads remember, and the places that are
 /// enabled.
@@ -39,6 +41,9 @@ pub use deliver::head_sends_once;
 pub struct Chain<M: ModuleOf> {
     ends: Ends<M>,
     enabling: Enabling,
+    /// Room for messages on their way: taken by a delivery or a move, and put back empty unless memory
+    /// was wanting.
+    hops: VecDeque<Hop>,
 }
 
 impl<M: ModuleOf> Model for Chain<M> {
@@ -59,7 +64,12 @@ impl<M: ModuleOf> Chain<M> {
         let mut enabling = Enabling::new(alloc)?;
         let ends = Ends::new(alloc, driver, head, drv)?;
         enabling.wake_all(&ends);
-        Ok(Chain { ends, enabling })
+        let hops = VecDeque::new(alloc);
+        Ok(Chain {
+            ends,
+            enabling,
+            hops,
+        })
     }
 
     /// What takes memory for the chain.

@@ -10,7 +10,6 @@ use super::Chain;
 use super::hop::Hop;
 use crate::fault::ChainFault;
 use crate::spot::Spot;
-use std::collections::VecDeque;
 use strm_module::ModuleOf;
 use strm_msg::{BoxedMessage, Message};
 
@@ -67,10 +66,13 @@ impl<M: ModuleOf> Chain<M> {
         }
         let m = BoxedMessage::new(self.ends.alloc(), m)?;
         let hop = self.handed_in(spot, m);
-        let mut hops = VecDeque::new(self.ends.alloc());
+        let mut hops = self.take_hops();
         self.hop(&mut hops, hop)?;
-        match self.carry_all(hops) {
-            Ok(()) => Ok(()),
+        match self.carry_all(&mut hops) {
+            Ok(()) => {
+                self.put_back_hops(hops);
+                Ok(())
+            }
             Err(_) => Err(self.give_up()),
         }
     }

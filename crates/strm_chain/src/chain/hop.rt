@@ -1,6 +1,6 @@
 //! Messages on their way, one hop at a time.
 ghost use Rattle.std.specs.VecDeque.{deque_len, deque_capacity};
-ghost use Rattle.std.specs.Prelude.{true, ◌≡◌, ◌∷◌, ◌++◌, ◌<◌, ◌≤◌, ◌+◌, ◌-◌, OnOk, OnErr, map, length};
+ghost use Rattle.std.specs.Prelude.{true, ◌≡◌, [], ◌∷◌, ◌++◌, ◌<◌, ◌≤◌, ◌+◌, ◌-◌, OnOk, OnErr, map, length};
 ghost use Rattle.strm_msg.specs.declared.words.Side.TheVariants as Side;
 ghost use Rattle.strm_module.specs.Driver.{partner};
 ghost use Rattle.strm_chain.specs.Deliver.{put_at, up, down};
@@ -12,6 +12,7 @@ ghost use Rattle.strm_chain.specs.Hop.{carry, carry_all, load, up_hop, down_hop,
 use super::Chain;
 use std::alloc::Global;
 use std::collections::VecDeque;
+use std::mem;
 use strm_module::{MOST_MODULES, ModuleOf, Outs};
 use strm_msg::{BoxedMessage, End, Message, NoMem, Side as Sides};
 use strm_qpair::DriverSends;
@@ -121,6 +122,25 @@ fn push_options(
 }
 
 impl<M: ModuleOf> Chain<M> {
+    /// Takes the room for messages on their way out of the chain, with no message in it. Takes no
+    /// memory.
+    pub(super) fn take_hops(&mut self) -> VecDeque<Hop>
+        ensures empty { result.items ≡ [] }
+        ensures same { self.new ≡ self.old }
+    {
+        let none = VecDeque::new(self.alloc());
+        let mut hops = mem::replace(&mut self.hops, none);
+        hops.clear();
+        hops
+    }
+
+    /// Puts the room for messages on their way back into the chain.
+    pub(super) fn put_back_hops(&mut self, hops: VecDeque<Hop>)
+        ensures { self.new ≡ self.old }
+    {
+        self.hops = hops;
+    }
+
     /// A message comes to a head.
     fn to_head(
         &mut self,
@@ -254,14 +274,14 @@ impl<M: ModuleOf> Chain<M> {
     }
 
     /// Carries what is on its way to its end, and what comes of it, each before the next.
-    pub(super) fn carry_all(&mut self, mut hops: VecDeque<Hop>) -> Result<(), NoMem>
-        ensures ok { OnOk result (self.new.image ≡ carry_all M.Kind.means self.old.image hops.items) }
+    pub(super) fn carry_all(&mut self, hops: &mut VecDeque<Hop>) -> Result<(), NoMem>
+        ensures ok { OnOk result (self.new.image ≡ carry_all M.Kind.means self.old.image hops.old.items) }
         ensures same { SameModules self.old.image self.new.image }
         ensures given { self.new.run.given ≡ self.old.run.given }
-        ensures grows { OnOk result (IsCalm M.Kind.means → are_calm_hops hops.items ≡ true → Grows self.old (options_carried self.old.image hops.items) self.new 0) }
+        ensures grows { OnOk result (IsCalm M.Kind.means → are_calm_hops hops.old.items ≡ true → Grows self.old (options_carried self.old.image hops.old.items) self.new 0) }
     {
         while let Some(hop) = hops.pop_front() {
-            self.hop(&mut hops, hop)?;
+            self.hop(hops, hop)?;
         }
         Ok(())
     }

@@ -43,13 +43,13 @@ impl<M: ModuleOf> Chain<M> {
     /// The move of a queue of a module.
     fn move_module(
         &mut self,
-        mut hops: VecDeque<Hop>,
+        hops: &mut VecDeque<Hop>,
         end: End,
         i: usize,
         side: Side,
     ) -> Result<(), NoMem>
-        requires empty { hops.items ≡ [] }
-        requires room { deque_len hops + 2 ≤ deque_capacity hops }
+        requires empty { hops.old.items ≡ [] }
+        requires room { deque_len hops.old + 2 ≤ deque_capacity hops.old }
         ensures ok { OnOk result (self.new.image ≡ move M.Kind.means self.old.image (module_place side end i)) }
         ensures same { SameModules self.old.image self.new.image }
         ensures given { self.new.run.given ≡ self.old.run.given }
@@ -57,14 +57,14 @@ impl<M: ModuleOf> Chain<M> {
     {
         let below = self.count(end).saturating_sub(i);
         let outs = self.serve_at(end, i, side)?;
-        push_outs(&mut hops, false, side, end, i, below, outs);
+        push_outs(hops, false, side, end, i, below, outs);
         self.carry_all(hops)
     }
 
     /// The move of a driver place.
-    fn move_driver(&mut self, mut hops: VecDeque<Hop>, end: End) -> Result<(), NoMem>
-        requires empty { hops.items ≡ [] }
-        requires room { deque_len hops + 2 ≤ deque_capacity hops }
+    fn move_driver(&mut self, hops: &mut VecDeque<Hop>, end: End) -> Result<(), NoMem>
+        requires empty { hops.old.items ≡ [] }
+        requires room { deque_len hops.old + 2 ≤ deque_capacity hops.old }
         ensures ok { OnOk result (self.new.image ≡ move M.Kind.means self.old.image (Places.Drv end)) }
         ensures same { SameModules self.old.image self.new.image }
         ensures given { self.new.run.given ≡ self.old.run.given }
@@ -84,9 +84,9 @@ impl<M: ModuleOf> Chain<M> {
     }
 
     /// The move of a place, with room for what it sends.
-    fn move_place(&mut self, hops: VecDeque<Hop>, place: Place) -> Result<(), NoMem>
-        requires empty { hops.items ≡ [] }
-        requires room { deque_len hops + 2 ≤ deque_capacity hops }
+    fn move_place(&mut self, hops: &mut VecDeque<Hop>, place: Place) -> Result<(), NoMem>
+        requires empty { hops.old.items ≡ [] }
+        requires room { deque_len hops.old + 2 ≤ deque_capacity hops.old }
         ensures ok { OnOk result (self.new.image ≡ move M.Kind.means self.old.image place) }
         ensures same { SameModules self.old.image self.new.image }
         ensures given { self.new.run.given ≡ self.old.run.given }
@@ -116,12 +116,15 @@ impl<M: ModuleOf> Chain<M> {
         if self.ends.is_broken() {
             return Err(ChainFault::Broken);
         }
-        let hops = match VecDeque::with_capacity(self.ends.alloc(), 2) {
-            Ok(hops) => hops,
-            Err(_) => return Err(ChainFault::NoMem),
+        let mut hops = self.take_hops();
+        let Ok(()) = hops.reserve(2) else {
+            return Err(ChainFault::NoMem);
         };
-        match self.move_place(hops, place) {
-            Ok(()) => Ok(()),
+        match self.move_place(&mut hops, place) {
+            Ok(()) => {
+                self.put_back_hops(hops);
+                Ok(())
+            }
             Err(_) => Err(self.give_up()),
         }
     }

@@ -43,7 +43,7 @@ returns-in-Some-clause-moves g c =
     let hops : are_calm_hops c.push_front_reserved.new.self.items ≡ true =
     rw (c.push_front_reserved.ensures.items, c.up.ensures, c.requires.empty) (one_calm (up_hop false c.partner_of-partner.result c.count-ahead.result m) [] calm refl) in
     let mid = c.take_driver.new.self.image in
-    let set = ap (options_carried mid) c.push_front_reserved.ensures.items ∙ hop_adds (answers_options mid.driver) c.up.result c.args.hops.items in
+    let set = ap (options_carried mid) c.push_front_reserved.ensures.items ∙ hop_adds (answers_options mid.driver) c.up.result c.args.hops.now.items in
     let one : options_of (answers_options mid.driver) c.up.result.m ≡ options_of (answers_options old.driver) m = rw (c.up.ensures, c.take_driver.ensures.same.driver) refl in
     let none = ap (options_carried mid) c.requires.empty in
     on_ok c.carry_all.result _ _ c.carry_all.ensures.grows

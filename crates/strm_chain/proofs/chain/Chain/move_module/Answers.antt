@@ -26,7 +26,7 @@ returns-clause-ok g c =
     let there = move means old (module_place c.args.side c.args.end c.args.i) in
     let hops = c.push_outs.new.hops.items in
     let e : carry_all means new hops ≡ there =
-    rest_after means new there (map (hop_of false c.args.side c.args.end c.args.i below) c.in_ok-outs.outs.items) c.args.hops.items hops c.push_outs.ensures.items
+    rest_after means new there (map (hop_of false c.args.side c.args.end c.args.i below) c.in_ok-outs.outs.items) c.args.hops.now.items hops c.push_outs.ensures.items
     (rw (c.in_ok-outs.ensures.image, c.in_ok-outs.ensures.outs) (module_move means c.args.side c.args.end c.args.i below old at)) ∙ ap (carry_all means there) c.requires.empty in
     subst (λ (j : Image _). OnOk c.carry_all.result (c.carry_all.new.self.image ≡ j)) e c.carry_all.ensures.ok
 
@@ -45,7 +45,7 @@ returns-clause-moves g c =
     let more = grow kinds hops in
     let mid = c.serve_at.new.self.image in
     let sent = c.in_ok-outs.outs.items in
-    let set = ap (options_carried mid) c.push_outs.ensures.items ∙ outs_set (answers_options mid.driver) false c.args.side c.args.end c.args.i below sent c.args.hops.items in
+    let set = ap (options_carried mid) c.push_outs.ensures.items ∙ outs_set (answers_options mid.driver) false c.args.side c.args.end c.args.i below sent c.args.hops.now.items in
     let same : options_sent (answers_options mid.driver) sent ≡ options_sent (answers_options old.driver) sent = rw (c.serve_at.ensures.same.driver) refl in
     let none = ap (options_carried mid) c.requires.empty in
     omega (arith, served, more, set, same, none))

@@ -19,7 +19,9 @@ pub use Rattle.strm_call.specs.Setup
 pub use Rattle.strm_job.specs.Scripts
 pub use Rattle.strm_job.specs.There
 pub use Rattle.strm_history.specs.Opened
-pub use Rattle.strm_history.specs.Entry
+pub use Rattle.strm_entry.specs.Entry
+pub use Rattle.strm_entry.specs.Own
+pub use Rattle.strm_history.specs.Steps
 pub use Rattle.strm_history.specs.History
 pub use Rattle.strm_line.specs.Name
 pub use Rattle.strm_line.specs.Runs

@@ -1,6 +1,13 @@
--- Calls where modules are of one type, as calls where they are of another.
-use Rattle.std.specs.Prelude.{Option, Some, None}
+-- The modules of calls: which calls change them, and calls where they are of one type as calls where they are of another.
+use Rattle.std.specs.Prelude.{Bool, true, false, Option, Some, None}
 use Rattle.strm_call.specs.declared.request.Request.{Request}
+
+-- the calls that may put a module in, or take some out
+abbrev pub changes_modules : {P : Type 0} → Request P → Bool
+changes_modules (Request.Push instance) = true
+changes_modules Request.Pop = true
+changes_modules Request.Close = true
+changes_modules request = false
 
 -- the module that a push carries
 abbrev pub module_of : {P : Type 0} → Request P → Option P

@@ -7,7 +7,7 @@ use Rattle.std.proofs.lemmas.Grind.{flat_map-append}
 use native.Mathlib.Numerals.{unary_clauses}
 use Rattle.strm_text.proofs.WriteLemmas.{appends_then}
 use Rattle.strm_call.specs.declared.setup.Setup.{Setup}
-use Rattle.strm_history.specs.declared.transcript.StreamLog.{StreamLog}
+use Rattle.strm_entry.specs.declared.transcript.StreamLog.{StreamLog}
 use Rattle.strm_plan.specs.Plan.{Streams, Process}
 use Rattle.strm_script.specs.Fields.{KindSpelling}
 use Rattle.strm_chart.specs.Chart.{stream_chart, streams_chart, found_chart}

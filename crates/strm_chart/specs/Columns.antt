@@ -8,8 +8,8 @@ use Rattle.strm_module.specs.declared.driver.Driver.{Driver}
 use Rattle.strm_module.specs.declared.driver.Driver.TheVariants as drivers
 use Rattle.strm_ends.specs.declared.place.Place.{Place}
 use Rattle.strm_ends.specs.declared.place.Place.TheVariants.{Wr, Drv, Rd}
-use Rattle.strm_history.specs.declared.entry.Who.{Who}
-use Rattle.strm_history.specs.declared.entry.Who.TheVariants as whos
+use Rattle.strm_entry.specs.declared.entry.Who.{Who}
+use Rattle.strm_entry.specs.declared.entry.Who.TheVariants as whos
 use Rattle.strm_script.specs.Lines.{end_word}
 
 -- the bars of so many columns, with the room behind each

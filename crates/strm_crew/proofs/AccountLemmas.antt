@@ -9,12 +9,12 @@ use Rattle.strm_module.specs.declared.shape.Shape.{Shape}
 use Rattle.strm_call.specs.declared.answer.Answer.{Answer}
 use Rattle.strm_call.specs.declared.call.Call.{Call}
 use Rattle.strm_call.specs.declared.event.Event.TheVariants.{Asked}
-use Rattle.strm_history.specs.Entry.{asked_of}
-use Rattle.strm_history.specs.Receipt.{ReceiptValue}
+use Rattle.strm_entry.specs.Entry.{asked_of}
+use Rattle.strm_entry.specs.Receipt.{ReceiptValue}
 use Rattle.strm_shared.specs.Seat.{SeatValue}
 use Rattle.strm_shared.specs.Ending.{IsReceiptOf}
 use Rattle.strm_crew.specs.Account.{numbers_to, AreReceipts, HasReceipts}
-use Rattle.strm_crew.specs.Run.{RunValue}
+use Rattle.strm_feed.specs.About.{RunValue}
 use Rattle.strm_job.specs.Scripts.{calls_on, script_of}
 
 -- the first elements, with the next one, and how many they are

@@ -9,7 +9,7 @@ use Rattle.strm_shared.specs.Seat.{SeatValue}
 use Rattle.strm_job.specs.declared.script.ScriptCall.{ScriptCall}
 use Rattle.strm_job.specs.declared.script.Script.{Script}
 use Rattle.strm_job.specs.Scripts.{calls_on, script_of}
-use Rattle.strm_crew.specs.Run.{RunValue}
+use Rattle.strm_feed.specs.About.{RunValue}
 use Rattle.strm_crew.specs.Play.{IsPlayer, IsSeated}
 use Rattle.strm_crew.specs.Dealing.{callers_of, AreDealt, AreSeated}
 use Rattle.strm_crew.proofs.ReachedLemmas.{fails_more, passes_more}

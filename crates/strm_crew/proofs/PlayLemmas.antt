@@ -8,14 +8,8 @@ use Rattle.strm_shared.specs.Seat.{SeatValue}
 use Rattle.strm_shared.specs.Ending.{SharedValue}
 use Rattle.strm_job.specs.declared.script.ScriptCall.{ScriptCall}
 use Rattle.strm_job.specs.Scripts.{calls_on, script_of}
-use Rattle.strm_crew.specs.Run.{RunValue}
+use Rattle.strm_feed.specs.About.{RunValue}
 use Rattle.strm_crew.specs.Play.{ArePlayed, AreStreams, IsPlayer, IsSeated}
-
--- what a loop over a vector has left is as long as it says
-pub iterated_len : {A : Type 0} (left rest : List A) (one : A) (n m : ℕ) → n ≡ length left → left ≡ one ∷ rest → m + 1 ≡ n → m ≡ length rest
-iterated_len left rest one n m len is more =
-    let all : m + 1 ≡ suc (length rest) = more ∙ len ∙ ap (λ l. length l) is in
-    omega arith
 
 -- an element by what is left of the list from it on
 get_from : {A : Type 0} (all : List A) (n : ℕ) (first : A) (rest : List A) → drop n all ≡ first ∷ rest → slice_get all n ≡ Some first

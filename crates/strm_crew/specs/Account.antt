@@ -1,14 +1,12 @@
 -- The receipts of a caller's calls on a stream.
-use Rattle.std.specs.Prelude.{◌≡◌, ℕ, zero, suc, true, Some, List, [], ◌∷◌, ◌++◌, All, length, map, take}
+use Rattle.std.specs.Prelude.{◌≡◌, ℕ, zero, suc, true, List, [], ◌∷◌, ◌++◌, All, length, map, take}
 use Rattle.strm_msg.specs.declared.words.End.{End}
 use Rattle.strm_module.specs.declared.shape.Shape.{Shape}
 use Rattle.strm_call.specs.declared.event.Event.{Event}
-use Rattle.strm_history.specs.declared.entry.Entry.{Entry}
-use Rattle.strm_history.specs.Entry.{asked_of}
-use Rattle.strm_history.specs.History.{entry_at}
-use Rattle.strm_history.specs.Receipt.{ReceiptValue}
+use Rattle.strm_entry.specs.Entry.{asked_of}
+use Rattle.strm_entry.specs.Receipt.{ReceiptValue}
 use Rattle.strm_shared.specs.Seat.{SeatValue}
-use Rattle.strm_crew.specs.Run.{RunValue}
+use Rattle.strm_feed.specs.About.{RunValue}
 use Rattle.strm_job.specs.Scripts.{calls_on, script_of}
 
 -- the numbers of so many calls, counted from 1
@@ -26,7 +24,3 @@ pub record AreReceipts {K : Type 0} (caller : ℕ) (asked : List (End × Event (
 abbrev pub HasReceipts : {K : Type 0} → RunValue K → SeatValue → List (ReceiptValue K) → Type 0
 HasReceipts run seat receipts =
     seat.shown ≡ true → AreReceipts seat.caller (take seat.calls (calls_on seat.number (script_of run.scripts seat.caller))) receipts
-
--- the receipt's entry is the one that the history has of its caller's call of its number
-abbrev pub IsHeld : {K : Type 0} → List (Entry K) → ReceiptValue K → Type 0
-IsHeld history receipt = entry_at receipt.caller receipt.number history ≡ Some receipt.entry

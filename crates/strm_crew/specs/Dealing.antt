@@ -2,7 +2,7 @@
 use Rattle.std.specs.Prelude.{◌≡◌, ℕ, zero, suc, true, ◌<◌, ◌==◌, ◌%◌, List, [], ◌∷◌, ◌++◌, filter, get_or, length, Vec}
 use Rattle.std.specs.Global.{Global}
 use Rattle.strm_shared.specs.Seat.{SeatValue}
-use Rattle.strm_crew.specs.Run.{RunValue}
+use Rattle.strm_feed.specs.About.{RunValue}
 
 -- the seats of each caller, in order of the streams, that have made no call
 pub record AreSeated {K : Type 0} (run : RunValue K) (seats : List (Vec SeatValue Global)) : Type 0 where

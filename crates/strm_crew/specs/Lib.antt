@@ -1,4 +1,3 @@
-pub mod Rings
 pub mod Run
 pub mod Transcript
 pub mod Account

@@ -1,22 +1,19 @@
--- What the streams, callers and feeders of a run have to do with it, while it goes on.
-use Rattle.std.specs.Prelude.{◌≡◌, ℕ, ◌+◌, ◌<◌, ◌^◌, List, [], All, drop, get_or, length}
+-- What the streams and callers of a run have to do with it, while it goes on.
+use Rattle.std.specs.Prelude.{◌≡◌, ℕ, ◌+◌, ◌<◌, ◌^◌, List, All, drop, get_or, length}
 use prog.Memory.{size}
 use mir.Syntax.{Ty}
 use denote.RattleType.{RattleType}
 use denote.Param.{layout}
-use Rattle.strm_msg.specs.Message.{Msg}
 use Rattle.strm_module.specs.declared.shape.Shape.{Shape}
 use Rattle.strm_module.specs.declared.vocabulary.Kinds.{Ghosts}
 use Rattle.strm_module.specs.contracts.boxed.Boxed as boxed
 use Rattle.strm_call.specs.declared.setup.Setup.{Setup}
-use Rattle.strm_history.specs.contracts.call.Called as called
+use Rattle.strm_entry.specs.contracts.call.Called as called
 use Rattle.strm_shared.specs.Seat.{SeatValue}
-use Rattle.strm_line.specs.Feed.{FeedValue}
 use Rattle.strm_shared.specs.Ending.{SharedValue}
 use Rattle.strm_job.specs.declared.script.ScriptCall.{ScriptCall}
-use Rattle.strm_job.specs.Scripts.{calls_on, script_of, feed_of}
-use Rattle.strm_crew.specs.Run.{RunValue}
-use Rattle.strm_crew.specs.Transcript.{IsPartOf}
+use Rattle.strm_job.specs.Scripts.{calls_on, script_of}
+use Rattle.strm_feed.specs.About.{RunValue}
 
 -- a value of this layout fits into memory; a fact that a proof passes on as it is
 unfoldable pub Fits : Ty → Type 0
@@ -53,22 +50,3 @@ pub record HasPlayed {K : Type 0} (run : RunValue K) (k : ℕ) (seat : SeatValue
 pub record ArePlayed {K : Type 0} (run : RunValue K) (seats : List SeatValue) : Type 0 where
   pub many : length seats ≡ length run.setups
   pub each : (k : ℕ) (d : SeatValue) → k < length seats → HasPlayed run k (get_or seats k d)
-
--- a feeder that has offered none of its feed
-pub record IsFeeding {K : Type 0} (run : RunValue K) (feeder : FeedValue) (messages : List Msg) : Type 0 where
-  pub there : feeder.number < length run.setups
-  pub begins : feeder.offers ≡ 0
-  pub none : feeder.accepted ≡ []
-  pub feed : messages ≡ feed_of run.feeds feeder.number
-
--- a feeder that has offered as many messages as its feed has: each once, in order, since each offer is of the feed's next one
-pub record HasOffered {K : Type 0} (run : RunValue K) (feed : FeedValue) (overrun : ℕ) : Type 0 where
-  pub there : feed.number < length run.setups
-  pub offered : feed.offers ≡ length (feed_of run.feeds feed.number)
-  pub part : IsPartOf feed.accepted (feed_of run.feeds feed.number)
-  pub all : length feed.accepted + overrun ≡ length (feed_of run.feeds feed.number)
-
--- what a feeder leaves, and how many of its messages came back
-pub record OfferedValue : Type 0 where
-  pub feed : FeedValue
-  pub overrun : ℕ

@@ -1,36 +1,20 @@
 -- What a run leaves of its streams.
-use Rattle.std.specs.Prelude.{◌≡◌, ℕ, ◌+◌, ◌<◌, ◌⊎◌, Bool, true, false, Option, Some, None, List, [], ◌∷◌, ◌++◌, get_or, length, map, if◌then◌else◌}
-use Rattle.arrayvec.specs.ArrayVec.{ArrayVec}
+use Rattle.std.specs.Prelude.{◌≡◌, ℕ, ◌+◌, ◌<◌, List, ◌++◌, get_or, length, map}
 use Rattle.strm_msg.specs.Message.{Msg}
 use Rattle.strm_msg.specs.declared.words.End.TheVariants.{A, B}
 use Rattle.strm_module.specs.Kinds.{Meaning}
-use Rattle.strm_qpair.specs.End.{EndState}
 use Rattle.strm_ends.specs.Image.{Image, end_of}
 use Rattle.strm_call.specs.declared.setup.Setup.{Setup}
-use Rattle.strm_ioctl.specs.Names.{names_of}
-use Rattle.strm_call.specs.declared.event.Event.{Event}
-use Rattle.strm_call.specs.declared.event.Event.TheVariants.{Asked, Arrived}
-use Rattle.strm_history.specs.Entry.{asked_of}
-use Rattle.strm_history.specs.History.{arrivals, own, Legal}
+use Rattle.strm_entry.specs.Entry.{asked_of}
+use Rattle.strm_entry.specs.Own.{arrivals, own}
+use Rattle.strm_history.specs.History.{Legal}
 use Rattle.strm_history.specs.Serials.{AreAccounted}
-use Rattle.strm_history.specs.declared.transcript.StreamLog.{StreamLog}
+use Rattle.strm_entry.specs.declared.transcript.StreamLog.{StreamLog}
 use Rattle.strm_history.specs.Opened.{opened}
 use Rattle.strm_job.specs.Scripts.{calls_on, script_of, feed_of}
-use Rattle.strm_crew.specs.Run.{RunValue}
-
--- a message came in (no public clause cites it)
-abbrev pub has_come_in : {P : Type 0} → Event P → Bool
-has_come_in (Asked request) = false
-has_come_in (Arrived m) = true
-
--- the names of the modules on an end that is open, topmost first
-abbrev pub names_at : {K : Type 0} → EndState K → Option (ArrayVec (ArrayVec ℕ))
-names_at e = if e.is_open then Some (record { items = names_of e }) else None
-
--- the first are the others, but for some that were left out
-abbrev pub IsPartOf : List Msg → List Msg → Type 0
-IsPartOf part [] = part ≡ []
-IsPartOf part (m ∷ rest) = IsPartOf part rest ⊎ ((others : List Msg) × (part ≡ m ∷ others) × IsPartOf others rest)
+use Rattle.strm_ended.specs.Left.{names_at}
+use Rattle.strm_feed.specs.Feeding.{IsPartOf}
+use Rattle.strm_feed.specs.About.{RunValue}
 
 -- what came in is the beginning of what was accepted, which is a part of the feed; the numbers are those of these lists
 pub record IsFed {K : Type 0} (feed : List Msg) (log : StreamLog K) : Type 0 where

@@ -1,18 +1,18 @@
 //! A seat of a caller, with the receipts of what was done from it.
-ghost use Rattle.std.specs.Prelude.{◌≡◌, ◌↔◌, ◌+◌, true, All, slice_get, IfOk, OnOk, Some};
+ghost use Rattle.std.specs.Prelude.{◌≡◌, ◌+◌, All, slice_get, IfOk, OnOk, Some};
 ghost use Rattle.strm_call.specs.declared.event.Event.TheVariants.{Asked};
-ghost use Rattle.strm_crew.specs.Account.{HasReceipts, IsHeld};
+ghost use Rattle.strm_crew.specs.Account.{HasReceipts};
 ghost use Rattle.strm_job.specs.Scripts.{calls_on, script_of};
 ghost use Rattle.strm_crew.specs.Play.{CallsDoFit};
 
-use crate::about::{Of, Plays};
 use std::alloc::Global;
 use std::marker::{Model, PhantomData};
 use std::sync::Wait;
-use strm_history::{Call, Called, Receipt, SameKind};
+use strm_feed::{Of, Plays};
+use strm_history::{Call, Called, Receipt};
 use strm_module::{Boxed, ModuleOf};
 use strm_msg::NoMem;
-use strm_shared::{Ended, Seat, Shared};
+use strm_shared::{Seat, Shared};
 
 /// A seat of a caller on a stream, with the receipts of the calls that were made from it, in order. A contract sees the seat.
 ///
@@ -108,32 +108,4 @@ pub(crate) fn accounts_of<K: Drop, N: Plays<K>>(
         all.push(Account::new(alloc, seat))?;
     }
     Ok(all)
-}
-
-/// Whether the history has each of these receipts.
-fn holds_each<M: ModuleOf>(ended: &Ended<M>, receipts: &[Receipt<M::Kind>]) -> bool
-where
-    M::Kind: SameKind,
-    ensures { result ≡ true ↔ All (λ r. IsHeld ended.now.history r) receipts.now }
-{
-    for receipt in receipts {
-        if !ended.holds(receipt) {
-            return false;
-        }
-    }
-    true
-}
-
-/// Whether the history of a stream has each receipt of each of its callers.
-pub fn holds_all<M: ModuleOf>(ended: &Ended<M>, receipts: &[Vec<Receipt<M::Kind>>]) -> bool
-where
-    M::Kind: SameKind,
-    ensures { result ≡ true ↔ All (λ mine. All (λ r. IsHeld ended.now.history r) mine.items) receipts.now }
-{
-    for mine in receipts {
-        if !holds_each(ended, mine.as_slice()) {
-            return false;
-        }
-    }
-    true
 }

@@ -2,11 +2,11 @@
 ghost use Rattle.std.specs.Prelude.{◌≡◌, ◌<◌, ◌^◌, [], length, All, IfOk};
 ghost use Rattle.strm_crew.specs.Dealing.{callers_of, AreDealt, AreSeated};
 
-use crate::about::Plays;
 use crate::account::accounts_of;
 use crate::player::Player;
 use std::alloc::Global;
 use std::mem;
+use strm_feed::Plays;
 use strm_job::Script;
 use strm_module::{Boxed, ModuleOf};
 use strm_msg::NoMem;

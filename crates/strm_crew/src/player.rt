@@ -2,13 +2,13 @@
 ghost use Rattle.std.specs.Prelude.{◌≡◌, IfOk};
 ghost use Rattle.strm_crew.specs.Play.{ArePlayed, CallsDoFit, IsPlayer};
 
-use crate::about::Plays;
 use crate::account::{Account, call_on};
 use crate::gate::Gate;
 use crate::streams::Streams;
 use std::alloc::Global;
 use std::marker::Model;
 use std::sync::Wait;
+use strm_feed::Plays;
 use strm_job::ScriptCall;
 use strm_module::{Boxed, ModuleOf};
 use strm_msg::NoMem;

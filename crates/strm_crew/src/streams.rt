@@ -2,8 +2,8 @@
 ghost use Rattle.std.specs.Prelude.{◌≡◌, ◌<◌, length};
 ghost use Rattle.strm_crew.specs.Play.{AreStreams};
 
-use crate::about::{Of, Plays};
 use std::marker::Model;
+use strm_feed::{Of, Plays};
 use strm_module::ModuleOf;
 use strm_shared::Shared;
 

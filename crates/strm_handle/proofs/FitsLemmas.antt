@@ -15,8 +15,9 @@ use Rattle.strm_call.specs.declared.event.Event.TheVariants.{Asked}
 use Rattle.strm_head.specs.Step.{Step}
 use Rattle.strm_call.specs.declared.answer.Answer.{Answer}
 use Rattle.strm_call.specs.declared.answer.Answer.TheVariants.{Done}
-use Rattle.strm_msgio.specs.Cut.{given}
-use Rattle.strm_msgio.specs.Take.{first_of, getmsg_reply, getpmsg_reply, is_wanted, peeked_of, shown_of}
+use Rattle.strm_cut.specs.Cut.{given}
+use Rattle.strm_cut.specs.First.{first_of}
+use Rattle.strm_msgio.specs.Take.{getmsg_reply, getpmsg_reply, is_wanted, peeked_of, shown_of}
 use Rattle.strm_call.specs.declared.answer.Reply.TheVariants as Replies
 use Rattle.strm_handle.specs.Fits.{FitsIn, AreWithin, Fits}
 

@@ -10,7 +10,7 @@ use Rattle.strm_call.specs.declared.request.Request.TheVariants as Requests
 use Rattle.strm_call.specs.declared.refusal.Refusal.{Refusal}
 use Rattle.strm_call.specs.declared.refusal.Refusal.TheVariants.{Closed, Broken}
 use Rattle.strm_msgio.specs.Send.{putmsg_refusals, putpmsg_refusals, write_refusals}
-use Rattle.strm_msgio.specs.Read.{read_refusals}
+use Rattle.strm_read.specs.Read.{read_refusals}
 use Rattle.strm_msgio.specs.Take.{getmsg_refusals, getpmsg_refusals}
 use Rattle.strm_ioctl.specs.Ask.{getband_refusals}
 use Rattle.strm_ioctl.specs.Modules.{push_refusals, pop_refusals, look_refusals}

@@ -14,8 +14,9 @@ use Rattle.strm_call.specs.declared.answer.Answer.{Answer}
 use Rattle.strm_call.specs.declared.answer.Answer.TheVariants.{Done, Refused, Broke}
 use Rattle.strm_call.specs.Refusal.{first_that_holds, is_before}
 use Rattle.strm_call.specs.Begun.{Begun}
+use Rattle.strm_call.specs.Calls.{changes_modules}
 use Rattle.strm_msgio.specs.Send.{putmsg_refusals, putpmsg_refusals, write_refusals, putmsg_begun, putpmsg_begun, write_begun}
-use Rattle.strm_msgio.specs.Read.{read_refusals, read_begun}
+use Rattle.strm_read.specs.Read.{read_refusals, read_begun}
 use Rattle.strm_msgio.specs.Take.{getmsg_refusals, getpmsg_refusals, getmsg_begun, getpmsg_begun, peek_begun}
 use Rattle.strm_ioctl.specs.Ask.{getband_refusals, nread_begun, canput_begun, ckband_begun, getband_begun}
 use Rattle.strm_ioctl.specs.Options.{set_read_begun, get_read_begun}
@@ -134,13 +135,6 @@ takes_no_memory Look = true
 takes_no_memory Request.List = true
 takes_no_memory (Find name) = true
 takes_no_memory request = false
-
--- the calls that have put a module in, or taken some out, before they can want for memory
-abbrev pub changes_modules : {P : Type 0} → Request P → Bool
-changes_modules (Push instance) = true
-changes_modules Pop = true
-changes_modules Close = true
-changes_modules request = false
 
 -- the calls that want of memory can refuse
 abbrev pub can_lack_memory : {P : Type 0} → Request P → Bool

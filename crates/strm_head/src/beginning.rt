@@ -19,7 +19,8 @@ use strm_ioctl::{
 };
 use strm_module::{Boxed, ModuleOf};
 use strm_msg::{Bytes, End, NoMem};
-use strm_msgio::{getmsg, getpmsg, peek, putmsg, putpmsg, read, write};
+use strm_msgio::{getmsg, getpmsg, peek, putmsg, putpmsg, write};
+use strm_read::read;
 
 /// A reply without bytes, and an equal one. Takes no memory.
 fn plain(alloc: Global, reply: Reply) -> Twins

@@ -24,9 +24,8 @@ use strm_ioctl::{
 };
 use strm_module::{Boxed, ModuleOf};
 use strm_msg::{BoxedMessage, End, Errno, Message, NoMem};
-use strm_msgio::{
-    getmsg_refusal, getpmsg_refusal, putmsg_refusal, putpmsg_refusal, read_refusal, write_refusal,
-};
+use strm_msgio::{getmsg_refusal, getpmsg_refusal, putmsg_refusal, putpmsg_refusal, write_refusal};
+use strm_read::read_refusal;
 
 /// A law, which nothing is done for: what may refuse a call is looked for in the order of the refusals.
 pub fn refusals_are_in_order<M: ModuleOf>()

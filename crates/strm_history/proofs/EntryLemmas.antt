@@ -15,13 +15,15 @@ use Rattle.strm_call.specs.declared.answer.Answer.{Answer}
 use Rattle.strm_call.specs.declared.answer.Answer.TheVariants.{Done, Refused, Broke}
 use Rattle.strm_call.specs.declared.event.Event.TheVariants.{Asked}
 use Rattle.strm_head.specs.Answered.{AnsweredCall, IsLooked, IsBounded}
-use Rattle.strm_head.specs.Begin.{begun_of, changes_modules, handed_out, back_of, out_of, serials_of}
+use Rattle.strm_call.specs.Calls.{changes_modules}
+use Rattle.strm_head.specs.Begin.{begun_of, handed_out, back_of, out_of, serials_of}
 use Rattle.strm_head.specs.Step.{Step, Lands, arrived_of}
-use Rattle.strm_history.specs.declared.entry.Entry.{Entry}
-use Rattle.strm_history.specs.Entry.{serial_of, out_in, due_back, IsStep}
+use Rattle.strm_entry.specs.declared.entry.Entry.{Entry}
+use Rattle.strm_entry.specs.Entry.{serial_of, out_in}
+use Rattle.strm_history.specs.Steps.{due_back, IsStep}
 use Rattle.strm_history.specs.History.{Legal}
-use Rattle.strm_history.specs.Log.{arrival_entry}
-use Rattle.strm_history.specs.Receipt.{filled, RoomValue}
+use Rattle.strm_entry.specs.Receipt.{arrival_entry}
+use Rattle.strm_entry.specs.Receipt.{filled, RoomValue}
 
 -- for kinds of any meaning
 module _ {K : Type 0} (means : Meaning K) where

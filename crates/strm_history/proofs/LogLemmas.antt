@@ -13,10 +13,12 @@ use Rattle.strm_call.specs.declared.event.Event.TheVariants.{Asked}
 use Rattle.strm_head.specs.Answered.{AnsweredCall, IsLooked, IsBounded}
 use Rattle.strm_head.specs.Begin.{back_of}
 use Rattle.strm_head.specs.Step.{Lands, arrived_of}
-use Rattle.strm_history.specs.declared.entry.Entry.{Entry}
-use Rattle.strm_history.specs.Entry.{out_in, IsStep}
-use Rattle.strm_history.specs.Log.{LogValue, arrival_entry, HasLanded, IsCalled}
-use Rattle.strm_history.specs.Receipt.{filled, ReceiptValue, RoomValue}
+use Rattle.strm_entry.specs.declared.entry.Entry.{Entry}
+use Rattle.strm_entry.specs.Entry.{out_in}
+use Rattle.strm_history.specs.Steps.{IsStep}
+use Rattle.strm_entry.specs.Receipt.{arrival_entry}
+use Rattle.strm_history.specs.Log.{LogValue, HasLanded, IsCalled}
+use Rattle.strm_entry.specs.Receipt.{filled, ReceiptValue, RoomValue}
 use Rattle.strm_history.proofs.EntryLemmas.{call_back, landed_step}
 
 -- for kinds of any meaning

@@ -28,8 +28,9 @@ use Rattle.strm_ioctl.specs.Ioctl.{asked_of}
 use Rattle.strm_ioctl.specs.Close.{closed_image}
 use Rattle.strm_call.specs.declared.event.Event.{Event}
 use Rattle.strm_call.specs.declared.event.Event.TheVariants.{Asked, Arrived}
-use Rattle.strm_history.specs.declared.entry.Entry.{Entry}
-use Rattle.strm_head.specs.Begin.{begun_of, changes_modules, serials_of}
+use Rattle.strm_entry.specs.declared.entry.Entry.{Entry}
+use Rattle.strm_call.specs.Calls.{changes_modules}
+use Rattle.strm_head.specs.Begin.{begun_of, serials_of}
 use Rattle.strm_head.specs.Step.{Answers, IsDone, SettlesUnless, Lands, Step, answered_if}
 use Rattle.strm_history.specs.History.{Legal}
 use Rattle.strm_history.specs.Serials.{standing, pushed_by, pushed_in, taken_in, times_in, AreAccounted}

@@ -1,8 +1,5 @@
 pub mod Opened
-pub mod Out
-pub mod Kept
-pub mod Entry
-pub mod Receipt
+pub mod Steps
 pub mod Serials
 pub mod History
 pub mod Log

@@ -1,11 +1,10 @@
 -- What a call and an arrival do to a stream that keeps its history.
-use Rattle.std.specs.Prelude.{◌≡◌, ℕ, Bool, true, false, List, [], ◌∷◌, ◌++◌, Option, IfSome, flat_map, is_some}
+use Rattle.std.specs.Prelude.{◌≡◌, ℕ, false, List, [], ◌∷◌, ◌++◌, Option, IfSome, flat_map}
 use Rattle.strm_msg.specs.Message.{Msg}
 use Rattle.strm_msg.specs.declared.words.End.{End}
 use Rattle.strm_msg.specs.declared.words.End.TheVariants.{A}
 use Rattle.strm_module.specs.Kinds.{Meaning}
 use Rattle.strm_module.specs.declared.shape.Shape.{Shape}
-use Rattle.strm_ends.specs.declared.place.Place.{Place}
 use Rattle.strm_ends.specs.Image.{Image}
 use Rattle.strm_call.specs.declared.answer.Answer.{Answer}
 use Rattle.strm_call.specs.declared.setup.Setup.{Setup}
@@ -14,36 +13,22 @@ use Rattle.strm_call.specs.declared.event.Event.{Event}
 use Rattle.strm_call.specs.declared.event.Event.TheVariants.{Asked, Arrived}
 use Rattle.strm_head.specs.Begin.{back_of}
 use Rattle.strm_head.specs.Step.{can_arrive}
-use Rattle.strm_history.specs.declared.entry.Who.{Who}
-use Rattle.strm_history.specs.declared.entry.Who.TheVariants.{Caller, Line}
-use Rattle.strm_history.specs.declared.entry.Entry.{Entry}
-use Rattle.strm_history.specs.declared.call.Called.{Called}
-use Rattle.strm_history.specs.declared.call.Called.TheVariants.{Done, NoRoom}
-use Rattle.strm_history.specs.declared.call.Landed.{Landed}
-use Rattle.strm_history.specs.declared.call.Landed.TheVariants.{Entered, Full, NoMem}
-use Rattle.strm_history.specs.Entry.{serial_of, due_back, IsStep}
-use Rattle.strm_history.specs.Receipt.{ReceiptValue}
+use Rattle.strm_entry.specs.declared.entry.Who.{Who}
+use Rattle.strm_entry.specs.declared.entry.Who.TheVariants.{Caller, Line}
+use Rattle.strm_entry.specs.declared.entry.Entry.{Entry}
+use Rattle.strm_entry.specs.declared.call.Called.{Called}
+use Rattle.strm_entry.specs.declared.call.Called.TheVariants.{Done, NoRoom}
+use Rattle.strm_entry.specs.declared.call.Landed.{Landed}
+use Rattle.strm_entry.specs.declared.call.Landed.TheVariants.{Entered, Full, NoMem}
+use Rattle.strm_entry.specs.Entry.{serial_of}
+use Rattle.strm_entry.specs.Receipt.{ReceiptValue}
+use Rattle.strm_history.specs.Steps.{due_back, IsStep}
 
 -- a stream with its history: how it was made, its image, and its history
 pub record LogValue (K : Type 0) : Type 0 where
   pub setup : Setup
   pub image : Image K
   pub history : List (Entry K)
-
--- the call was made
-abbrev pub is_done : {P K : Type 0} → Called P K → Bool
-is_done (Done answer back receipt) = true
-is_done (NoRoom same) = false
-
--- it was made and has a receipt
-abbrev pub has_receipt : {P K : Type 0} → Called P K → Bool
-has_receipt (Done answer back receipt) = is_some receipt
-has_receipt (NoRoom same) = false
-
--- the entry of a message that came in (no public clause cites it)
-abbrev pub arrival_entry : {K : Type 0} → Msg → Answer → List Place → ℕ → Entry K
-arrival_entry m answer moves looks =
-    record { who = Line; end = A; event = Arrived m; answer = answer; moves = moves; looks = looks; out = record { items = [] } }
 
 -- for kinds of any meaning
 module _ {K : Type 0} (means : Meaning K) where

@@ -4,22 +4,10 @@
 //! from one to the next. A [`Log`] is a stream that keeps its history.
 #![tactic(auto)]
 
-mod call;
-mod entry;
-mod kept;
 mod log;
-mod receipt;
-mod room;
-mod same;
-mod serials;
-mod transcript;
 
-pub use call::{Called, Landed};
-pub use entry::{Entry, Who};
-pub use kept::Kept;
 pub use log::Log;
-pub use receipt::Receipt;
-pub use room::{Room, room_for};
-pub use serials::Serials;
 pub use strm_call::{Call, MOST_RING, SameKind, Setup};
-pub use transcript::{StreamLog, Transcript};
+pub use strm_entry::{
+    Called, Entry, Kept, Landed, Receipt, Room, Serials, StreamLog, Transcript, Who, room_for,
+};

@@ -8,14 +8,11 @@ ghost use Rattle.strm_call.specs.declared.event.Event.TheVariants.{Asked};
 ghost use Rattle.strm_history.specs.Serials.{AreAccounted};
 ghost use Rattle.strm_history.specs.Opened.{opened};
 
-use crate::call::{Called, Landed};
-use crate::entry::{Entry, taken_out};
-use crate::kept::Kept;
-use crate::room::{Room, room_for, room_for_arrival, taken};
 use arrayvec::ArrayVec;
 use std::alloc::Global;
 use std::marker::Model;
 use strm_call::{Call, Setup};
+use strm_entry::{Called, Entry, Kept, Landed, Room, room_for, room_for_arrival, taken, taken_out};
 use strm_head::{Arrived, NewFault, Stream};
 use strm_module::{Boxed, ModuleOf};
 use strm_msg::Message;

@@ -1,2 +1,3 @@
 pub mod EachLemmas
 pub mod OnceLemmas
+pub mod LoopLemmas

@@ -7,7 +7,7 @@ use Rattle.strm_msg.specs.declared.kind.MsgKind.{MsgKind}
 use Rattle.strm_msg.specs.declared.kind.MsgKind.TheVariants.{MData, MProto, MIoctl, MFlush, MError}
 use Rattle.strm_msg.specs.declared.words.Side.{Side}
 use Rattle.strm_msg.specs.declared.words.Side.TheVariants.{Rd, Wr}
-use Rattle.strm_module.specs.Bytes.{mapped, with_cr, without_cr, rest_len, whole_lines}
+use Rattle.strm_bytes.specs.Bytes.{mapped, with_cr, without_cr, rest_len, whole_lines}
 use Rattle.strm_module.specs.Calm.{is_calm, are_calm, puts_calm, options_by, options_of, options_sent, puts_options, IsCalm}
 use Rattle.strm_module.specs.Builtin.{line_splits, table_action, crnl_action, line_action, count_action, band_action, tee_action, mute_action, split_action, ordinary_action, builtin}
 use Rattle.strm_module.specs.Kinds.{OutList, Action, Meaning}

@@ -1,4 +1,3 @@
 pub mod ProcedureLemmas
 pub mod BuiltinLemmas
 pub mod CalmLemmas
-pub mod WorkedExamples

@@ -9,7 +9,7 @@ use Rattle.strm_msg.specs.declared.words.Side.{Side}
 use Rattle.strm_msg.specs.declared.words.Side.TheVariants.{Rd, Wr}
 use Rattle.strm_module.specs.Kinds.{OutList, Action, Meaning, kept, passed_on, replied, answered}
 use Rattle.strm_module.specs.declared.kind.TheConstants.{MOST_KEPT}
-use Rattle.strm_module.specs.Bytes.{mapped, with_cr, without_cr, rest_len, whole_lines, rest_of_line}
+use Rattle.strm_bytes.specs.Bytes.{mapped, with_cr, without_cr, rest_len, whole_lines, rest_of_line}
 use Rattle.strm_module.specs.declared.kind.Kind.{Kind}
 use Rattle.strm_module.specs.declared.kind.Kind.TheVariants.{Pass, Table, CrNl, Line, Count, Band, Tee, Mute, Split}
 

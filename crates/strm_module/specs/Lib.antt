@@ -1,4 +1,3 @@
-pub mod Bytes
 pub mod Shape
 pub mod Kinds
 pub mod Outs

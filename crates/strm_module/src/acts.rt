@@ -3,13 +3,13 @@ ghost use Rattle.std.specs.Prelude.{◌≡◌, [], ◌∷◌, IfOk, OnOk, OnErr,
 ghost use Rattle.strm_msg.specs.Message.{data_msg};
 ghost use Rattle.strm_msg.specs.declared.kind.MsgKind.TheVariants.{MData};
 ghost use Rattle.strm_module.specs.declared.kind.Kind.TheVariants as Kind;
-ghost use Rattle.strm_module.specs.Bytes.{mapped, with_cr, without_cr};
+ghost use Rattle.strm_bytes.specs.Bytes.{mapped, with_cr, without_cr};
 ghost use Rattle.strm_module.specs.Builtin.{table_action, crnl_action, line_splits, line_action, count_action, band_action, tee_action, mute_action, split_action};
 
-use crate::bytes;
 use crate::kind::MOST_KEPT;
 use crate::outs::{Outs, both, pass_on, reply};
 use std::alloc::Global;
+use strm_bytes as bytes;
 use strm_msg::{BoxedMessage, Bytes, Message, MsgKind, NoMem, Side};
 
 /// A part mapped byte by byte, where there is one.

@@ -6,21 +6,20 @@
 //! head (Programmer's Guide: STREAMS, "Modules").
 //!
 //! A module is an `Instance`: a `Shape`, which is plain data and decides every answer, and an object
-//! that acts by it. For the built-in kinds of `Kind` there are objects to take, as `Pass` and `Count`,
+//! that acts by it. For the built-in kinds of `Kind` there is `Plain`, which does what its shape says,
 //! and `Module` says how to write one that does more beside. `Kinds` says how a program gets kinds
 //! of its own, and `ModuleOf` how their objects are written.
 #![tactic(auto)]
 
 mod acts;
 mod boxed;
-mod bytes;
 mod driver;
 mod instance;
 mod kind;
 mod laws;
 mod module;
-mod objects;
 mod outs;
+mod plain;
 mod procedures;
 mod shape;
 mod vocabulary;
@@ -31,7 +30,7 @@ pub use instance::Instance;
 pub use kind::{Kind, MOST_KEPT, MOST_SPLIT};
 pub use laws::builtin_are_calm;
 pub use module::{Module, ModuleOf};
-pub use objects::{Band, Count, CrNl, Line, Mute, Pass, Plain, Split, Table, Tee};
 pub use outs::{Outs, Put, both, pass_on, reply};
+pub use plain::Plain;
 pub use shape::{LONGEST_NAME, MakeFault, Shape};
 pub use vocabulary::Kinds;

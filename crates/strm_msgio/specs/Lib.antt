@@ -1,4 +1,2 @@
-pub mod Cut
-pub mod Read
 pub mod Send
 pub mod Take

@@ -1,10 +1,8 @@
 -- Calls that take the first message at the head, or look at it: getmsg, getpmsg and peek (getmsg(2); streamio(7), I_PEEK).
-use Rattle.std.specs.Prelude.{ℕ, ◌||◌, not, nat_le, Bool, true, false, Option, Some, None, List, [], ◌∷◌, slice_get, if◌then◌else◌}
+use Rattle.std.specs.Prelude.{ℕ, ◌||◌, nat_le, Bool, true, false, Option, Some, None, List, [], ◌∷◌, if◌then◌else◌}
 use Rattle.strm_msg.specs.Kind.{is_high}
 use Rattle.strm_msg.specs.Message.{Msg}
 use Rattle.strm_msg.specs.declared.words.End.{End}
-use Rattle.strm_queue.specs.Queue.{put_back_in}
-use Rattle.strm_qpair.specs.End.{EndState}
 use Rattle.strm_ends.specs.Image.{Image, end_of, with_head}
 use Rattle.strm_call.specs.declared.request.Priority.{Priority}
 use Rattle.strm_call.specs.declared.request.Priority.TheVariants.{Norm, Hipri}
@@ -17,7 +15,8 @@ use Rattle.strm_call.specs.declared.answer.Received.{Received}
 use Rattle.strm_call.specs.declared.answer.Peeked.{Peeked}
 use Rattle.strm_call.specs.declared.answer.Reply.{Reply}
 use Rattle.strm_call.specs.Begun.{Begun, begun}
-use Rattle.strm_msgio.specs.Cut.{Most, cut_of}
+use Rattle.strm_cut.specs.Cut.{Most, cut_of}
+use Rattle.strm_cut.specs.First.{first_of, lacks_message, put_back_if}
 
 -- whether a getmsg takes this message
 abbrev pub is_wanted : Wanted → Msg → Bool
@@ -31,14 +30,6 @@ is_wanted_in GetFlag.Any band m = true
 is_wanted_in GetFlag.Band band m = is_high m.kind || nat_le band m.band
 is_wanted_in GetFlag.Hipri band m = is_high m.kind
 
-abbrev pub first_of : List Msg → Option Msg
-first_of q = slice_get q 0
-
--- the call would have to wait: the first message is not one that it takes, or none is there and the end is not hung up
-abbrev pub lacks_message : {K : Type 0} → EndState K → Option Msg → (Msg → Bool) → Bool
-lacks_message e None takes = not e.state.hung
-lacks_message e (Some m) takes = not (takes m)
-
 abbrev pub getmsg_refusals : {K : Type 0} → Image K → End → Wanted → List (Bool × Refusal)
 getmsg_refusals image e flag = (lacks_message (end_of image e) (first_of (end_of image e).head) (is_wanted flag), WouldWait) ∷ []
 
@@ -51,10 +42,6 @@ is_zero GetFlag.Hipri = false
 abbrev pub getpmsg_refusals : {K : Type 0} → Image K → End → ℕ → GetFlag → List (Bool × Refusal)
 getpmsg_refusals image e band flag =
     (is_zero flag, Invalid) ∷ (lacks_message (end_of image e) (first_of (end_of image e).head) (is_wanted_in flag band), WouldWait) ∷ []
-
-abbrev pub put_back_if : List Msg → Option Msg → List Msg
-put_back_if q None = q
-put_back_if q (Some m) = put_back_in q m
 
 -- the list of a head from whose first message this much is taken; the rest is put back
 abbrev pub taken_from : List Msg → Most → Most → List Msg

@@ -6,13 +6,14 @@ ghost use Rattle.strm_call.specs.declared.answer.Received.TheVariants as Receive
 ghost use Rattle.strm_call.specs.declared.answer.More.TheVariants as Mores;
 ghost use Rattle.strm_call.specs.declared.request.Priority.TheVariants as Priorities;
 ghost use Rattle.strm_call.specs.Refusal.{first_that_holds};
-ghost use Rattle.strm_msgio.specs.Cut.{cut_of};
-ghost use Rattle.strm_msgio.specs.Take.{first_of, peeked_of, is_wanted, is_wanted_in, getmsg_refusals, getpmsg_refusals, put_back_if, priority_of, received_of, getmsg_reply, getpmsg_reply, getmsg_begun, getpmsg_begun, peek_begun};
+ghost use Rattle.strm_cut.specs.Cut.{cut_of};
+ghost use Rattle.strm_cut.specs.First.{first_of, put_back_if};
+ghost use Rattle.strm_msgio.specs.Take.{peeked_of, is_wanted, is_wanted_in, getmsg_refusals, getpmsg_refusals, priority_of, received_of, getmsg_reply, getpmsg_reply, getmsg_begun, getpmsg_begun, peek_begun};
 
-use crate::cut::Cut;
 use std::alloc::Global;
 use strm_call::{GetFlag, More, Peeked, Priority, Received, Refusal, Reply, Twins, Wanted};
 use strm_chain::Chain;
+use strm_cut::Cut;
 use strm_module::ModuleOf;
 use strm_msg::{BoxedMessage, Bytes, End, Message, NoMem};
 

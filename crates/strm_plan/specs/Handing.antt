@@ -1,5 +1,5 @@
 -- What a run is given of a plan, and what is left of it.
-use Rattle.std.specs.Prelude.{ℕ, List, map}
+use Rattle.std.specs.Prelude.{◌≡◌, ℕ, List, [], map, All}
 use Rattle.strm_module.specs.declared.shape.Shape.{Shape}
 use Rattle.strm_call.specs.declared.setup.Setup.{Setup}
 use Rattle.strm_job.specs.declared.script.ScriptCall.{ScriptCall}
@@ -20,3 +20,7 @@ calls_of_scripts scripts = map (λ script. script.calls.items) scripts
 
 abbrev pub names_of : {K : Type 0} → List (ProcessDecl K) → List (List ℕ)
 names_of processes = map (λ process. process.name.items) processes
+
+-- processes that have no calls, or none any more
+abbrev pub AreIdle : {K : Type 0} → List (ProcessDecl K) → Type 0
+AreIdle processes = All (λ process. process.calls.items ≡ []) processes

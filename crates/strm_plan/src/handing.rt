@@ -1,6 +1,6 @@
 //! What a run is given of a plan.
-ghost use Rattle.std.specs.Prelude.{◌≡◌, map, IfOk};
-ghost use Rattle.strm_plan.specs.Handing.{setups_of, calls_of_processes, calls_of_scripts, names_of};
+ghost use Rattle.std.specs.Prelude.{◌≡◌, [], map, IfOk};
+ghost use Rattle.strm_plan.specs.Handing.{setups_of, calls_of_processes, calls_of_scripts, names_of, AreIdle};
 
 use crate::plan::{Name, Plan, ProcessDecl};
 use crate::pushing::PlayModule;
@@ -80,6 +80,7 @@ fn scripts<M: PlayModule>(
     processes: Vec<ProcessDecl<M::Kind>>,
 ) -> Result<(Vec<ProcessDecl<M::Kind>>, Vec<Script<Boxed<M>>>), NoMem>
     ensures names { IfOk result (λ both. names_of both.0.items ≡ names_of processes.items) }
+    ensures idle { IfOk result (λ both. AreIdle both.0.items) }
     ensures calls { IfOk result (λ both. calls_of_scripts both.1.items ≡ calls_of_processes processes.items) }
 {
     let mut named = Vec::with_capacity(alloc, processes.len())?;
@@ -100,6 +101,8 @@ fn scripts<M: PlayModule>(
 pub fn hand_over<M: PlayModule>(alloc: Global, plan: Plan<M::Kind>) -> Result<Handed<M>, NoMem>
     ensures streams { IfOk result (λ handed. handed.plan.streams ≡ plan.streams) }
     ensures names { IfOk result (λ handed. names_of handed.plan.processes.items ≡ names_of plan.processes.items) }
+    ensures idle { IfOk result (λ handed. AreIdle handed.plan.processes.items) }
+    ensures unfed { IfOk result (λ handed. handed.plan.feeds.items ≡ []) }
     ensures setups { IfOk result (λ handed. handed.setups.items ≡ setups_of plan) }
     ensures scripts { IfOk result (λ handed. calls_of_scripts handed.scripts.items ≡ calls_of_processes plan.processes.items) }
     ensures feeds { IfOk result (λ handed. handed.feeds.items ≡ plan.feeds.items) }

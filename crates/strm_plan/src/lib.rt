@@ -14,7 +14,7 @@ mod pushing;
 mod setup;
 mod target;
 
-pub use fault::ScriptFault;
+pub use fault::{PlayFault, ScriptFault};
 pub use handing::{Handed, hand_over};
 pub use loading::{LoadFault, MOST_READ, load};
 pub use parsing::{LONGEST_SCRIPT, parse};

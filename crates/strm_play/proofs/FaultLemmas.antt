@@ -1,8 +1,8 @@
 -- Which faults a run of a script may have.
 use Rattle.std.proofs.Common.{◌≡◌, ◌↔◌, ℕ, Bool, true, false, not, Result, Err, IsErrOf, refl, ap}
 use Rattle.strm_job.specs.There.{is_crew}
-use Rattle.strm_run.specs.declared.fault.RunFault.{RunFault}
-use Rattle.strm_run.specs.declared.fault.RunFault.TheVariants as runs
+use Rattle.strm_job.specs.declared.fault.RunFault.{RunFault}
+use Rattle.strm_job.specs.declared.fault.RunFault.TheVariants as runs
 use Rattle.strm_play.specs.Played.{may_have}
 
 pub unless_false : (b : Bool) → (b ≡ false → ⊥) → b ≡ true

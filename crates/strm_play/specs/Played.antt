@@ -3,15 +3,15 @@ use Rattle.std.specs.Prelude.{◌≡◌, ℕ, ◌<◌, Bool, true, false, not, L
 use Rattle.strm_module.specs.declared.shape.Shape.{Shape}
 use Rattle.strm_module.specs.Kinds.{Meaning}
 use Rattle.strm_call.specs.declared.setup.Setup.{Setup}
-use Rattle.strm_history.specs.History.{own}
-use Rattle.strm_history.specs.Entry.{asked_of}
+use Rattle.strm_entry.specs.Own.{own}
+use Rattle.strm_entry.specs.Entry.{asked_of}
 use Rattle.strm_job.specs.declared.script.ScriptCall.{ScriptCall}
-use Rattle.strm_history.specs.declared.transcript.StreamLog.{StreamLog}
+use Rattle.strm_entry.specs.declared.transcript.StreamLog.{StreamLog}
 use Rattle.strm_job.specs.Scripts.{calls_on, feed_of}
 use Rattle.strm_job.specs.There.{is_crew}
 use Rattle.strm_crew.specs.Transcript.{IsFed, IsLegal}
-use Rattle.strm_run.specs.declared.fault.RunFault.{RunFault}
-use Rattle.strm_run.specs.declared.fault.RunFault.TheVariants as runs
+use Rattle.strm_job.specs.declared.fault.RunFault.{RunFault}
+use Rattle.strm_job.specs.declared.fault.RunFault.TheVariants as runs
 use Rattle.strm_verb.specs.Naming.{KindWords}
 use Rattle.strm_plan.specs.Plan.{plan_view}
 use Rattle.strm_plan.specs.Reading.{spelt}
@@ -19,8 +19,8 @@ use Rattle.strm_plan.specs.Spelling.{Spells}
 use Rattle.strm_plan.specs.declared.plan.Plan.{Plan}
 use Rattle.strm_plan.specs.Handing.{setups_of, calls_of_processes, names_of}
 use Rattle.strm_play.specs.declared.playing.Outcome.{Outcome}
-use Rattle.strm_play.specs.declared.fault.PlayFault.{PlayFault}
-use Rattle.strm_play.specs.declared.fault.PlayFault.TheVariants.{Script, Run}
+use Rattle.strm_plan.specs.declared.fault.PlayFault.{PlayFault}
+use Rattle.strm_plan.specs.declared.fault.PlayFault.TheVariants.{Script, Run}
 
 -- the calls of a process, by its number; there are none past the last
 abbrev pub calls_of : {K : Type 0} → Plan K → ℕ → List (ScriptCall (Shape K))

@@ -2,9 +2,7 @@
 //! threads, and what became of each stream is given back.
 #![tactic(auto)]
 
-mod fault;
 mod playing;
 
-pub use fault::PlayFault;
 pub use playing::{Outcome, play, play_plan};
-pub use strm_plan::{Handed, PlayModule, hand_over};
+pub use strm_plan::{Handed, PlayFault, PlayModule, hand_over};

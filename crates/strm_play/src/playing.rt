@@ -6,13 +6,12 @@ ghost use Rattle.strm_plan.specs.Plan.{plan_view};
 ghost use Rattle.strm_plan.specs.Sound.{IsSound};
 ghost use Rattle.strm_play.specs.Played.{IsPlayed, IsPlayedPlan, IsFaultOf, may_have};
 
-use crate::fault::PlayFault;
 use std::alloc::Global;
 use std::sync::Wait;
 use std::thread::Threads;
 use strm_history::SameKind;
 use strm_module::Kind;
-use strm_plan::{Handed, Plan, PlayModule, ReadKind, hand_over, parse};
+use strm_plan::{Handed, Plan, PlayFault, PlayModule, ReadKind, hand_over, parse};
 use strm_run::{Gate, RunFault, Transcript, run};
 
 /// What is left of a script that was played.

@@ -8,25 +8,27 @@ use Rattle.strm_msg.specs.Message.{Msg}
 use Rattle.strm_module.specs.Kinds.{Meaning}
 use Rattle.strm_module.specs.Driver.{is_line}
 use Rattle.strm_call.specs.declared.setup.Setup.{Setup}
-use Rattle.strm_history.specs.declared.entry.Entry.{Entry}
+use Rattle.strm_entry.specs.declared.entry.Entry.{Entry}
 use Rattle.strm_history.specs.Opened.{opened}
 use Rattle.strm_shared.specs.declared.fault.EndFault.{EndFault}
-use Rattle.strm_shared.specs.Ended.{EndedValue}
-use Rattle.strm_history.specs.History.{own, calls_of, arrivals, Legal}
+use Rattle.strm_ended.specs.Ended.{EndedValue}
+use Rattle.strm_entry.specs.Own.{own, calls_of, arrivals}
+use Rattle.strm_history.specs.History.{Legal}
 use Rattle.strm_history.specs.Serials.{AreAccounted}
 use Rattle.strm_shared.specs.Seat.{SeatValue}
-use Rattle.strm_history.specs.Entry.{asked_of}
-use Rattle.strm_history.specs.Receipt.{ReceiptValue}
+use Rattle.strm_entry.specs.Entry.{asked_of}
+use Rattle.strm_entry.specs.Receipt.{ReceiptValue}
 use Rattle.strm_shared.specs.Turns.{AreFirstOf}
 use Rattle.strm_line.specs.Feed.{FeedValue, accepted_of}
 use Rattle.strm_shared.specs.Ending.{SharedValue, AreSeats, CountsAgree, is_fed}
-use Rattle.strm_run.specs.declared.fault.RunFault.{RunFault}
+use Rattle.strm_job.specs.declared.fault.RunFault.{RunFault}
 use Rattle.strm_job.specs.declared.script.Script.{Script}
-use Rattle.strm_history.specs.declared.transcript.StreamLog.{StreamLog}
+use Rattle.strm_entry.specs.declared.transcript.StreamLog.{StreamLog}
 use Rattle.strm_job.specs.Scripts.{calls_on, script_of, feed_of}
 use Rattle.strm_crew.specs.Account.{HasReceipts}
-use Rattle.strm_crew.specs.Run.{RunValue}
-use Rattle.strm_crew.specs.Transcript.{AreLogs, IsFed, IsLog, IsPartOf}
+use Rattle.strm_feed.specs.About.{RunValue}
+use Rattle.strm_crew.specs.Transcript.{AreLogs, IsFed, IsLog}
+use Rattle.strm_feed.specs.Feeding.{IsPartOf}
 use Rattle.strm_crew.specs.Play.{ArePlayed, AreStreams, HasPlayed}
 use Rattle.strm_run.specs.Inside.Table.{IsTransposed}
 use Rattle.strm_run.specs.Inside.Ending.{AreLinesFed, AreParted, AreSeatsPlayed, IsOffered, IsStream, Leaves}

@@ -11,8 +11,8 @@ use Rattle.strm_line.specs.Feed.{fresh_feeder, FeederValue}
 use Rattle.strm_job.specs.declared.script.Feed.{Feed}
 use Rattle.strm_job.specs.Scripts.{feed_of}
 use Rattle.strm_job.specs.There.{line_is_there}
-use Rattle.strm_crew.specs.Run.{RunValue}
-use Rattle.strm_crew.specs.Play.{IsFeeding}
+use Rattle.strm_feed.specs.About.{RunValue}
+use Rattle.strm_feed.specs.Feeding.{IsFeeding}
 use Rattle.strm_crew.specs.Dealing.{callers_of}
 use Rattle.strm_run.specs.Inside.Opening.{lines_below, AreFeeders, AreFeeds}
 use Rattle.strm_crew.proofs.ReachedLemmas.{fails_more, passes_more, reached_is, reached_there}

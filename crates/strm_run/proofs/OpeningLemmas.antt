@@ -6,8 +6,8 @@ use Rattle.strm_msg.specs.declared.memory.NoMem.{NoMem}
 use Rattle.strm_shared.specs.Seat.{SeatValue}
 use Rattle.strm_line.specs.Feed.{fresh_feeder, FeederValue, RingValue}
 use Rattle.strm_shared.specs.Ending.{fresh_seats, SharedValue}
-use Rattle.strm_crew.specs.Run.{RunValue}
-use Rattle.strm_crew.specs.Rings.{ring_of}
+use Rattle.strm_feed.specs.About.{RunValue}
+use Rattle.strm_feed.specs.About.{ring_of}
 use Rattle.strm_crew.specs.Dealing.{AreSeated}
 use Rattle.strm_run.specs.Inside.Opening.{AreOpened, AreSeatsOn}
 use Rattle.strm_run.specs.Inside.Table.{IsTransposed}

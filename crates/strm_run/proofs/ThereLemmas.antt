@@ -12,7 +12,7 @@ use Rattle.strm_job.specs.declared.script.Script.{Script}
 use Rattle.strm_job.specs.declared.script.Feed.{Feed}
 use Rattle.strm_job.specs.Scripts.{feed_of}
 use Rattle.strm_job.specs.There.{end_is_there, line_is_there, AreThere}
-use Rattle.strm_crew.specs.Run.{RunValue}
+use Rattle.strm_feed.specs.About.{RunValue}
 use Rattle.strm_run.specs.Inside.Opening.{AreFeeds}
 use Rattle.strm_run.specs.Inside.Ending.{AreLinesFed}
 

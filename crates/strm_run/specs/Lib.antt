@@ -1,2 +1,1 @@
-pub mod Fault
 pub mod Inside

@@ -6,13 +6,13 @@ ghost use Rattle.strm_crew.specs.Play.{ArePlayed, HasPlayed};
 ghost use Rattle.strm_run.specs.Inside.Ending.{is_end_refused, overrun_of, AreLinesFed, AreParted, AreSeatsPlayed, IsLate, IsOffered, IsStream, Leaves};
 ghost use Rattle.strm_job.specs.Scripts.{feed_of};
 
-use crate::fault::RunFault;
 use crate::feeds::offered_on;
 use crate::table::transposed;
 use std::alloc::Global;
 use std::mem;
 use strm_crew::{Account, Of, Offered, Played, Plays, Streams, holds_all, log_of};
 use strm_history::{Receipt, SameKind, StreamLog, Transcript};
+use strm_job::RunFault;
 use strm_module::ModuleOf;
 use strm_msg::NoMem;
 use strm_shared::{EndFault, Ended, FeedEnd, Seat, Shared};

@@ -6,15 +6,13 @@
 #![tactic(auto)]
 
 mod ending;
-mod fault;
 mod feeds;
 mod opening;
 mod running;
 mod table;
 mod threads;
 
-pub use fault::RunFault;
 pub use running::run;
 pub use strm_crew::Gate;
 pub use strm_history::{StreamLog, Transcript};
-pub use strm_job::{Feed, MOST_WORKERS, Script, ScriptCall, are_from_line, are_setups};
+pub use strm_job::{Feed, MOST_WORKERS, RunFault, Script, ScriptCall, are_from_line, are_setups};

@@ -1,7 +1,7 @@
 //! A run.
 ghost use Rattle.std.specs.Prelude.{◌≡◌, ◌↔◌, ◌<◌, ◌^◌, ℕ, true, false, length, get_or, map, All, IfOk, IfErr, IsErrOf};
-ghost use Rattle.strm_history.specs.History.{own};
-ghost use Rattle.strm_history.specs.Entry.{asked_of};
+ghost use Rattle.strm_entry.specs.Own.{own};
+ghost use Rattle.strm_entry.specs.Entry.{asked_of};
 ghost use Rattle.strm_job.specs.Scripts.{calls_on, script_of, feed_of};
 ghost use Rattle.strm_job.specs.There.{is_crew, is_setup, AreFromLine, AreThere};
 ghost use Rattle.strm_crew.specs.Run.{CallsFit};
@@ -10,7 +10,6 @@ ghost use Rattle.strm_crew.specs.Play.{CallsDoFit};
 ghost use Rattle.strm_run.specs.Inside.Ending.{IsLate};
 
 use crate::ending::finish;
-use crate::fault::RunFault;
 use crate::feeds::{feedings, feeds_of};
 use crate::opening::{open, rings_of};
 use crate::table::transposed;
@@ -21,7 +20,7 @@ use std::sync::Wait;
 use std::thread::Threads;
 use strm_crew::{Gate, Plays, Streams, deal, seated};
 use strm_history::{SameKind, Setup, Transcript};
-use strm_job::{Feed, Script, are_there, is_crew};
+use strm_job::{Feed, RunFault, Script, are_there, is_crew};
 use strm_module::{Boxed, ModuleOf};
 use strm_shared::Ring;
 

@@ -1,28 +1,44 @@
 //! The threads of a run.
-ghost use Rattle.std.specs.Thread.{IsSend, IsSync};
 ghost use Rattle.strm_crew.specs.Play.{CallsDoFit};
 
 use std::alloc::Global;
 use std::sync::Wait;
-use std::thread;
 use std::thread::Threads;
 use strm_crew::{Feeding, Gate, Offered, Played, Player, Plays, Streams, play_each};
 use strm_module::ModuleOf;
 use strm_msg::NoMem;
+use strm_threads::beside;
 
-/// What two parts of a run leave, one behind the other; want of memory, where one of them met it.
-fn both<T: Drop>(
+/// The first worker that has scripts, and the others that have some.
+fn with_scripts<P: Drop>(
+    alloc: Global,
+    crews: Vec<Vec<P>>,
+) -> Result<(Vec<P>, Vec<Vec<P>>), NoMem> {
+    let mut first = Vec::new(alloc);
+    let mut others = Vec::new(alloc);
+    for crew in crews {
+        if first.is_empty() {
+            first = crew;
+        } else if !crew.is_empty() {
+            others.push(crew)?;
+        }
+    }
+    Ok((first, others))
+}
+
+/// What workers leave, one behind the other; want of memory, where one of them met it.
+fn joined<T: Drop>(
     first: Result<Vec<T>, NoMem>,
-    second: Result<Vec<T>, NoMem>,
+    others: Vec<Result<Vec<T>, NoMem>>,
 ) -> Result<Vec<T>, NoMem> {
     let mut all = first?;
-    let mut more = second?;
-    all.append(&mut more)?;
+    for other in others {
+        all.append(&mut other?)?;
+    }
     Ok(all)
 }
 
-/// Plays the scripts of the first worker here, and those of each other in a thread of its own, if it has some. Waits for all
-/// that were started, also where one could not be: then no more are, and nothing is played here.
+/// Plays the scripts of the first worker here, and those of each other in a thread of its own, if it has some.
 fn play_all<M: ModuleOf, N: Plays<M::Kind> + Send + Sync, R: Threads + Wait + Sync, G: Gate>(
     rt: &R,
     alloc: Global,
@@ -34,56 +50,47 @@ where
     M::Kind: Send + Sync,
     requires { CallsDoFit M.row M.Kind.row M.Kind.Kinds }
 {
-    thread::scope(
-        thread::scope_env(),
+    let (first, others) = with_scripts(alloc, crews)?;
+    let (left, mine) = beside(
         rt,
-        |scope| -> Result<Vec<Played<M::Kind, N>>, NoMem>
-            requires { IsSync R.row × IsSync G.row × IsSend M.row × IsSend M.Kind.row × IsSync M.Kind.row × IsSend N.row × IsSync N.row × CallsDoFit M.row M.Kind.row M.Kind.Kinds }
-        {
-            let mut handles = Vec::new(alloc);
-            let mut played = Ok(Vec::new(alloc));
-            let mut others = crews.into_iter();
-            let first = others.next().unwrap_or(Vec::new(alloc));
-            for crew in others {
-                if crew.is_empty() {
-                    continue;
-                }
-                let Ok(()) = handles.reserve(1) else {
-                    played = Err(NoMem);
-                    break;
-                };
-                let Ok(handle) = scope.spawn(
-                    move || -> Result<Vec<Played<M::Kind, N>>, NoMem>
-                        requires { IsSend M.row × CallsDoFit M.row M.Kind.row M.Kind.Kinds }
-                    { play_each(rt, alloc, streams, crew, gate) },
-                ) else {
-                    played = Err(NoMem);
-                    break;
-                };
-                handles.push_reserved(handle);
-            }
-            if played.is_ok() {
-                played = play_each(rt, alloc, streams, first, gate);
-            }
-            for handle in handles {
-                played = both(played, handle.join(rt));
-            }
-            played
-        },
-    )
+        alloc,
+        others,
+        &|crew: Vec<Player<M, N>>| -> Result<Vec<Played<M::Kind, N>>, NoMem>
+            requires { CallsDoFit M.row M.Kind.row M.Kind.Kinds }
+        { play_each(rt, alloc, streams, crew, gate) },
+        || -> Result<Vec<Played<M::Kind, N>>, NoMem>
+            requires { CallsDoFit M.row M.Kind.row M.Kind.Kinds }
+        { play_each(rt, alloc, streams, first, gate) },
+    )?;
+    joined(mine, left)
 }
 
-/// What was left before, and one more, if there is one; want of memory, where that was met.
-fn with_one<T: Drop>(before: Result<Vec<T>, NoMem>, one: Option<T>) -> Result<Vec<T>, NoMem> {
-    let mut all = before?;
+/// What a feeder left, kept with what others did.
+fn keep<T: Drop>(all: &mut Vec<T>, one: Option<T>) -> Result<(), NoMem> {
     if let Some(one) = one {
         all.push(one)?;
     }
-    Ok(all)
+    Ok(())
 }
 
-/// Starts a thread for each feed that has messages, and then the workers, and waits for all that were started, also
-/// where one could not be: then no more are.
+/// The feeders that have messages, apart from what those leave that have none.
+fn with_messages<K: Drop, N: Plays<K>>(
+    alloc: Global,
+    feedings: Vec<Feeding<K, N>>,
+) -> Result<(Vec<Feeding<K, N>>, Vec<Offered<K, N>>), NoMem> {
+    let mut feeders = Vec::new(alloc);
+    let mut offered = Vec::new(alloc);
+    for feeding in feedings {
+        if feeding.is_empty() {
+            keep(&mut offered, feeding.offer())?;
+        } else {
+            feeders.push(feeding)?;
+        }
+    }
+    Ok((feeders, offered))
+}
+
+/// Plays scripts while each feeder that has messages offers them in a thread of its own, and waits for all.
 pub(crate) fn play_out<
     M: ModuleOf,
     N: Plays<M::Kind> + Send + Sync,
@@ -101,40 +108,18 @@ where
     M::Kind: Send + Sync,
     requires { CallsDoFit M.row M.Kind.row M.Kind.Kinds }
 {
-    thread::scope(
-        thread::scope_env(),
+    let (feeders, mut offered) = with_messages(alloc, feedings)?;
+    let (left, played) = beside(
         rt,
-        |scope| -> Result<(Vec<Played<M::Kind, N>>, Vec<Offered<M::Kind, N>>), NoMem>
-            requires { IsSync R.row × IsSync G.row × IsSend M.row × IsSend M.Kind.row × IsSync M.Kind.row × IsSend N.row × IsSync N.row × CallsDoFit M.row M.Kind.row M.Kind.Kinds }
-        {
-            let mut handles = Vec::new(alloc);
-            let mut offered = Ok(Vec::new(alloc));
-            for feeding in feedings {
-                if feeding.is_empty() {
-                    offered = with_one(offered, feeding.offer());
-                    continue;
-                }
-                let Ok(()) = handles.reserve(1) else {
-                    offered = Err(NoMem);
-                    break;
-                };
-                let Ok(handle) = scope.spawn(move || -> Option<Offered<M::Kind, N>> {
-                    feeding.offer()
-                }) else {
-                    offered = Err(NoMem);
-                    break;
-                };
-                handles.push_reserved(handle);
-            }
-            let played = if offered.is_ok() {
-                play_all(rt, alloc, streams, crews, gate)
-            } else {
-                Err(NoMem)
-            };
-            for handle in handles {
-                offered = with_one(offered, handle.join(rt));
-            }
-            Ok((played?, offered?))
-        },
-    )
+        alloc,
+        feeders,
+        &|feeding: Feeding<M::Kind, N>| feeding.offer(),
+        || -> Result<Vec<Played<M::Kind, N>>, NoMem>
+            requires { CallsDoFit M.row M.Kind.row M.Kind.Kinds }
+        { play_all(rt, alloc, streams, crews, gate) },
+    )?;
+    for one in left {
+        keep(&mut offered, one)?;
+    }
+    Ok((played?, offered))
 }

@@ -8,7 +8,7 @@ use Rattle.strm_call.specs.declared.setup.Setup.{Setup}
 use native.Mathlib.Numerals.{unary_clauses}
 use Rattle.strm_text.proofs.WriteLemmas.{appends_then}
 use Rattle.strm_script.specs.Fields.{KindSpelling}
-use Rattle.strm_history.specs.declared.transcript.StreamLog.{StreamLog}
+use Rattle.strm_entry.specs.declared.transcript.StreamLog.{StreamLog}
 use Rattle.strm_plan.specs.Plan.{Streams, Process, streams_view}
 use Rattle.strm_script.specs.Lines.{stream_text, streams_text, found_text}
 

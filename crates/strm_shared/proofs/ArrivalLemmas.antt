@@ -9,11 +9,11 @@ use Rattle.strm_module.specs.Driver.{is_line}
 use Rattle.strm_call.specs.declared.call.Call.{Call}
 use Rattle.strm_call.specs.declared.event.Event.{Event}
 use Rattle.strm_call.specs.declared.event.Event.TheVariants.{Asked, Arrived}
-use Rattle.strm_history.specs.declared.entry.Entry.{Entry}
-use Rattle.strm_history.specs.declared.call.Called.{Called}
-use Rattle.strm_history.specs.declared.call.Called.TheVariants.{Done, NoRoom}
-use Rattle.strm_history.specs.Entry.{came_in}
-use Rattle.strm_history.specs.History.{arrivals}
+use Rattle.strm_entry.specs.declared.entry.Entry.{Entry}
+use Rattle.strm_entry.specs.declared.call.Called.{Called}
+use Rattle.strm_entry.specs.declared.call.Called.TheVariants.{Done, NoRoom}
+use Rattle.strm_entry.specs.Entry.{came_in}
+use Rattle.strm_entry.specs.Own.{arrivals}
 use Rattle.strm_history.specs.Log.{LogValue, HasLanded, CallsBy}
 use Rattle.strm_line.specs.Inlet.{InletValue}
 use Rattle.strm_line.specs.Runs.{IsNextOf}

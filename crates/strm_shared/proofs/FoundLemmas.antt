@@ -28,12 +28,13 @@ use Rattle.strm_call.specs.declared.event.Event.TheVariants.{Asked}
 use Rattle.strm_head.specs.Begin.{back_of, begun_of, common_refusals, handed_out, refusal_of}
 use Rattle.strm_head.specs.Step.{Step}
 use Rattle.strm_head.proofs.RefusalLemmas.{first_of_all}
-use Rattle.strm_history.specs.declared.call.Called.{Called}
-use Rattle.strm_history.specs.declared.call.Called.TheVariants.{Done, NoRoom}
-use Rattle.strm_history.specs.declared.entry.Entry.{Entry}
-use Rattle.strm_history.specs.Entry.{asked_of, due_back, serial_of}
+use Rattle.strm_entry.specs.declared.call.Called.{Called}
+use Rattle.strm_entry.specs.declared.call.Called.TheVariants.{Done, NoRoom}
+use Rattle.strm_entry.specs.declared.entry.Entry.{Entry}
+use Rattle.strm_entry.specs.Entry.{asked_of, serial_of}
+use Rattle.strm_history.specs.Steps.{due_back}
 use Rattle.strm_history.specs.Log.{LogValue, CallsBy, IsCalled}
-use Rattle.strm_history.specs.Receipt.{ReceiptValue}
+use Rattle.strm_entry.specs.Receipt.{ReceiptValue}
 use Rattle.strm_shared.specs.Seat.{SeatValue}
 use Rattle.strm_shared.specs.Ending.{Replies, HandsOut, HandsBackMade, HandsBack, Shows}
 

@@ -1,4 +1,3 @@
 pub mod ArrivalLemmas
 pub mod FoundLemmas
-mod PlaceLemmas
 pub mod TurnLemmas

@@ -1,8 +1,8 @@
 -- Histories whose calls are in turn, with one entry more.
-use Rattle.std.proofs.Common.{◌≡◌, ℕ, zero, suc, ◌+◌, ◌<◌, ◌==◌, ◌++◌, Bool, true, false, cond, if◌then◌else◌, ◌&&◌, Option, Some, None, List, [], ◌∷◌, All, length, take, slice_get, get_or, set, replicate, Result, Ok, Err, IsErrOf, refl, sym, ◌∙◌, ap, subst, arith}
+use Rattle.std.proofs.Common.{◌≡◌, ℕ, zero, suc, ◌+◌, ◌<◌, ◌==◌, ◌++◌, Bool, true, false, if◌then◌else◌, ◌&&◌, Option, Some, None, List, [], ◌∷◌, All, length, take, slice_get, get_or, set, replicate, Result, Ok, Err, IsErrOf, refl, sym, ◌∙◌, ap, subst, arith}
 use Rattle.std.specs.Prelude.{IfErr, IfOk, OnOk}
-use Rattle.std.proofs.lemmas.List.{length-append, length-set, get_or-set_same, get_or-set_other, get_or-replicate, length-replicate, append-nil, map-append}
-use Rattle.std.proofs.lemmas.List.Elements.{All-push, filter-append}
+use Rattle.std.proofs.lemmas.List.{length-append, length-set, get_or-set_same, get_or-set_other, get_or-replicate, length-replicate, map-append}
+use Rattle.std.proofs.lemmas.List.Elements.{All-push}
 use Rattle.std.proofs.lemmas.Option.{same_Some}
 use Rattle.std.proofs.lemmas.Bool.{eqb-true, eqb-false, lt-ltb, ltb-true, both_ways, and_parts}
 use Rattle.strm_msg.specs.declared.words.End.{End}
@@ -12,17 +12,20 @@ use Rattle.strm_call.specs.declared.answer.Answer.{Answer}
 use Rattle.strm_call.specs.declared.call.Call.{Call}
 use Rattle.strm_call.specs.declared.event.Event.{Event}
 use Rattle.strm_call.specs.declared.event.Event.TheVariants.{Asked}
-use Rattle.strm_history.specs.declared.entry.Who.TheVariants.{Caller, Line}
-use Rattle.strm_history.specs.declared.entry.Entry.{Entry}
-use Rattle.strm_history.specs.Entry.{is_caller, asked_of}
+use Rattle.strm_entry.proofs.OwnLemmas.{other_step, own_step}
+use Rattle.strm_entry.specs.declared.entry.Who.TheVariants.{Caller, Line}
+use Rattle.strm_entry.specs.declared.entry.Entry.{Entry}
+use Rattle.strm_entry.specs.Entry.{is_caller, asked_of}
 use Rattle.strm_shared.specs.declared.fault.EndFault.{EndFault}
 use Rattle.strm_shared.specs.declared.fault.EndFault.TheVariants as EndFaults
-use Rattle.strm_history.specs.declared.call.Called.{Called}
-use Rattle.strm_history.specs.declared.call.Called.TheVariants.{Done, NoRoom}
-use Rattle.strm_history.specs.History.{own, calls_of}
-use Rattle.strm_history.specs.Log.{LogValue, Enters, CallsBy, has_receipt, is_done}
+use Rattle.strm_entry.specs.declared.call.Called.{Called}
+use Rattle.strm_entry.specs.declared.call.Called.TheVariants.{Done, NoRoom}
+use Rattle.strm_entry.specs.Own.{own, calls_of}
+use Rattle.strm_entry.specs.Called.{has_receipt, is_done}
+use Rattle.strm_history.specs.Log.{LogValue, Enters, CallsBy}
 use Rattle.strm_shared.specs.Seat.{SeatValue}
-use Rattle.strm_shared.specs.Ending.{has_seat, CountsAgree, Counted}
+use Rattle.strm_entry.specs.Own.{has_seat}
+use Rattle.strm_shared.specs.Ending.{CountsAgree, Counted}
 use Rattle.strm_shared.specs.Turns.{counted, has_count, is_next, turned, AreFirstOf, AreInTurn, TurnsValue}
 use Rattle.strm_line.specs.Runs.{IsNextOf}
 
@@ -38,18 +41,6 @@ first_more None made entry first next = tt
 first_more (Some calls) made entry first next =
     let len : length (made ++ entry ∷ []) ≡ suc (length made) = length-append made (entry ∷ []) ∙ (let l : length made + 1 ≡ suc (length made) = omega arith in l) in
     map-append asked_of made (entry ∷ []) ∙ ap (λ l. l ++ asked_of entry ∷ []) first ∙ sym (take_next calls (length made) (asked_of entry) next) ∙ ap (λ n. take n calls) (sym len)
-
--- the calls of a caller, with one step more
-own_more : {K : Type 0} (caller : ℕ) (history longer : List (Entry K)) (entry : Entry K) → longer ≡ history ++ entry ∷ [] → own caller longer ≡ own caller history ++ own caller (entry ∷ [])
-own_more caller history longer entry is = ap (λ l. own caller l) is ∙ filter-append _ history (entry ∷ [])
-
--- a step of another
-pub other_step : {K : Type 0} (caller : ℕ) (history longer : List (Entry K)) (entry : Entry K) → longer ≡ history ++ entry ∷ [] → is_caller caller entry.who ≡ false → own caller longer ≡ own caller history
-other_step caller history longer entry is not = own_more caller history longer entry is ∙ ap (λ b. own caller history ++ cond b (entry ∷ []) []) not ∙ append-nil _
-
--- a step of its own
-pub own_step : {K : Type 0} (caller : ℕ) (history longer : List (Entry K)) (entry : Entry K) → longer ≡ history ++ entry ∷ [] → is_caller caller entry.who ≡ true → own caller longer ≡ own caller history ++ entry ∷ []
-own_step caller history longer entry is so = own_more caller history longer entry is ∙ ap (λ b. own caller history ++ cond b (entry ∷ []) []) so
 
 -- a step of the line: no caller has one more
 pub line_in_turn : {K : Type 0} (calls : ℕ → Option (List (End × Event (Shape K)))) (counts : List ℕ) (history longer : List (Entry K)) (entry : Entry K) → longer ≡ history ++ entry ∷ [] → entry.who ≡ Line → AreInTurn calls counts history → AreInTurn calls counts longer

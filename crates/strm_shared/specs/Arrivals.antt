@@ -4,7 +4,7 @@ use Rattle.strm_msg.specs.Message.{Msg}
 use Rattle.strm_module.specs.Kinds.{Meaning}
 use Rattle.strm_module.specs.declared.shape.Shape.{Shape}
 use Rattle.strm_call.specs.declared.call.Call.{Call}
-use Rattle.strm_history.specs.declared.call.Called.{Called}
+use Rattle.strm_entry.specs.declared.call.Called.{Called}
 use Rattle.strm_history.specs.Log.{LogValue, HasLanded, CallsBy}
 use Rattle.strm_shared.specs.declared.locked.Intake.{Intake}
 use Rattle.strm_shared.specs.declared.locked.Intake.TheVariants.{Entered, Rests, NoMem}

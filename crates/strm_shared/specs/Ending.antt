@@ -1,5 +1,5 @@
 -- What a shared stream and its seats are to a contract, what comes back of a call, and what must agree at the end.
-use Rattle.std.specs.Prelude.{◌≡◌, ℕ, ◌+◌, ◌<◌, ◌==◌, nat_lt, zero, suc, not, ◌&&◌, Bool, true, Option, Some, None, IfSome, List, [], ◌∷◌, ◌++◌, length, map, flat_map, is_some, All, Any, ⊤}
+use Rattle.std.specs.Prelude.{◌≡◌, ℕ, ◌+◌, ◌<◌, ◌==◌, zero, suc, not, ◌&&◌, Bool, true, Option, Some, None, IfSome, List, [], ◌∷◌, ◌++◌, length, map, flat_map, is_some, All, Any, ⊤}
 use Rattle.strm_module.specs.declared.shape.Shape.{Shape}
 use Rattle.strm_module.specs.Driver.{is_line}
 use Rattle.strm_call.specs.declared.request.Request.{Request}
@@ -12,14 +12,14 @@ use Rattle.strm_call.specs.declared.setup.Setup.{Setup}
 use Rattle.strm_call.specs.declared.call.Call.{Call}
 use Rattle.strm_call.specs.declared.event.Event.TheVariants.{Asked}
 use Rattle.strm_head.specs.Begin.{pushed_of, handed_out}
-use Rattle.strm_history.specs.declared.entry.Who.{Who}
-use Rattle.strm_history.specs.declared.entry.Who.TheVariants.{Caller, Line}
-use Rattle.strm_history.specs.declared.entry.Entry.{Entry}
-use Rattle.strm_history.specs.declared.call.Called.{Called}
-use Rattle.strm_history.specs.declared.call.Called.TheVariants.{Done, NoRoom}
-use Rattle.strm_history.specs.Entry.{asked_of, due_back, serial_of}
-use Rattle.strm_history.specs.History.{calls_of}
-use Rattle.strm_history.specs.Receipt.{ReceiptValue, RoomValue}
+use Rattle.strm_entry.specs.declared.entry.Who.TheVariants.{Caller}
+use Rattle.strm_entry.specs.declared.entry.Entry.{Entry}
+use Rattle.strm_entry.specs.declared.call.Called.{Called}
+use Rattle.strm_entry.specs.declared.call.Called.TheVariants.{Done, NoRoom}
+use Rattle.strm_entry.specs.Entry.{asked_of, serial_of}
+use Rattle.strm_history.specs.Steps.{due_back}
+use Rattle.strm_entry.specs.Own.{calls_of}
+use Rattle.strm_entry.specs.Receipt.{ReceiptValue, RoomValue}
 use Rattle.strm_line.specs.Feed.{FeedValue}
 use Rattle.strm_shared.specs.Seat.{SeatValue}
 
@@ -91,11 +91,6 @@ pub record IsReceiptOf {K : Type 0} (seat : SeatValue) (call : Call (Shape K)) (
 abbrev pub Shows : {K : Type 0} → SeatValue → Call (Shape K) → Called (Shape K) K → Type 0
 Shows seat call (Done answer back receipt) = IfSome receipt (λ r. IsReceiptOf seat call answer back.items r)
 Shows seat call (NoRoom same) = ⊤
-
--- the step was made by the line, or by a caller who has a seat
-abbrev pub has_seat : ℕ → Who → Bool
-has_seat callers (Caller caller) = nat_lt caller callers
-has_seat callers Line = true
 
 -- each caller has made as many calls as its seat counts
 abbrev pub CountsAgree : {K : Type 0} → List (Entry K) → List SeatValue → Type 0

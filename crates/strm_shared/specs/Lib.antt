@@ -1,6 +1,5 @@
 pub mod Fault
 pub mod Seat
 pub mod Ending
-pub mod Ended
 pub mod Turns
 pub mod Arrivals

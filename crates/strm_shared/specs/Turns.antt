@@ -4,15 +4,15 @@ use Rattle.strm_msg.specs.declared.words.End.{End}
 use Rattle.strm_module.specs.declared.shape.Shape.{Shape}
 use Rattle.strm_module.specs.Driver.{is_line}
 use Rattle.strm_call.specs.declared.event.Event.{Event}
-use Rattle.strm_history.specs.declared.entry.Entry.{Entry}
-use Rattle.strm_history.specs.declared.call.Called.{Called}
-use Rattle.strm_history.specs.declared.call.Called.TheVariants.{Done, NoRoom}
-use Rattle.strm_history.specs.Entry.{asked_of}
-use Rattle.strm_history.specs.History.{arrivals, own, calls_of}
+use Rattle.strm_entry.specs.declared.entry.Entry.{Entry}
+use Rattle.strm_entry.specs.declared.call.Called.{Called}
+use Rattle.strm_entry.specs.declared.call.Called.TheVariants.{Done, NoRoom}
+use Rattle.strm_entry.specs.Entry.{asked_of}
+use Rattle.strm_entry.specs.Own.{arrivals, own, calls_of}
 use Rattle.strm_history.specs.Log.{LogValue}
 use Rattle.strm_line.specs.Inlet.{InletValue}
 use Rattle.strm_shared.specs.Seat.{SeatValue}
-use Rattle.strm_shared.specs.Ending.{has_seat}
+use Rattle.strm_entry.specs.Own.{has_seat}
 
 -- what was asked are the first of the calls that may be made
 abbrev pub AreFirstOf : {K : Type 0} → Option (List (End × Event (Shape K))) → List (Entry K) → Type 0

@@ -1,16 +1,17 @@
 //! What must agree before a shared stream has ended.
 ghost use Rattle.std.specs.Prelude.{◌≡◌, ◌↔◌, ◌<◌, ◌++◌, ℕ, true, All, Any, IfErr, IfOk, OnOk, IsErrOf, length};
-ghost use Rattle.strm_history.specs.History.{arrivals, Legal};
+ghost use Rattle.strm_entry.specs.Own.{arrivals};
+ghost use Rattle.strm_history.specs.History.{Legal};
 ghost use Rattle.strm_history.specs.Opened.{opened};
 ghost use Rattle.strm_line.specs.Feed.{accepted_of};
 ghost use Rattle.strm_shared.specs.Ending.{is_fed, AreSeats, AreShown};
 ghost use Rattle.strm_shared.specs.Turns.{has_count, AreInTurn};
 
-use crate::ended::{Ended, places_of};
 use crate::fault::EndFault;
 use crate::locked::Locked;
 use crate::seat::Seat;
 use std::alloc::Global;
+use strm_ended::{Ended, places_of};
 use strm_history::Setup;
 use strm_line::{FeedEnd, Runs};
 use strm_module::ModuleOf;

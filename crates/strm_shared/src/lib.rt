@@ -4,7 +4,6 @@
 //! legal: the stream alone, called by one thread in the order of the history, could have given it.
 #![tactic(auto)]
 
-mod ended;
 mod ending;
 mod fault;
 mod locked;
@@ -12,8 +11,8 @@ mod seat;
 mod shared;
 mod turns;
 
-pub use ended::Ended;
 pub use fault::EndFault;
 pub use seat::Seat;
 pub use shared::Shared;
+pub use strm_ended::Ended;
 pub use strm_line::{AnyCalls, FeedEnd, Feeder, Inlet, Ring, RingFault, Runs};

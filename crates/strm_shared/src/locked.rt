@@ -3,7 +3,7 @@ ghost use Rattle.std.specs.Prelude.{◌≡◌, ◌↔◌, ◌+◌, ◌<◌, ◌^
 ghost use Rattle.strm_module.specs.Driver.{is_line};
 ghost use Rattle.strm_call.specs.Setup.{is_fit};
 ghost use Rattle.strm_call.specs.declared.event.Event.TheVariants.{Asked};
-ghost use Rattle.strm_history.specs.History.{arrivals};
+ghost use Rattle.strm_entry.specs.Own.{arrivals};
 ghost use Rattle.strm_history.specs.Log.{CallsBy};
 ghost use Rattle.strm_history.specs.Opened.{opened};
 ghost use Rattle.strm_line.specs.Runs.{IsNextOf};

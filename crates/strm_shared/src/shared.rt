@@ -2,15 +2,16 @@
 ghost use Rattle.std.specs.Prelude.{◌≡◌, ◌↔◌, ◌++◌, ℕ, true, All, IfOk, OnOk, IsErrOf};
 ghost use Rattle.strm_call.specs.Setup.{is_fit};
 ghost use Rattle.strm_call.specs.declared.event.Event.TheVariants.{Asked};
-ghost use Rattle.strm_history.specs.History.{arrivals, own, Legal};
+ghost use Rattle.strm_entry.specs.Own.{arrivals, own};
+ghost use Rattle.strm_history.specs.History.{Legal};
 ghost use Rattle.strm_history.specs.Serials.{AreAccounted};
 ghost use Rattle.strm_history.specs.Opened.{opened};
 ghost use Rattle.strm_line.specs.Feed.{accepted_of, fresh_feeder};
 ghost use Rattle.strm_line.specs.Runs.{IsNextOf};
-ghost use Rattle.strm_shared.specs.Ending.{fresh_seats, has_seat, is_fed, AreSeats, AreShown, CountsAgree, Counted, HandsBack, Shows};
+ghost use Rattle.strm_shared.specs.Ending.{fresh_seats, is_fed, AreSeats, AreShown, CountsAgree, Counted, HandsBack, Shows};
+ghost use Rattle.strm_entry.specs.Own.{has_seat};
 ghost use Rattle.strm_shared.specs.Turns.{AreFirstOf};
 
-use crate::ended::Ended;
 use crate::ending::{have_ended, left_of};
 use crate::fault::EndFault;
 use crate::locked::Locked;
@@ -18,6 +19,7 @@ use crate::seat::Seat;
 use std::alloc::Global;
 use std::marker::Model;
 use std::sync::{Mutex, Wait};
+use strm_ended::Ended;
 use strm_history::{Call, Called, Setup, room_for};
 use strm_line::{AnyCalls, FeedEnd, Feeder, Ring, Runs};
 use strm_module::{Boxed, ModuleOf};

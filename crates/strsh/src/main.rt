@@ -5,14 +5,13 @@
 //! good.
 #![tactic(auto)]
 
-mod fault;
 mod playing;
 
-use fault::Fault;
 use playing::serve;
 use std::env;
 use std::process::ExitCode;
 use std::rt::Env;
+use strsh_options::Fault;
 
 /// The words of the command line, of which the first is the program's name.
 fn words<R: Env + AllocGlobal>(rt: &R) -> Result<Vec<String>, Fault> {

@@ -7,7 +7,6 @@ ghost use Rattle.strm_script.specs.Fields.{builtin_spelling};
 ghost use Rattle.strm_script.specs.Lines.{transcript_text};
 ghost use Rattle.strm_chart.specs.Chart.{chart_text};
 
-use crate::fault::Fault;
 use std::alloc::Global;
 use std::fs;
 use std::io::{self, BufWriter, Write};
@@ -19,7 +18,7 @@ use strm_module::{Kind, Plain};
 use strm_plan::{Plan, parse};
 use strm_play::{Outcome, play_plan};
 use strm_script::{LoadFault, load, print};
-use strsh_options::Options;
+use strsh_options::{Fault, Options};
 
 /// How much is printed at once, in bytes.
 const BUFFER: usize = 65_536;

@@ -8,11 +8,11 @@ use Want::{GoesOn, InTwo, Nothing, Refused, Sends, Twice, Waits};
 use std::alloc::Global;
 use std::process::Abort;
 use strm_module::{
-    Band, Count, CrNl, Instance, Kind, Kinds, Line, MakeFault, Module, Mute, Outs, Pass, Plain,
-    Put, Shape, Split, Table, Tee, both, pass_on,
+    Instance, Kind, Kinds, MakeFault, Module, Outs, Plain, Put, Shape, both, pass_on,
 };
 use strm_msg::Side::{Rd, Wr};
 use strm_msg::{BoxedMessage, Marks, NoMem, Side};
+use strm_objects::{Band, Count, CrNl, Line, Mute, Pass, Split, Table, Tee};
 
 /// Which procedure a message is handed to.
 #[derive(Clone, Copy, Drop)]

@@ -8,9 +8,10 @@ use super::{Log, boxed_message, held, logged, new_log, shaped};
 use std::alloc::Global;
 use std::process::Abort;
 use std::sync::atomic::Ordering;
-use strm_module::{Count, Instance, Kind, Kinds, Module, ModuleOf, Outs, Put, Shape, reply};
+use strm_module::{Instance, Kind, Kinds, Module, ModuleOf, Outs, Put, Shape, reply};
 use strm_msg::Side::{Rd, Wr};
 use strm_msg::{BoxedMessage, NoMem, Side};
+use strm_objects::Count;
 
 const PUT: u64 = 1;
 

@@ -6,23 +6,25 @@ use Rattle.strm_msg.specs.declared.words.End.TheVariants.{A, B}
 use Rattle.strm_module.specs.Driver.{is_line}
 use Rattle.strm_ends.specs.Image.{Image, end_of}
 use Rattle.strm_call.specs.declared.setup.Setup.{Setup}
-use Rattle.strm_history.specs.declared.entry.Entry.{Entry}
-use Rattle.strm_history.specs.Receipt.{ReceiptValue}
-use Rattle.strm_shared.specs.Ended.{EndedValue}
+use Rattle.strm_entry.specs.declared.entry.Entry.{Entry}
+use Rattle.strm_entry.specs.Receipt.{ReceiptValue}
+use Rattle.strm_ended.specs.Ended.{EndedValue}
 use Rattle.strm_shared.specs.declared.fault.EndFault.{EndFault}
 use Rattle.strm_shared.specs.declared.fault.EndFault.TheVariants as EndFaults
-use Rattle.strm_history.specs.History.{arrivals}
+use Rattle.strm_entry.specs.Own.{arrivals}
 use Rattle.strm_shared.specs.Seat.{SeatValue}
 use Rattle.strm_line.specs.Feed.{FeedValue}
 use Rattle.strm_shared.specs.Ending.{SharedValue}
-use Rattle.strm_run.specs.declared.fault.RunFault.{RunFault}
-use Rattle.strm_run.specs.declared.fault.RunFault.TheVariants as RunFaults
-use Rattle.strm_history.specs.declared.transcript.StreamLog.{StreamLog}
+use Rattle.strm_job.specs.declared.fault.RunFault.{RunFault}
+use Rattle.strm_job.specs.declared.fault.RunFault.TheVariants as RunFaults
+use Rattle.strm_entry.specs.declared.transcript.StreamLog.{StreamLog}
 use Rattle.strm_job.specs.Scripts.{feed_of}
-use Rattle.strm_crew.specs.Account.{HasReceipts, IsHeld}
-use Rattle.strm_crew.specs.Run.{RunValue}
-use Rattle.strm_crew.specs.Play.{OfferedValue, HasOffered, HasPlayed}
-use Rattle.strm_crew.specs.Transcript.{names_at}
+use Rattle.strm_crew.specs.Account.{HasReceipts}
+use Rattle.strm_ended.specs.Ended.{IsHeld}
+use Rattle.strm_feed.specs.About.{RunValue}
+use Rattle.strm_feed.specs.Feeding.{OfferedValue, HasOffered}
+use Rattle.strm_crew.specs.Play.{HasPlayed}
+use Rattle.strm_ended.specs.Left.{names_at}
 
 -- the seats of callers that have played their scripts, in order of the streams
 pub record AreSeatsPlayed {K : Type 0} (run : RunValue K) (seats : List (Vec SeatValue Global)) : Type 0 where

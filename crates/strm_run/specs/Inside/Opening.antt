@@ -9,7 +9,7 @@ use Rattle.strm_shared.specs.Ending.{fresh_seats, SharedValue}
 use Rattle.strm_job.specs.declared.script.Feed.{Feed}
 use Rattle.strm_job.specs.Scripts.{feed_of}
 use Rattle.strm_job.specs.There.{line_is_there}
-use Rattle.strm_crew.specs.Run.{RunValue}
+use Rattle.strm_feed.specs.About.{RunValue}
 use Rattle.strm_crew.specs.Dealing.{callers_of}
 use Rattle.strm_crew.specs.Play.{AreStreams}
 

@@ -2,7 +2,7 @@
 ghost use Rattle.std.specs.Prelude.{◌<◌, length};
 ghost use Rattle.std.specs.Mem.{FitsInMemory};
 ghost use Rattle.strm_module.specs.contracts.boxed.Boxed as boxed_type;
-ghost use Rattle.strm_history.specs.contracts.call.Called as called_type;
+ghost use Rattle.strm_entry.specs.contracts.call.Called as called_type;
 
 use super::write;
 use std::alloc::Global;

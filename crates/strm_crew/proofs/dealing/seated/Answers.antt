@@ -2,7 +2,7 @@ use Rattle.std.proofs.Common.{◌≡◌, ◌+◌, ◌<◌, ◌∷◌, ◌++◌, 
 use Rattle.std.proofs.lemmas.List.{length-set, length_push}
 use Rattle.std.specs.Vec.Iter.{into_iter_items}
 use Rattle.strm_job.specs.declared.script.Script.{Script}
-use Rattle.strm_crew.proofs.PlayLemmas.{iterated_len}
+use Rattle.strm_job.proofs.LoopLemmas.{rest_shorter}
 use Rattle.strm_crew.proofs.ReachedLemmas.{behind_more, reached_is, reached_there}
 use Rattle.strm_crew.proofs.DealLemmas.{caller_more, none_called, player_before, script_reached}
 use Rattle.strm_crew.proofs.dealing.seated.Goals as goal
@@ -35,7 +35,7 @@ loop-script-preserved g c =
     let was = c.loop-script.invariant in
     let next = c.in-Some.ensures.steps.0 in
     record {
-      left = iterated_len _ _ _ _ _ was.left next c.in-Some.ensures.steps.1;
+      left = rest_shorter _ _ _ _ _ was.left next c.in-Some.ensures.steps.1;
       rest = rw (append_assoc, ← next) was.rest;
       place = ap (λ n. n + 1) was.place ∙ sym (length_push _ _);
       many = length-set c.loop-script.seats.items c.loop-script.caller c.replace-mine.new.dest ∙ was.many;

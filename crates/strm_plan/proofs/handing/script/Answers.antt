@@ -1,5 +1,6 @@
 use Rattle.std.proofs.Common.{append_assoc, ap}
-use Rattle.strm_plan.proofs.MoreLemmas.{rest_shorter, one_made}
+use Rattle.strm_job.proofs.LoopLemmas.{rest_shorter}
+use Rattle.strm_plan.proofs.MoreLemmas.{one_made}
 use Rattle.strm_plan.proofs.handing.script.Goals as goal
 
 pub loop-line-preserved : goal.loop-line-preserved

@@ -3,7 +3,7 @@ use Rattle.std.proofs.lemmas.List.{length_push, length-set, nil_from_length}
 use Rattle.std.specs.Vec.Iter.{into_iter_items}
 use Rattle.strm_shared.specs.Ending.{SharedValue}
 use Rattle.strm_crew.specs.Play.{AreStreams}
-use Rattle.strm_crew.proofs.PlayLemmas.{iterated_len}
+use Rattle.strm_job.proofs.LoopLemmas.{rest_shorter}
 use Rattle.strm_run.proofs.EndingLemmas.{place_there, stream_next, next_unfed, next_played, ended_more, ended_all}
 use Rattle.strm_run.proofs.ending.end_all.Goals as goal
 
@@ -68,7 +68,7 @@ loop-shared-preserved g c =
     let was = c.loop-shared.invariant in
     let next = c.in-Some.ensures.steps.0 in
     record {
-      left = iterated_len (into_iter_items c.loop-shared.shared-iterator) (into_iter_items c.next.new.self) c.in-Some.shared _ _ was.left next c.in-Some.ensures.steps.1;
+      left = rest_shorter (into_iter_items c.loop-shared.shared-iterator) (into_iter_items c.next.new.self) c.in-Some.shared _ _ was.left next c.in-Some.ensures.steps.1;
       place = ap (λ n. n + 1) was.place ∙ sym (length_push c.loop-shared.yielded c.in-Some.shared);
       offered = length-set c.loop-shared.offered.items c.loop-shared.at c.take.new.self ∙ was.offered;
       ending = rw (append_assoc, ← next) (ended_more g.N.Plays.run (c.loop-shared.yielded ++ into_iter_items c.loop-shared.shared-iterator) c.loop-shared.yielded (into_iter_items c.next.new.self) c.loop-shared.at c.in-Some.shared was.ending.streams_are (ap (λ l. c.loop-shared.yielded ++ l) next) was.place g.M.Kind.Kinds.means c.loop-shared.accounts.items c.loop-shared.logs.items was.ending c.in_ok-log.log c.replace-mine.new.dest c.push.new.self.items c.in-Ok-push.ensures.items c.in_ok-log.ensures.log);

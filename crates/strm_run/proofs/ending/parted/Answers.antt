@@ -1,7 +1,7 @@
 use Rattle.std.proofs.Common.{append_assoc, ◌++◌, ◌∷◌, [], ap, subst, sym, ◌∙◌}
 use Rattle.strm_shared.specs.Seat.{SeatValue}
 use Rattle.strm_crew.specs.Account.{HasReceipts}
-use Rattle.strm_crew.proofs.PlayLemmas.{iterated_len}
+use Rattle.strm_job.proofs.LoopLemmas.{rest_shorter}
 use Rattle.strm_run.proofs.EndingLemmas.{parted_more}
 use Rattle.strm_run.proofs.ending.parted.Goals as goal
 
@@ -13,7 +13,7 @@ loop-account-preserved g c =
     let mine = c.into_parts-seat.result.1 in
     let has = subst (λ (s : SeatValue). HasReceipts g.N.Plays.run s mine.items) (sym c.into_parts-seat.ensures.seat) c.into_parts-seat.ensures.receipts in
     record {
-      left = iterated_len _ _ _ _ _ was.left next c.in-Some.ensures.steps.1;
+      left = rest_shorter _ _ _ _ _ was.left next c.in-Some.ensures.steps.1;
       rest = rw (append_assoc, ← next) was.rest;
       seats = c.in_ok-push.ensures.items ∙ ap (λ l. l ++ seat ∷ []) was.seats ∙ ap (λ (s : SeatValue). c.loop-account.yielded ++ s ∷ []) c.into_parts-seat.ensures.seat;
       parted = parted_more g.N.Plays.run c.loop-account.seats.items c.push.new.self.items c.loop-account.receipts.items c.push-in-loop-account.new.self.items seat mine c.in_ok-push.ensures.items c.in_ok-push-2.ensures.items has was.parted;

@@ -1,7 +1,7 @@
 use Rattle.std.proofs.Common.{◌≡◌, ◌+◌, ◌∷◌, ◌++◌, append_assoc, ap, arith, sym, ◌∙◌}
 use Rattle.std.proofs.lemmas.List.{length-set, length_push}
 use Rattle.std.specs.Vec.Iter.{into_iter_items}
-use Rattle.strm_crew.proofs.PlayLemmas.{iterated_len}
+use Rattle.strm_job.proofs.LoopLemmas.{rest_shorter}
 use Rattle.strm_crew.proofs.ReachedLemmas.{behind_more}
 use Rattle.strm_run.proofs.FeedsLemmas.{feeding_found, lines_found, lines_none}
 use Rattle.strm_run.proofs.feeds.feedings.Goals as goal
@@ -22,7 +22,7 @@ loop-feeder-preserved g c =
     sym (ap (λ l. c.loop-feeder.yielded ++ l) next) ∙ was.rest in
     elim c.match-feeder.branch [
       | in-Some-feeder+in_ok-push w ↦ record {
-        left = iterated_len _ _ _ _ _ was.left next c.in-Some.ensures.steps.1;
+        left = rest_shorter _ _ _ _ _ was.left next c.in-Some.ensures.steps.1;
         rest = rw (append_assoc, ← next) was.rest;
         place = ap (λ n. n + 1) was.place ∙ sym (length_push _ _);
         many = rw w.feeds-is (length-set c.loop-feeder.feeds.items c.loop-feeder.at w.replace-messages.new.dest ∙ was.many);
@@ -30,7 +30,7 @@ loop-feeder-preserved g c =
         lines = rw (w.all-is, w.in_ok-push.ensures.items, w.new-in-Some-feeder.ensures) (lines_found g.N.Plays.run c.args.feeders.items c.loop-feeder.yielded _ c.in-Some.feeder c.loop-feeder.at c.requires.feeders is was.place w.in-Some-feeder.feeder w.in-Some-feeder.is c.loop-feeder.all.items was.lines);
       }
       | in_default w ↦ record {
-        left = iterated_len _ _ _ _ _ was.left next c.in-Some.ensures.steps.1;
+        left = rest_shorter _ _ _ _ _ was.left next c.in-Some.ensures.steps.1;
         rest = rw (append_assoc, ← next) was.rest;
         place = ap (λ n. n + 1) was.place ∙ sym (length_push _ _);
         many = rw w.feeds-is was.many;

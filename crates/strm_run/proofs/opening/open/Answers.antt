@@ -3,8 +3,8 @@ use Rattle.std.proofs.lemmas.List.{length_push, length-map, nil_from_length}
 use Rattle.std.specs.Vec.Iter.{into_iter_items}
 use Rattle.strm_call.specs.Setup.{is_fit}
 use Rattle.strm_line.specs.Feed.{RingValue}
-use Rattle.strm_crew.specs.Rings.{ring_of}
-use Rattle.strm_crew.proofs.PlayLemmas.{iterated_len}
+use Rattle.strm_feed.specs.About.{ring_of}
+use Rattle.strm_job.proofs.LoopLemmas.{rest_shorter}
 use Rattle.strm_run.proofs.OpeningLemmas.{kept_more, opened_all, ring_there, ring_setup, ring_named}
 use Rattle.strm_run.proofs.opening.open.Goals as goal
 
@@ -30,7 +30,7 @@ loop-ring-preserved g c =
     let within = ring_there g.N.Plays.run _ c.loop-ring.yielded _ c.in-Some.ring c.loop-ring.number c.requires.setups is was.place in
     let setup = ring_setup g.N.Plays.run _ c.loop-ring.yielded _ c.in-Some.ring c.loop-ring.number c.requires.setups is was.place c.in-Some.ring.setup in
     record {
-      left = iterated_len _ _ _ _ _ was.left next c.in-Some.ensures.steps.1;
+      left = rest_shorter _ _ _ _ _ was.left next c.in-Some.ensures.steps.1;
       rest = rw (append_assoc, ← next) was.rest;
       place = ap (λ n. n + 1) was.place ∙ sym (length_push _ _);
       opened = kept_more g.N.Plays.run c.loop-ring.number _ c.keep.new.streams.items _ c.keep.new.seats.items _ c.keep.new.feeders.items c.in-Some.ring.setup c.new.result was.opened within

@@ -1,6 +1,6 @@
 use Rattle.std.proofs.Common.{◌≡◌, append_assoc, length, Vec, Global}
 use Rattle.strm_job.proofs.EachLemmas.{of_first, of_others}
-use Rattle.strm_crew.proofs.PlayLemmas.{iterated_len}
+use Rattle.strm_job.proofs.LoopLemmas.{rest_shorter}
 use Rattle.strm_run.proofs.TableLemmas.{transposed_more}
 use Rattle.strm_run.proofs.table.transposed.Goals as goal
 
@@ -10,7 +10,7 @@ loop-column-preserved g c =
     let next = c.in-Some.ensures.steps.0 in
     let high = of_first (λ (column : Vec g.row.T.Denot Global). length column.items ≡ c.args.rows) _ _ _ next was.high in
     record {
-      left = iterated_len _ _ _ _ _ was.left next c.in-Some.ensures.steps.1;
+      left = rest_shorter _ _ _ _ _ was.left next c.in-Some.ensures.steps.1;
       rest = rw (append_assoc, ← next) was.rest;
       high = of_others (λ (column : Vec g.row.T.Denot Global). length column.items ≡ c.args.rows) _ _ _ next was.high;
       rows = transposed_more _ _ _ _ _ was.rows high c.in-Ok.ensures;

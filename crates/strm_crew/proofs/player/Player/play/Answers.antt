@@ -1,6 +1,7 @@
 use Rattle.std.proofs.Common.{rules, sym, ◌∙◌}
 use Rattle.std.proofs.lemmas.List.{nil_from_length}
-use Rattle.strm_crew.proofs.PlayLemmas.{iterated_len, stream_there, seat_there, seat_number, seat_next, player_after, all_played}
+use Rattle.strm_job.proofs.LoopLemmas.{rest_shorter}
+use Rattle.strm_crew.proofs.PlayLemmas.{stream_there, seat_there, seat_number, seat_next, player_after, all_played}
 use Rattle.strm_crew.proofs.player.Player.play.Goals as goal
 
 pub index_mut-requires : goal.index_mut-requires
@@ -32,7 +33,7 @@ loop-one-preserved g c =
     let seat = c.index_mut.result.now in
     let at = c.index_mut.ensures.value in
     record {
-      left = iterated_len _ _ _ _ _ c.loop-one.invariant.left c.in-Some.ensures.steps.0 c.in-Some.ensures.steps.1;
+      left = rest_shorter _ _ _ _ _ c.loop-one.invariant.left c.in-Some.ensures.steps.0 c.in-Some.ensures.steps.1;
       player = player_after g.N.Plays.run _ _ c.in-Some.one _ _ c.in-Some.ensures.steps.0 c.loop-one.invariant.player seat c.call_on-kept.new.account.shown at c.call_on-kept.new.account c.in_ok-kept.ensures;
     }
 

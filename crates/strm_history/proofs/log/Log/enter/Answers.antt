@@ -1,5 +1,5 @@
 use Rattle.std.proofs.Common.{refl, sym, ap, ◌∙◌}
-use Rattle.strm_history.specs.Receipt.{may_take_out}
+use Rattle.strm_entry.specs.Receipt.{may_take_out}
 use Rattle.strm_history.proofs.EntryLemmas.{legal_more, call_step, no_serials}
 use Rattle.strm_history.proofs.LogLemmas.{called}
 use Rattle.strm_history.proofs.log.Log.enter.Goals as goal

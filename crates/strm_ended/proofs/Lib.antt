@@ -1,0 +1,2 @@
+mod ArrivalLemmas
+mod PlaceLemmas

@@ -1,0 +1,2 @@
+pub mod Ended
+pub mod Left

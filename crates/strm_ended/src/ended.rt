@@ -1,0 +1,143 @@
+//! What is left of a shared stream.
+ghost use Rattle.std.specs.Prelude.{◌≡◌, ◌↔◌, true, [], Some, None, All, IfOk, MatchOption, length};
+ghost use Rattle.strm_entry.specs.Own.{entry_at};
+ghost use Rattle.strm_ended.specs.Ended.{AreIndexed};
+ghost use Rattle.strm_entry.specs.Own.{has_seat};
+
+use std::alloc::Global;
+use std::marker::Model;
+use strm_call::SameKind;
+use strm_entry::{Entry, Kept, Receipt, Who};
+use strm_head::Stream;
+use strm_module::ModuleOf;
+use strm_msg::{Message, NoMem};
+
+/// What is left of a shared stream: its history, the stream to which it led, and the messages that were accepted and had not
+/// come in.
+#[derive(Drop)]
+pub struct Ended<M: ModuleOf> {
+    history: Vec<Kept<M::Kind>>,
+    stream: Stream<M>,
+    left: Vec<Message>,
+    places: Vec<Vec<usize>>,
+}
+
+impl<M: ModuleOf> Model for Ended<M> {
+    ghost use Rattle.strm_ended.specs.Ended.{AreIndexed, EndedValue};
+
+    ghost Value = { EndedValue M.Kind };
+
+    ghost view = { λ e. record { history = e.history.items; stream = e.stream; left = e.left.items } };
+
+    ghost invariant = { λ e. AreIndexed e.places.items e.history.items };
+}
+
+/// A list of places for each caller, with none in it. Refused for want of memory alone.
+fn no_places(alloc: Global, callers: u32) -> Result<Vec<Vec<usize>>, NoMem>
+    ensures many { IfOk result (λ all. length all.items ≡ callers) }
+    ensures none { IfOk result (λ all. All (λ places. places.items ≡ []) all.items) }
+{
+    let mut all = Vec::new(alloc);
+    for _ in 0..callers {
+        all.push(Vec::new(alloc))?;
+    }
+    Ok(all)
+}
+
+/// Where the calls of each caller stand in a history. Refused for want of memory alone.
+pub fn places_of<K>(
+    alloc: Global,
+    callers: u32,
+    history: &[Kept<K>],
+) -> Result<Vec<Vec<usize>>, NoMem>
+    requires { All (λ entry. has_seat callers entry.who ≡ true) history.now }
+    ensures { IfOk result (λ places. AreIndexed places.items history.now) }
+{
+    let mut places = no_places(alloc, callers)?;
+    for at in 0..history.len() {
+        match history[at].entry().who {
+            Who::Caller(caller) => places[caller as usize].push(at)?,
+            Who::Line => {}
+        }
+    }
+    Ok(places)
+}
+
+impl<M: ModuleOf> Ended<M> {
+    /// What is left, with where the calls of each caller stand.
+    pub fn new(
+        history: Vec<Kept<M::Kind>>,
+        stream: Stream<M>,
+        left: Vec<Message>,
+        places: Vec<Vec<usize>>,
+    ) -> Ended<M>
+        requires { AreIndexed places.items history.items }
+        ensures { result ≡ record { history = history.items; stream = stream; left = left.items } }
+    {
+        Ended {
+            history,
+            stream,
+            left,
+            places,
+        }
+    }
+
+    /// Every step, in order.
+    pub fn history(&self) -> &[Kept<M::Kind>]
+        ensures { result.now ≡ self.now.history }
+    {
+        self.history.as_slice()
+    }
+
+    /// The stream to which they led.
+    pub fn stream(&self) -> &Stream<M>
+        ensures { result.now ≡ self.now.stream }
+    {
+        &self.stream
+    }
+
+    /// The messages that were accepted and had not come in, in order: the one that was held back, and what the ring still
+    /// held.
+    pub fn left(&self) -> &[Message]
+        ensures { result.now ≡ self.now.left }
+    {
+        self.left.as_slice()
+    }
+
+    /// The entry of a caller's call of this number, counted from 1, if it has made as many. It is found without a look at
+    /// the others.
+    pub fn entry_at(&self, caller: u32, number: u64) -> Option<&Entry<M::Kind>>
+        ensures { MatchOption result (entry_at caller number self.now.history ≡ None) (λ entry. entry_at caller number self.now.history ≡ Some entry.now) }
+    {
+        let places = self.places.get(caller as usize)?;
+        let before = number.checked_sub(1)?;
+        let place = *places.get(before as usize)?;
+        Some(self.history[place].entry())
+    }
+
+    /// Whether the receipt's entry is the one that the history has of its caller's call of its number. Takes no memory, and
+    /// looks at that entry alone.
+    pub fn holds(&self, receipt: &Receipt<M::Kind>) -> bool
+    where
+        M::Kind: SameKind,
+        ensures { result ≡ true ↔ entry_at receipt.now.caller receipt.now.number self.now.history ≡ Some receipt.now.entry }
+    {
+        match self.entry_at(receipt.caller(), receipt.number()) {
+            Some(entry) => entry.is_same(receipt.entry()),
+            None => false,
+        }
+    }
+
+    /// The history, the stream, and the messages that are left.
+    pub fn into_parts(self) -> (Vec<Kept<M::Kind>>, Stream<M>, Vec<Message>)
+        ensures { (result.0.items ≡ self.history) × (result.1 ≡ self.stream) × (result.2.items ≡ self.left) }
+    {
+        let Ended {
+            history,
+            stream,
+            left,
+            places: _,
+        } = self;
+        (history, stream, left)
+    }
+}

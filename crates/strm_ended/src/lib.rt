@@ -1,0 +1,11 @@
+//! What is left of a shared stream that has ended: its history, in which the calls of each caller are found by their numbers,
+//! and the log that a transcript has of it.
+#![tactic(auto)]
+
+mod ended;
+mod holding;
+mod left;
+
+pub use ended::{Ended, places_of};
+pub use holding::holds_all;
+pub use left::log_of;

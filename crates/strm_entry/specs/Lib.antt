@@ -1,0 +1,6 @@
+pub mod Out
+pub mod Kept
+pub mod Entry
+pub mod Receipt
+pub mod Called
+pub mod Own

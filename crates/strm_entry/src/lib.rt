@@ -1,0 +1,20 @@
+//! The entries of a history: each call and each message that came in, with its answer and with what moved, where they stand,
+//! and the receipts that callers have of them.
+#![tactic(auto)]
+
+mod call;
+mod entry;
+mod kept;
+mod receipt;
+mod room;
+mod same;
+mod serials;
+mod transcript;
+
+pub use call::{Called, Landed};
+pub use entry::{Entry, Who, taken_out};
+pub use kept::Kept;
+pub use receipt::Receipt;
+pub use room::{Room, room_for, room_for_arrival, taken};
+pub use serials::{AllSerials, Serials};
+pub use transcript::{StreamLog, Transcript};

@@ -1,0 +1,88 @@
+//! The serials of the modules that a call took out.
+ghost use Rattle.std.specs.Prelude.{◌≡◌, false, [], IfOk, is_some};
+ghost use Rattle.strm_call.specs.Calls.{changes_modules};
+
+use arrayvec::ArrayVec;
+use std::alloc::Global;
+use std::marker::Model;
+use strm_call::Request;
+use strm_module::MOST_MODULES;
+use strm_msg::NoMem;
+
+/// Serials of as many modules as an end may have.
+pub type AllSerials = ArrayVec<u64, MOST_MODULES>;
+
+/// The serials of modules, topmost first, of which contracts see the list: two words, and a box where there are any.
+#[derive(Drop)]
+pub struct Serials {
+    boxed: Option<Box<AllSerials>>,
+}
+
+impl Model for Serials {
+    ghost use Rattle.std.specs.Prelude.{ℕ, option_map};
+    ghost use Rattle.arrayvec.specs.ArrayVec.{ArrayVec};
+    ghost use Rattle.strm_entry.specs.Out.{serials_in};
+
+    ghost Value = { ArrayVec ℕ };
+
+    ghost view = { λ s. serials_in (option_map (λ b. b.value) s.boxed) };
+}
+
+impl Serials {
+    /// No serials. Takes no memory.
+    pub fn none() -> Serials
+        ensures { result ≡ record { items = [] } }
+    {
+        Serials { boxed: None }
+    }
+
+    /// Serials, in room that was found for them before, unless there are none.
+    pub(crate) fn in_room(serials: AllSerials, room: Option<Box<AllSerials>>) -> Serials
+        requires { is_some room ≡ false → serials.items ≡ [] }
+        ensures { result ≡ serials }
+    {
+        match room {
+            Some(mut boxed) => {
+                *boxed = serials;
+                Serials { boxed: Some(boxed) }
+            }
+            None => Serials::none(),
+        }
+    }
+
+    /// The serials.
+    pub fn as_slice(&self) -> &[u64]
+        ensures { result.now ≡ self.now.items }
+    {
+        match &self.boxed {
+            Some(boxed) => boxed.as_slice(),
+            None => &[],
+        }
+    }
+}
+
+/// Whether a call may put a module in or take some out.
+fn changes_modules<P>(request: &Request<P>) -> bool
+    ensures { result ≡ changes_modules request.now }
+{
+    matches!(
+        request,
+        Request::Push { .. } | Request::Pop | Request::Close
+    )
+}
+
+/// Room for the serials of what a call takes out, if it may take something out. Refused for want of memory alone.
+pub(crate) fn room_for_serials<P>(
+    alloc: Global,
+    request: &Request<P>,
+) -> Result<Option<Box<AllSerials>>, NoMem>
+    ensures { IfOk result (λ room. is_some room ≡ changes_modules request.now) }
+{
+    if !changes_modules(request) {
+        return Ok(None);
+    }
+    match Box::new(alloc, ArrayVec::new()) {
+        Ok(room) => Ok(Some(room)),
+        Err(_) => Err(NoMem),
+    }
+}

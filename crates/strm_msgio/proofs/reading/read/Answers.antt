@@ -1,7 +1,0 @@
-use Rattle.strm_msgio.proofs.ReadLemmas.{read_reply}
-use Rattle.strm_msgio.proofs.reading.read.Goals as goal
-
-pub returns-clause-reply : goal.returns-clause-reply
-returns-clause-reply g c =
-    let found = rw (c.state.ensures, c.state-2.ensures) at c.in_ok-found.ensures.bytes in
-    rw (read_reply c.args.chain.now.image c.args.end c.args.max c.in_ok-found.found.bytes.items c.head-2.result.now.messages c.if-max-eq0.false c.head-2.ensures.messages found) at c.give.ensures.reply

@@ -1,0 +1,114 @@
+//! Why the program did not print a transcript.
+ghost use Rattle.std.specs.Prelude.{◌≡◌};
+ghost use Rattle.strm_job.specs.declared.fault.RunFault.TheVariants as RunFaults;
+ghost use Rattle.strsh_options.specs.Fault.{EndsWith, IsFaultOf, fault_line};
+
+use clap::error::ErrorKind;
+use std::alloc::AllocError;
+use std::{fmt, io};
+use strm_job::RunFault;
+use strm_plan::{Cause, LoadFault, PlayFault, ScriptFault};
+
+/// Why the program did not print a transcript. They are looked for in this order.
+#[derive(Debug, Drop)]
+pub enum Fault {
+    /// The command line is no good, or asks for help.
+    Words(clap::Error),
+    /// The script cannot be read.
+    Read,
+    /// It was read, and it is no script, or memory is wanting.
+    Script(ScriptFault),
+    /// It is a script, and its run gave no transcript.
+    Run(RunFault),
+    /// The transcript cannot be written.
+    Write,
+}
+
+impl Fault {
+    /// Want of memory for what is the program's own: the words of the command line, and the buffer of what is printed.
+    pub fn no_memory() -> Self
+        ensures { result ≡ Fault.Run RunFaults.NoMem }
+    {
+        Fault::Run(RunFault::NoMem)
+    }
+
+    /// The status with which the program ends: 0 where help was asked for, 2 for the command line
+    /// and the script, and 1 for the run and the writing.
+    pub fn status(&self) -> u8
+        ensures { EndsWith self.now result }
+    {
+        match self {
+            Fault::Words(error) => u8::try_from(error.exit_code()).unwrap_or(2),
+            Fault::Read | Fault::Script(_) => 2,
+            Fault::Run(_) | Fault::Write => 1,
+        }
+    }
+}
+
+/// Printed with its line's end, after the name of the program; of a command line it is the text
+/// that its reader has.
+impl fmt::Display for Fault {
+    ghost output = { λ fault. fault_line fault };
+
+    fn fmt<W: fmt::Write>(&self, f: &mut fmt::Formatter<W>) -> fmt::Result {
+        match self {
+            Fault::Words(error) => write!(f, "{error}"),
+            Fault::Read => writeln!(f, "strsh: cannot read the script"),
+            Fault::Script(fault) => writeln!(f, "strsh: {fault}"),
+            Fault::Run(fault) => writeln!(f, "strsh: {}", PlayFault::Run(*fault)),
+            Fault::Write => writeln!(f, "strsh: cannot write the transcript"),
+        }
+    }
+}
+
+impl From<clap::Error> for Fault {
+    ghost from_gives = { λ error fault. IsFaultOf error fault };
+
+    fn from(error: clap::Error) -> Self {
+        match error.kind() {
+            ErrorKind::OutOfMemory => Fault::no_memory(),
+            _ => Fault::Words(error),
+        }
+    }
+}
+
+impl From<LoadFault> for Fault {
+    fn from(fault: LoadFault) -> Self {
+        match fault {
+            LoadFault::Read => Fault::Read,
+            LoadFault::NoMem => Fault::Script(ScriptFault {
+                line: 0,
+                cause: Cause::NoMemory,
+            }),
+        }
+    }
+}
+
+impl From<ScriptFault> for Fault {
+    fn from(fault: ScriptFault) -> Self {
+        Fault::Script(fault)
+    }
+}
+
+impl From<RunFault> for Fault {
+    fn from(fault: RunFault) -> Self {
+        Fault::Run(fault)
+    }
+}
+
+/// Want of memory for the words of the command line.
+impl From<AllocError> for Fault {
+    fn from(_: AllocError) -> Self {
+        Fault::no_memory()
+    }
+}
+
+/// Words of the command line that cannot be read.
+impl From<io::Error> for Fault {
+    fn from(error: io::Error) -> Self {
+        match LoadFault::from(error) {
+            LoadFault::Read => Fault::Read,
+            LoadFault::NoMem => Fault::no_memory(),
+        }
+    }
+}

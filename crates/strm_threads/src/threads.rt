@@ -1,5 +1,5 @@
 //! Work in threads of its own.
-ghost use Rattle.std.specs.Prelude.{◌≡◌, length, IfOk};
+ghost use Rattle.std.specs.Prelude.{◌≡◌, ◌+◌, length, IfOk, IsOk, OnOk};
 ghost use Rattle.std.specs.Thread.{IsSend, IsSync};
 
 use std::alloc::Global;
@@ -8,11 +8,22 @@ use std::thread;
 use std::thread::Threads;
 use strm_msg::NoMem;
 
+/// What was left before, and one more; want of memory, where that was met.
+fn with_one<T: Drop>(before: Result<Vec<T>, NoMem>, one: T) -> Result<Vec<T>, NoMem>
+    ensures one { IfOk result (λ more. IfOk before (λ all. length more.items ≡ length all.items + 1)) }
+    ensures met { OnOk result (IsOk before) }
+{
+    let mut all = before?;
+    all.push(one)?;
+    Ok(all)
+}
+
 /// Does a work with each of these in a thread of its own, and what is to be done here beside them in this one, and waits for
 /// all threads that were started. It gives what the work left of each, in order, and what was left here. What is known of
 /// what a thread leaves is what its type says.
 ///
-/// Refused for want of memory or of a thread, and then no more are started.
+/// Refused for want of memory or of a thread: then no more are started, and nothing is done here, unless memory was wanting for
+/// what is left. Also then each thread that was started is waited for, and what it leaves is dropped.
 pub fn beside<
     R: Threads + Wait + Sync,
     W: Send + Drop,
@@ -35,22 +46,29 @@ pub fn beside<
             ensures here { IfOk result (λ both. H.post here both.1) }
         {
             let mut handles = Vec::new(alloc);
+            let mut is_short = false;
             for one in all {
+                let Ok(()) = handles.reserve(1) else {
+                    is_short = true;
+                    break;
+                };
                 let Ok(handle) = scope.spawn(
                     move || -> T
                         requires { (one : W) → F.pre work.now one }
                     { work(one) },
                 ) else {
-                    return Err(NoMem);
+                    is_short = true;
+                    break;
                 };
-                handles.push(handle)?;
+                handles.push_reserved(handle);
             }
-            let mine = here();
-            let mut left = Vec::new(alloc);
+            let mine = if is_short { Err(NoMem) } else { Ok(here()) };
+            // A handle that is dropped loses what its thread leaves: each is joined, also where memory was wanting.
+            let mut left = Ok(Vec::new(alloc));
             for handle in handles {
-                left.push(handle.join(rt))?;
+                left = with_one(left, handle.join(rt));
             }
-            Ok((left, mine))
+            Ok((left?, mine?))
         },
     )
 }

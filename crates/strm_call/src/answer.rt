@@ -274,7 +274,7 @@ impl Reply {
     }
 
     /// An equal one, of a reply that has no bytes.
-    fn copy_plain(&self) -> Reply
+    pub(crate) fn copy_plain(&self) -> Reply
         requires { has_bytes self.now ≡ false }
         ensures { result ≡ self.now }
     {

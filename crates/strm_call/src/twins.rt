@@ -45,6 +45,15 @@ impl Twins {
         Ok(Twins { reply, twin })
     }
 
+    /// A reply without bytes and its copy. Takes no memory.
+    pub fn plain(reply: Reply) -> Twins
+        requires { has_bytes reply ≡ false }
+        ensures { result ≡ reply }
+    {
+        let twin = reply.copy_plain();
+        Twins { reply, twin }
+    }
+
     /// The reply, and the equal one.
     pub fn into_both(self) -> (Reply, Reply)
         ensures reply { result.0 ≡ self }

@@ -22,14 +22,6 @@ use strm_msg::{Bytes, End, NoMem};
 use strm_msgio::{getmsg, getpmsg, peek, putmsg, putpmsg, write};
 use strm_read::read;
 
-/// A reply without bytes, and an equal one. Takes no memory.
-fn plain(alloc: Global, reply: Reply) -> Twins
-    requires { has_bytes reply ≡ false }
-    ensures { result ≡ reply }
-{
-    Twins::of(alloc, reply).unwrap()
-}
-
 /// What an ioctl answers where nothing answers it, and an equal one.
 fn unanswered() -> Twins
     ensures { result ≡ Replies.Str Acknowledged.Timeout }
@@ -45,12 +37,12 @@ fn unanswered() -> Twins
 }
 
 /// The reply of a call that sends, and an equal one, unless memory was wanting.
-fn sent(alloc: Global, reply: Result<Reply, ChainFault>) -> Result<Twins, ChainFault>
+fn sent(reply: Result<Reply, ChainFault>) -> Result<Twins, ChainFault>
     requires { IfOk reply (λ reply. has_bytes reply ≡ false) }
     ensures { result ≡ reply }
 {
     match reply {
-        Ok(reply) => Ok(plain(alloc, reply)),
+        Ok(reply) => Ok(Twins::plain(reply)),
         Err(fault) => Err(fault),
     }
 }
@@ -101,7 +93,7 @@ fn begin_pop<M: ModuleOf>(
 {
     let (reply, instance) = pop(chain, end);
     back.push(Some(instance));
-    Ok(plain(chain.alloc(), reply))
+    Ok(Twins::plain(reply))
 }
 
 /// Begins a close. The modules are handed out, also where memory is wanting afterwards.
@@ -116,7 +108,7 @@ fn begin_close<M: ModuleOf>(
     ensures back { back.new.items ≡ handed_out (begun_of M.Kind.means chain.old.image end Requests.Close).out }
 {
     let reply = close(chain, end, back)?;
-    Ok(plain(chain.alloc(), reply))
+    Ok(Twins::plain(reply))
 }
 
 /// Begins a putmsg.
@@ -130,8 +122,7 @@ fn begin_putmsg<M: ModuleOf>(
     requires { IsReady chain.old.image end }
     ensures { Begins M.Kind.means chain.old.image end (Requests.Putmsg ctl dat flag) result chain.new.image }
 {
-    let alloc = chain.alloc();
-    sent(alloc, putmsg(chain, end, ctl, dat, flag))
+    sent(putmsg(chain, end, ctl, dat, flag))
 }
 
 /// Begins a putpmsg.
@@ -146,8 +137,7 @@ fn begin_putpmsg<M: ModuleOf>(
     requires { IsReady chain.old.image end }
     ensures { Begins M.Kind.means chain.old.image end (Requests.Putpmsg ctl dat band flag) result chain.new.image }
 {
-    let alloc = chain.alloc();
-    sent(alloc, putpmsg(chain, end, ctl, dat, band, flag))
+    sent(putpmsg(chain, end, ctl, dat, band, flag))
 }
 
 /// Begins a write.
@@ -155,8 +145,7 @@ fn begin_write<M: ModuleOf>(chain: &mut Chain<M>, end: End, dat: Bytes) -> Resul
     requires { IsReady chain.old.image end }
     ensures { Begins M.Kind.means chain.old.image end (Requests.Write dat) result chain.new.image }
 {
-    let alloc = chain.alloc();
-    sent(alloc, write(chain, end, dat))
+    sent(write(chain, end, dat))
 }
 
 /// Begins a getmsg.
@@ -235,8 +224,7 @@ fn begin_flush<M: ModuleOf>(
     requires { IsReady chain.old.image end }
     ensures { Begins M.Kind.means chain.old.image end (Requests.Flush r w) result chain.new.image }
 {
-    let alloc = chain.alloc();
-    done(flush(chain, end, r, w, None), plain(alloc, Reply::Flush))
+    done(flush(chain, end, r, w, None), Twins::plain(Reply::Flush))
 }
 
 /// Begins a flush of one band.
@@ -250,10 +238,9 @@ fn begin_flush_band<M: ModuleOf>(
     requires { IsReady chain.old.image end }
     ensures { Begins M.Kind.means chain.old.image end (Requests.FlushBand band r w) result chain.new.image }
 {
-    let alloc = chain.alloc();
     done(
         flush(chain, end, r, w, Some(band)),
-        plain(alloc, Reply::FlushBand),
+        Twins::plain(Reply::FlushBand),
     )
 }
 
@@ -291,7 +278,7 @@ fn begin_telling<M: ModuleOf>(
 {
     let reply = told(chain, end, &request);
     drop(request);
-    Ok(plain(chain.alloc(), reply))
+    Ok(Twins::plain(reply))
 }
 
 /// Does what a call does before any queue moves. The modules that it takes out are handed out, also
@@ -329,7 +316,7 @@ pub(crate) fn begin<M: ModuleOf>(
         } => begin_getpmsg(chain, end, maxctl, maxdat, band, flag),
         Request::Read { max } => begin_read(chain, end, max),
         Request::Write { dat } => begin_write(chain, end, dat),
-        Request::Push { instance } => Ok(plain(chain.alloc(), push(chain, end, instance))),
+        Request::Push { instance } => Ok(Twins::plain(push(chain, end, instance))),
         Request::Peek {
             maxctl,
             maxdat,

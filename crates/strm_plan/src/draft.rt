@@ -16,7 +16,7 @@ use std::mem;
 use strm_call::Setup;
 use strm_job::Feed;
 use strm_module::Driver;
-use strm_text::{fields, is_allowed};
+use strm_text::{cut_fields, is_allowed};
 use strm_verb::{Cause, MessageWord, ReadError, ReadKind, Verb, message_at};
 
 /// The most streams of a plan.
@@ -300,9 +300,14 @@ impl<K: ReadKind> Draft<K> {
     }
 
     /// What a line says is added. Its length is judged first, and a comment, which begins with `#`, for
-    /// nothing else.
+    /// nothing else. The list is for the line's fields, so that not each line takes memory for them.
     #[tactic(auto, unfolding(crate::specs::Reading::line_onto))]
-    pub(crate) fn line(&mut self, alloc: Global, line: &[u8]) -> Result<(), ReadError>
+    pub(crate) fn line<'a>(
+        &mut self,
+        alloc: Global,
+        line: &'a [u8],
+        texts: &mut Vec<&'a [u8]>,
+    ) -> Result<(), ReadError>
         requires few { length self.old.streams.entries ≤ MOST_STREAMS }
         requires modules { self.old.modules < 2 ^ 63 }
         ensures { Gives (λ _. draft_view self.new) result (reading.line_onto K.words (draft_view self.old) line.now) }
@@ -316,8 +321,8 @@ impl<K: ReadKind> Draft<K> {
         if !is_allowed(line) {
             return Err(ReadError::Fault(Cause::Byte));
         }
-        let texts = fields(alloc, line)?;
-        self.fields_line(alloc, &texts)
+        cut_fields(line, texts)?;
+        self.fields_line(alloc, texts.as_slice())
     }
 
     /// The plan that the lines make. Refused for want of memory alone.

@@ -42,12 +42,13 @@ fn parse_lines<K: ReadKind>(alloc: Global, bytes: &[u8]) -> Result<Plan<K>, Scri
     ensures sound { IfOk result (λ plan. IsSound (plan_view plan)) }
 {
     let mut draft = Draft::<K>::new(alloc);
+    let mut texts = Vec::new(alloc);
     let mut rest = bytes;
     let mut number = 0;
     while !rest.is_empty() {
         let (line, after) = first_line(rest);
         number += 1;
-        match draft.line(alloc, line) {
+        match draft.line(alloc, line, &mut texts) {
             Ok(()) => rest = after,
             Err(ReadError::Memory) => return Err(no_memory()),
             Err(ReadError::Fault(cause)) => {

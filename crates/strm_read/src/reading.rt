@@ -1,11 +1,11 @@
 //! Read: the bytes of the messages at the head are taken, and what stays of them is put back.
-ghost use Rattle.std.specs.Prelude.{◌≡◌, [], IsOk, ◌≤◌, ◌++◌, OnOk, OnErr, IfOk, length, take, drop, slice_get, option_copied};
+ghost use Rattle.std.specs.Prelude.{◌≡◌, ◌↔◌, true, Some, [], IsOk, ◌≤◌, ◌++◌, OnOk, OnErr, IfOk, length, take, drop, slice_get, option_copied};
 ghost use Rattle.strm_msg.specs.Message.{part_len};
 ghost use Rattle.strm_ends.specs.Image.{end_of, with_head, KeepsHeadRoom};
 ghost use Rattle.strm_call.specs.declared.answer.Reply.TheVariants as Replies;
 ghost use Rattle.strm_call.specs.Refusal.{first_that_holds};
 ghost use Rattle.strm_cut.specs.First.{put_back_if};
-ghost use Rattle.strm_read.specs.Read.{bytes_in, bytes_read, bytes_of_all, is_unread, goes_on_to, reached, whole_in, rest_of, read_of, read_refusals, read_begun};
+ghost use Rattle.strm_read.specs.Read.{data_of_first, bytes_in, bytes_read, bytes_of_all, is_unread, goes_on_to, reached, whole_in, rest_of, read_of, read_refusals, read_begun};
 
 use std::alloc::Global;
 use strm_call::{Refusal, Reply, Twins};
@@ -264,6 +264,36 @@ fn nothing_read(alloc: Global) -> Twins
     Twins::new(reply_of(Vec::new(alloc)), reply_of(Vec::new(alloc)))
 }
 
+/// Whether the first message has data, which are these bytes.
+fn is_data_of_first(queue: &BandQueue, bytes: &[u8]) -> bool
+    ensures { result ≡ true ↔ (data_of_first queue.now.messages ≡ Some (Some bytes.now)) }
+{
+    let Some(first) = queue.first() else {
+        return false;
+    };
+    match &first.dat {
+        Some(dat) => dat.as_slice() == bytes,
+        None => false,
+    }
+}
+
+/// Takes the first message of a head away, and gives its data, which a read has found. The one reply has what was found, the
+/// equal one what the message had. Takes no memory.
+fn give_first<M: ModuleOf>(chain: &mut Chain<M>, end: End, bytes: Vec<u8>) -> Twins
+    requires { data_of_first (end_of chain.old.image end).head ≡ Some (Some bytes.items) }
+    ensures reply { result ≡ Replies.Read bytes.items }
+    ensures image { chain.new.image ≡ with_head chain.old.image end (drop 1 (end_of chain.old.image end).head) }
+{
+    let dat = match chain.take_head(end) {
+        Some(m) => m.into_message().dat,
+        None => unreachable!(),
+    };
+    match dat {
+        Some(dat) => Twins::new(reply_of(bytes), Reply::Read { dat }),
+        None => unreachable!(),
+    }
+}
+
 /// Gives what a read has found, takes it away from the head, and puts back what stays.
 fn give<M: ModuleOf>(chain: &mut Chain<M>, end: End, found: Found) -> Result<Twins, NoMem>
     ensures reply { IfOk result (λ reply. reply ≡ Replies.Read found.bytes.items) }
@@ -271,6 +301,10 @@ fn give<M: ModuleOf>(chain: &mut Chain<M>, end: End, found: Found) -> Result<Twi
     ensures err { OnErr result (chain.new.image ≡ chain.old.image) }
 {
     let Found { bytes, gone, rest } = found;
+    if gone == 1 && rest.is_none() && is_data_of_first(chain.head(end), bytes.as_slice()) {
+        drop(rest);
+        return Ok(give_first(chain, end, bytes));
+    }
     let twins = Twins::of(chain.alloc(), reply_of(bytes))?;
     match replace_front(chain, end, gone, rest) {
         Ok(()) => Ok(twins),

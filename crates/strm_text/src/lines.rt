@@ -1,12 +1,12 @@
 //! Lines and their fields.
-ghost use Rattle.std.specs.Prelude.{◌≡◌, ◌<◌, ◌∷◌, length, map, IfOk, IfSome};
+ghost use Rattle.std.specs.Prelude.{◌≡◌, ◌<◌, ◌∷◌, length, map, OnOk, IfSome};
 ghost use Rattle.std.specs.Option.{option_map};
 ghost use Rattle.std.specs.List.{list_all};
 ghost use Rattle.std.specs.Str.Lines.{lines, strip_carriage_return};
 ghost use Rattle.strm_text.specs.Bytes as bytes;
 ghost use Rattle.strm_text.specs.Text.{fields_of, halves_of};
 
-use std::alloc::{AllocError, Global};
+use std::alloc::AllocError;
 
 /// Whether a byte parts fields: a space or a tab.
 fn is_blank(byte: u8) -> bool
@@ -60,11 +60,14 @@ pub fn first_line(text: &[u8]) -> (&[u8], &[u8])
     }
 }
 
-/// The fields of a line, which spaces and tabs part. Refused for want of memory alone.
-pub fn fields(alloc: Global, line: &[u8]) -> Result<Vec<&[u8]>, AllocError>
-    ensures { IfOk result (λ all. map (λ field. field.now) all.items ≡ fields_of line.now) }
+/// Cuts a line into its fields, which spaces and tabs part: the list holds them, and nothing of what it held before. Refused for
+/// want of memory alone.
+pub fn cut_fields<'a>(line: &'a [u8], fields: &mut Vec<&'a [u8]>) -> Result<(), AllocError>
+    ensures { OnOk result (map (λ field. field.now) fields.new.items ≡ fields_of line.now) }
 {
-    line.split(|byte| is_blank(*byte))
-        .filter(|field| !field.is_empty())
-        .collect(alloc)
+    fields.clear();
+    fields.extend(
+        line.split(|byte| is_blank(*byte))
+            .filter(|field| !field.is_empty()),
+    )
 }

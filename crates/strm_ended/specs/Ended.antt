@@ -4,8 +4,9 @@ use Rattle.std.specs.Global.{Global}
 use Rattle.strm_msg.specs.Message.{Msg}
 use Rattle.strm_ends.specs.Image.{Image}
 use Rattle.strm_entry.specs.declared.entry.Entry.{Entry}
-use Rattle.strm_entry.specs.Own.{entry_at, has_seat, own}
+use Rattle.strm_entry.specs.Own.{arrivals, entry_at, has_seat, own}
 use Rattle.strm_entry.specs.Receipt.{ReceiptValue}
+use Rattle.strm_ended.specs.declared.ended.Index.{Index}
 
 -- the history, the stream to which it leads, and the messages that were accepted and have not come in
 pub record EndedValue (K : Type 0) : Type 0 where
@@ -30,3 +31,8 @@ StandAt (place ∷ places) history (entry ∷ entries) = (slice_get history plac
 pub record AreIndexed {K : Type 0} (places : List (Vec ℕ Global)) (history : List (Entry K)) : Type 0 where
   pub each : (caller : ℕ) (d : Vec ℕ Global) → caller < length places → StandAt (get_or places caller d).items history (own caller history)
   pub seated : All (λ entry. has_seat (length places) entry.who ≡ true) history
+
+-- the index of a history: these places, and how many messages came in
+pub record IsIndex {K : Type 0} (index : Index) (history : List (Entry K)) : Type 0 where
+  pub places : AreIndexed index.places.items history
+  pub landed : index.landed ≡ length (arrivals history)

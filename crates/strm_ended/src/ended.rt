@@ -1,14 +1,14 @@
 //! What is left of a shared stream.
 ghost use Rattle.std.specs.Prelude.{◌≡◌, ◌↔◌, true, [], Some, None, All, IfOk, MatchOption, length};
-ghost use Rattle.strm_entry.specs.Own.{entry_at};
-ghost use Rattle.strm_ended.specs.Ended.{AreIndexed};
-ghost use Rattle.strm_entry.specs.Own.{has_seat};
+ghost use Rattle.strm_entry.specs.Own.{arrivals, entry_at, has_seat};
+ghost use Rattle.strm_ended.specs.Ended.{IsIndex};
+ghost use Rattle.strm_ended.specs.Left.{has_come_in};
 
 use std::alloc::Global;
 use std::marker::Model;
 use strm_call::SameKind;
 use strm_entry::{Entry, Kept, Receipt, Who};
-use strm_head::Stream;
+use strm_head::{Event, Stream};
 use strm_module::ModuleOf;
 use strm_msg::{Message, NoMem};
 
@@ -19,17 +19,34 @@ pub struct Ended<M: ModuleOf> {
     history: Vec<Kept<M::Kind>>,
     stream: Stream<M>,
     left: Vec<Message>,
-    places: Vec<Vec<usize>>,
+    index: Index,
 }
 
 impl<M: ModuleOf> Model for Ended<M> {
-    ghost use Rattle.strm_ended.specs.Ended.{AreIndexed, EndedValue};
+    ghost use Rattle.strm_ended.specs.Ended.{EndedValue, IsIndex};
 
     ghost Value = { EndedValue M.Kind };
 
     ghost view = { λ e. record { history = e.history.items; stream = e.stream; left = e.left.items } };
 
-    ghost invariant = { λ e. AreIndexed e.places.items e.history.items };
+    ghost invariant = { λ e. IsIndex e.index e.history.items };
+}
+
+/// Where the calls of each caller stand in a history, and how many of its steps are of messages that came in.
+#[derive(Drop)]
+struct Index {
+    places: Vec<Vec<usize>>,
+    landed: u64,
+}
+
+/// Whether a message came in.
+fn has_come_in<P>(event: &Event<P>) -> bool
+    ensures { result ≡ has_come_in event.now }
+{
+    match event {
+        Event::Asked(_) => false,
+        Event::Arrived(_) => true,
+    }
 }
 
 /// A list of places for each caller, with none in it. Refused for want of memory alone.
@@ -44,42 +61,44 @@ fn no_places(alloc: Global, callers: u32) -> Result<Vec<Vec<usize>>, NoMem>
     Ok(all)
 }
 
-/// Where the calls of each caller stand in a history. Refused for want of memory alone.
-pub fn places_of<K>(
-    alloc: Global,
-    callers: u32,
-    history: &[Kept<K>],
-) -> Result<Vec<Vec<usize>>, NoMem>
+/// The index of a history, for which it is looked through once. Refused for want of memory alone.
+fn index_of<K>(alloc: Global, callers: u32, history: &[Kept<K>]) -> Result<Index, NoMem>
     requires { All (λ entry. has_seat callers entry.who ≡ true) history.now }
-    ensures { IfOk result (λ places. AreIndexed places.items history.now) }
+    ensures { IfOk result (λ index. IsIndex index history.now) }
 {
     let mut places = no_places(alloc, callers)?;
+    let mut landed = 0;
     for at in 0..history.len() {
-        match history[at].entry().who {
+        let entry = history[at].entry();
+        landed += u64::from(has_come_in(&entry.event));
+        match entry.who {
             Who::Caller(caller) => places[caller as usize].push(at)?,
             Who::Line => {}
         }
     }
-    Ok(places)
+    Ok(Index { places, landed })
 }
 
 impl<M: ModuleOf> Ended<M> {
-    /// What is left, with where the calls of each caller stand.
+    /// What is left of a stream with so many callers, each step of which was made by one of them or by the line. Refused for want of
+    /// memory alone.
     pub fn new(
+        alloc: Global,
+        callers: u32,
         history: Vec<Kept<M::Kind>>,
         stream: Stream<M>,
         left: Vec<Message>,
-        places: Vec<Vec<usize>>,
-    ) -> Ended<M>
-        requires { AreIndexed places.items history.items }
-        ensures { result ≡ record { history = history.items; stream = stream; left = left.items } }
+    ) -> Result<Ended<M>, NoMem>
+        requires { All (λ entry. has_seat callers entry.who ≡ true) history.items }
+        ensures { IfOk result (λ ended. ended ≡ record { history = history.items; stream = stream; left = left.items }) }
     {
-        Ended {
+        let index = index_of(alloc, callers, history.as_slice())?;
+        Ok(Ended {
             history,
             stream,
             left,
-            places,
-        }
+            index,
+        })
     }
 
     /// Every step, in order.
@@ -104,12 +123,19 @@ impl<M: ModuleOf> Ended<M> {
         self.left.as_slice()
     }
 
+    /// How many messages came in.
+    pub(crate) fn landed(&self) -> u64
+        ensures { result ≡ length (arrivals self.now.history) }
+    {
+        self.index.landed
+    }
+
     /// The entry of a caller's call of this number, counted from 1, if it has made as many. It is found without a look at
     /// the others.
     pub fn entry_at(&self, caller: u32, number: u64) -> Option<&Entry<M::Kind>>
         ensures { MatchOption result (entry_at caller number self.now.history ≡ None) (λ entry. entry_at caller number self.now.history ≡ Some entry.now) }
     {
-        let places = self.places.get(caller as usize)?;
+        let places = self.index.places.get(caller as usize)?;
         let before = number.checked_sub(1)?;
         let place = *places.get(before as usize)?;
         Some(self.history[place].entry())
@@ -136,7 +162,7 @@ impl<M: ModuleOf> Ended<M> {
             history,
             stream,
             left,
-            places: _,
+            index: _,
         } = self;
         (history, stream, left)
     }

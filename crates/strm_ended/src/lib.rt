@@ -6,6 +6,6 @@ mod ended;
 mod holding;
 mod left;
 
-pub use ended::{Ended, places_of};
+pub use ended::Ended;
 pub use holding::holds_all;
 pub use left::log_of;

@@ -11,7 +11,7 @@ use crate::fault::EndFault;
 use crate::locked::Locked;
 use crate::seat::Seat;
 use std::alloc::Global;
-use strm_ended::{Ended, places_of};
+use strm_ended::Ended;
 use strm_history::Setup;
 use strm_line::{FeedEnd, Runs};
 use strm_module::ModuleOf;
@@ -117,10 +117,8 @@ pub(crate) fn left_of<M: ModuleOf, N: Runs<M::Kind>>(
         return Err(EndFault::NoMem);
     };
     let (history, stream) = log.into_parts();
-    let Ok(places) = places_of(alloc, callers, history.as_slice()) else {
-        drop(history);
-        drop(stream);
-        return Err(EndFault::NoMem);
-    };
-    Ok(Ended::new(history, stream, left, places))
+    match Ended::new(alloc, callers, history, stream, left) {
+        Ok(ended) => Ok(ended),
+        Err(_) => Err(EndFault::NoMem),
+    }
 }

@@ -5,12 +5,12 @@ use Rattle.strm_ended.proofs.ended.Ended.entry_at.Goals as goal
 pub returns-in_err-places : goal.returns-in_err-places
 returns-in_err-places g c =
     let above = rw c.deref.ensures.value at c.in_err-places.ensures.lookup.3 in
-    rw (← c.self.view_is, c.from_residual.ensures) (entry_none c.self.inside.history.items c.args.caller c.args.number (none_own _ c.args.caller c.self.inside.history.items above c.self.invariant.seated))
+    rw (← c.self.view_is, c.from_residual.ensures) (entry_none c.self.inside.history.items c.args.caller c.args.number (none_own _ c.args.caller c.self.inside.history.items above c.self.invariant.places.seated))
 
 pub returns-in_err-place : goal.returns-in_err-place
 returns-in_err-place g c =
     let places = rw c.deref.ensures.value at c.in_ok-places.ensures.lookup in
-    let stand = c.self.invariant.each c.args.caller c.in_ok-places.places.now places.3.0 in
+    let stand = c.self.invariant.places.each c.args.caller c.in_ok-places.places.now places.3.0 in
     let less = c.in_ok-before.ensures in
     let above = rw c.deref-2.ensures.value at c.in_err-place.ensures.lookup.3 in
     rw (← c.self.view_is, c.from_residual-in_err-place.ensures) (entry_before c.self.inside.history.items c.args.caller c.args.number c.in_ok-before.before less.0 less.1 ∙ stands_nowhere _ _ _ c.in_ok-before.before (rw (← places.3.1 c.in_ok-places.places.now) at stand) above)
@@ -18,7 +18,7 @@ returns-in_err-place g c =
 pub index-requires : goal.index-requires
 index-requires g c =
     let places = rw c.deref.ensures.value at c.in_ok-places.ensures.lookup in
-    let stand = c.self.invariant.each c.args.caller c.in_ok-places.places.now places.3.0 in
+    let stand = c.self.invariant.places.each c.args.caller c.in_ok-places.places.now places.3.0 in
     let place = rw c.deref-2.ensures.value at c.in_ok-place.ensures.lookup in
     let within = stands_within c.in_ok-places.places.now.items c.self.inside.history.items _ c.in_ok-before.before 0 (rw (← places.3.1 c.in_ok-places.places.now) at stand) place.3.0 in
     subst (λ n. c.in_ok-place.field-0.now < n) (sym c.self.inside.history.ok.0) (subst (λ n. n < length c.self.inside.history.items) (sym (place.3.1 0)) within)
@@ -26,7 +26,7 @@ index-requires g c =
 pub returns : goal.returns
 returns g c =
     let places = rw c.deref.ensures.value at c.in_ok-places.ensures.lookup in
-    let stand = c.self.invariant.each c.args.caller c.in_ok-places.places.now places.3.0 in
+    let stand = c.self.invariant.places.each c.args.caller c.in_ok-places.places.now places.3.0 in
     let place = rw c.deref-2.ensures.value at c.in_ok-place.ensures.lookup in
     let less = c.in_ok-before.ensures in
     let history = c.self.inside.history.items in

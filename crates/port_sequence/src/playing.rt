@@ -72,7 +72,7 @@ data 0 =%00x
 /// Plays a script against the module, and prints its transcript.
 pub fn play_script<R: Print + Threads + Wait + Sync>(rt: &R, alloc: Global) -> Option<()> {
     let outcome = play::<ByShape, R>(rt, alloc, SCRIPT.as_bytes(), 1).ok()?;
-    print(&outcome.transcript, &outcome.plan, &mut io::writer(rt)).ok()
+    print(&outcome.transcript, &outcome.names, &mut io::writer(rt)).ok()
 }
 
 /// Scripts that are none: a first number of more than one byte, and a word that the vocabulary has not.

@@ -4,9 +4,8 @@ use Rattle.std.specs.Io.KnownBytes.{Appends}
 use Rattle.std.specs.List.{flat_map, enumerate_from}
 use Rattle.std.proofs.lemmas.List.{append-nil, length-map, length-take-le, map-append, take_more}
 use Rattle.std.proofs.lemmas.Grind.{flat_map-append}
+use Rattle.arrayvec.specs.ArrayVec.{ArrayVec}
 use Rattle.strm_text.proofs.WriteLemmas.{appends_then}
-use Rattle.strm_plan.specs.Plan.{Process, process_view}
-use Rattle.strm_plan.specs.declared.plan.ProcessDecl.{ProcessDecl}
 use Rattle.strm_chart.specs.Columns.{name_row}
 use Rattle.strm_chart.specs.Chart.{process_names, process_row}
 
@@ -15,19 +14,23 @@ enumerate-more : {X : Type 0} (first n : ℕ) (xs : List X) (x : X) → n ≡ fi
 enumerate-more first n [] x is = let same : first ≡ n = omega arith in ap (λ m. (m, x) ∷ []) same
 enumerate-more first n (y ∷ xs) x is = ap (λ rest. (first, y) ∷ rest) (enumerate-more (first + 1) n xs x (omega arith))
 
+-- the bytes of a name
+abbrev view : ArrayVec ℕ → List ℕ
+view name = name.items
+
 -- one name more
-names_more : {K : Type 0} (processes : List (Process K)) (process : Process K) (left : ℕ) → left ≡ length processes → process_names (processes ++ process ∷ []) ≡ process_names processes ++ name_row left process.name
-names_more processes process left is =
-    ap (flat_map process_row) (enumerate-more 0 left processes process (omega arith))
-    ∙ flat_map-append process_row (enumerate_from 0 processes) ((left, process) ∷ [])
-    ∙ ap (λ (last : List ℕ). process_names processes ++ last) (append-nil (name_row left process.name))
+names_more : (names : List (List ℕ)) (name : List ℕ) (left : ℕ) → left ≡ length names → process_names (names ++ name ∷ []) ≡ process_names names ++ name_row left name
+names_more names name left is =
+    ap (flat_map process_row) (enumerate-more 0 left names name (omega arith))
+    ∙ flat_map-append process_row (enumerate_from 0 names) ((left, name) ∷ [])
+    ∙ ap (λ (last : List ℕ). process_names names ++ last) (append-nil (name_row left name))
 
 -- the name of one process more is written
-pub name_written : {K : Type 0} (before between after : Option (List ℕ)) (processes : List (ProcessDecl K)) (left : ℕ) (process : ProcessDecl K) → left < length processes → process ≡ get_or processes left process → Appends before between (process_names (map process_view (take left processes))) → Appends between after (name_row left process.name.items) → Appends before after (process_names (map process_view (take (left + 1) processes)))
-name_written before between after processes left process within is one other =
-    let so_far = map process_view (take left processes) in
-    let more : take (left + 1) processes ≡ take left processes ++ process ∷ [] = take_more processes left process within ∙ ap (λ last. take left processes ++ last ∷ []) (sym is) in
-    let viewed : map process_view (take (left + 1) processes) ≡ so_far ++ process_view process ∷ [] = ap (map process_view) more ∙ map-append process_view (take left processes) (process ∷ []) in
-    let many : length so_far ≡ left = length-map (take left processes) process_view ∙ length-take-le left processes (omega arith) in
-    let whole : process_names (map process_view (take (left + 1) processes)) ≡ process_names so_far ++ name_row left process.name.items = ap process_names viewed ∙ names_more so_far (process_view process) left (sym many) in
-    rw whole (appends_then before between after (process_names so_far) (name_row left process.name.items) one other)
+pub name_written : (before between after : Option (List ℕ)) (names : List (ArrayVec ℕ)) (left : ℕ) (name : ArrayVec ℕ) → left < length names → name ≡ get_or names left name → Appends before between (process_names (map (λ name. name.items) (take left names))) → Appends between after (name_row left name.items) → Appends before after (process_names (map (λ name. name.items) (take (left + 1) names)))
+name_written before between after names left name within is one other =
+    let so_far = map view (take left names) in
+    let more : take (left + 1) names ≡ take left names ++ name ∷ [] = take_more names left name within ∙ ap (λ last. take left names ++ last ∷ []) (sym is) in
+    let viewed : map view (take (left + 1) names) ≡ so_far ++ name.items ∷ [] = ap (map view) more ∙ map-append view (take left names) (name ∷ []) in
+    let many : length so_far ≡ left = length-map (take left names) view ∙ length-take-le left names (omega arith) in
+    let whole : process_names (map view (take (left + 1) names)) ≡ process_names so_far ++ name_row left name.items = ap process_names viewed ∙ names_more so_far name.items left (sym many) in
+    rw whole (appends_then before between after (process_names so_far) (name_row left name.items) one other)

@@ -8,7 +8,7 @@ use Rattle.strm_call.specs.declared.setup.Setup.{Setup}
 use Rattle.strm_entry.specs.declared.entry.Entry.{Entry}
 use Rattle.strm_entry.specs.declared.transcript.StreamLog.{StreamLog}
 use Rattle.strm_verb.specs.Field.{Word}
-use Rattle.strm_plan.specs.Plan.{Streams, Process, Whole}
+use Rattle.strm_plan.specs.Plan.{Streams, Named}
 use Rattle.strm_script.specs.Fields.{KindSpelling, spaced}
 use Rattle.strm_script.specs.Lines.{event_text, answer_text, end_text, far_end_text, feed_text}
 use Rattle.strm_chart.specs.Columns.{all_bars, name_row, arrow, arrow_back, moved_text}
@@ -34,10 +34,10 @@ entries_rows spelling n driver stream entries = flat_map (entry_rows spelling n 
 -- ---- a stream
 
 -- the names of the processes, each above its column
-abbrev pub process_row : {K : Type 0} → ℕ × Process K → List ℕ
-process_row column = name_row column.0 column.1.name
+abbrev pub process_row : ℕ × List ℕ → List ℕ
+process_row column = name_row column.0 column.1
 
-abbrev pub process_names : {K : Type 0} → List (Process K) → List ℕ
+abbrev pub process_names : List (List ℕ) → List ℕ
 process_names processes = flat_map process_row (enumerate_from 0 processes)
 
 -- the name of the line's column
@@ -46,7 +46,7 @@ line_name left Line = name_row left (codes "line")
 line_name left driver = []
 
 -- the names of all columns, and a row of bars
-unfoldable pub names_text : {K : Type 0} → List (Process K) → List ℕ → Driver → List ℕ
+unfoldable pub names_text : List (List ℕ) → List ℕ → Driver → List ℕ
 names_text processes name driver =
     process_names processes ++ name_row (length processes) name ++ line_name (length processes + 1) driver ++ all_bars (length processes) driver ++ 10 ∷ []
 
@@ -55,23 +55,23 @@ unfoldable pub left_text : {K : Type 0} → Driver → StreamLog K → List ℕ
 left_text driver log = end_text A log.a ++ far_end_text driver log.b ++ feed_text driver log
 
 -- the chart of a stream
-unfoldable pub stream_chart : {K : Type 0} → KindSpelling K → List (Process K) → List ℕ → Setup → StreamLog K → List ℕ
+unfoldable pub stream_chart : {K : Type 0} → KindSpelling K → List (List ℕ) → List ℕ → Setup → StreamLog K → List ℕ
 stream_chart spelling processes name setup log =
     codes "stream" ++ spaced (Word name ∷ []) ++ (10 ∷ []) ++ names_text processes name setup.driver ++ entries_rows spelling (length processes) setup.driver name log.history.items ++ left_text setup.driver log
 
--- the chart of a stream of the plan, if there is one
-abbrev pub found_chart : {K : Type 0} → KindSpelling K → List (Process K) → Option (List ℕ × Setup) → StreamLog K → List ℕ
+-- the chart of a stream, if there is one
+abbrev pub found_chart : {K : Type 0} → KindSpelling K → List (List ℕ) → Option (List ℕ × Setup) → StreamLog K → List ℕ
 found_chart spelling processes None log = []
 found_chart spelling processes (Some stream) log = stream_chart spelling processes stream.0 stream.1 log
 
--- that of the stream of a number; nothing where the plan has none
-abbrev pub numbered_chart : {K : Type 0} → KindSpelling K → Whole K → ℕ → StreamLog K → List ℕ
-numbered_chart spelling plan number log = found_chart spelling plan.processes (slice_get plan.streams number) log
+-- that of the stream of a number; nothing where there is none
+abbrev pub numbered_chart : {K : Type 0} → KindSpelling K → Named → ℕ → StreamLog K → List ℕ
+numbered_chart spelling names number log = found_chart spelling names.processes (slice_get names.streams number) log
 
 -- the charts of all streams, each with the name by which it was declared
-abbrev pub streams_chart : {K : Type 0} → KindSpelling K → List (Process K) → Streams → List (StreamLog K) → List ℕ
+abbrev pub streams_chart : {K : Type 0} → KindSpelling K → List (List ℕ) → Streams → List (StreamLog K) → List ℕ
 streams_chart spelling processes streams logs = flat_map (λ stream. stream_chart spelling processes stream.0.0 stream.0.1 stream.1) (zip streams logs)
 
--- the chart of a plan's run
-abbrev pub chart_text : {K : Type 0} → KindSpelling K → Whole K → List (StreamLog K) → List ℕ
-chart_text spelling plan logs = streams_chart spelling plan.processes plan.streams logs
+-- the chart of a transcript, by the names of its streams and processes
+abbrev pub chart_text : {K : Type 0} → KindSpelling K → Named → List (StreamLog K) → List ℕ
+chart_text spelling names logs = streams_chart spelling names.processes names.streams logs

@@ -1,27 +1,27 @@
 //! What a run leaves, as a chart.
 ghost use Rattle.std.specs.Prelude.{OnOk};
 ghost use Rattle.std.specs.Io.KnownBytes.{Appends};
-ghost use Rattle.strm_plan.specs.Plan.{plan_view};
+ghost use Rattle.strm_plan.specs.Plan.{names_view};
 ghost use Rattle.strm_chart.specs.Chart.{chart_text, numbered_chart};
 
 use crate::stream::put_stream;
 use std::io::{self, Write};
 use strm_history::{StreamLog, Transcript};
-use strm_plan::Plan;
+use strm_plan::Names;
 use strm_script::PrintKind;
 
-/// Writes the chart of the stream of this number; nothing where the plan has none.
+/// Writes the chart of the stream of this number; nothing where no stream has it.
 fn put_numbered<W: Write, K: PrintKind + Drop>(
     w: &mut W,
-    plan: &Plan<K>,
+    names: &Names,
     number: usize,
     log: &StreamLog<K>,
 ) -> io::Result<()>
-    ensures { OnOk result (Appends (W.contents w.old) (W.contents w.new) (numbered_chart K.spelling (plan_view plan.now) number log.now)) }
+    ensures { OnOk result (Appends (W.contents w.old) (W.contents w.new) (numbered_chart K.spelling (names_view names.now) number log.now)) }
 {
-    match plan.streams.get_index(number) {
+    match names.streams.get_index(number) {
         Some((name, setup)) => {
-            put_stream(w, plan.processes.as_slice(), name.as_slice(), setup, log)
+            put_stream(w, names.processes.as_slice(), name.as_slice(), setup, log)
         }
         None => Ok(()),
     }
@@ -38,13 +38,13 @@ fn put_numbered<W: Write, K: PrintKind + Drop>(
 #[tactic(auto, using(crate::proofs::ChartLemmas::one_more_written, crate::proofs::ChartLemmas::none_written))]
 pub fn chart<W: Write, K: PrintKind + Drop>(
     transcript: &Transcript<K>,
-    plan: &Plan<K>,
+    names: &Names,
     w: &mut W,
 ) -> io::Result<()>
-    ensures text { OnOk result (Appends (W.contents w.old) (W.contents w.new) (chart_text K.spelling (plan_view plan.now) transcript.now.streams.items)) }
+    ensures text { OnOk result (Appends (W.contents w.old) (W.contents w.new) (chart_text K.spelling (names_view names.now) transcript.now.streams.items)) }
 {
     for (number, log) in transcript.streams.iter().enumerate() {
-        put_numbered(w, plan, number, log)?;
+        put_numbered(w, names, number, log)?;
     }
     Ok(())
 }

@@ -1,7 +1,6 @@
 //! The chart of a stream.
 ghost use Rattle.std.specs.Prelude.{OnOk, map};
 ghost use Rattle.std.specs.Io.KnownBytes.{Appends};
-ghost use Rattle.strm_plan.specs.Plan.{process_view};
 ghost use Rattle.strm_chart.specs.Chart as text;
 
 use crate::columns::{put_all_bars, put_name};
@@ -10,16 +9,16 @@ use std::io::{self, Write};
 use strm_head::Driver;
 use strm_history::{Setup, StreamLog};
 use strm_msg::End;
-use strm_plan::ProcessDecl;
+use strm_plan::Name;
 use strm_script::{PrintKind, put_end, put_far_end, put_feed, put_heading};
 
 /// Writes the names of the processes, each above its column.
 #[tactic(auto, using(crate::proofs::NameLemmas::name_written))]
-fn put_processes<W: Write, K>(w: &mut W, processes: &[ProcessDecl<K>]) -> io::Result<()>
-    ensures { OnOk result (Appends (W.contents w.old) (W.contents w.new) (text.process_names (map process_view processes.now))) }
+fn put_processes<W: Write>(w: &mut W, processes: &[Name]) -> io::Result<()>
+    ensures { OnOk result (Appends (W.contents w.old) (W.contents w.new) (text.process_names (map (λ name. name.items) processes.now))) }
 {
-    for (left, process) in processes.iter().enumerate() {
-        put_name(w, left, process.name.as_slice())?;
+    for (left, name) in processes.iter().enumerate() {
+        put_name(w, left, name.as_slice())?;
     }
     Ok(())
 }
@@ -36,13 +35,8 @@ fn put_line_name<W: Write>(w: &mut W, left: usize, driver: Driver) -> io::Result
 
 /// Writes the names of all columns, each above its own, and a row of their bars.
 #[tactic(auto, using(strm_text::proofs::WriteLemmas::appends_then), unfolding(crate::specs::Chart::names_text))]
-fn put_names<W: Write, K>(
-    w: &mut W,
-    processes: &[ProcessDecl<K>],
-    name: &[u8],
-    driver: Driver,
-) -> io::Result<()>
-    ensures { OnOk result (Appends (W.contents w.old) (W.contents w.new) (text.names_text (map process_view processes.now) name.now driver)) }
+fn put_names<W: Write>(w: &mut W, processes: &[Name], name: &[u8], driver: Driver) -> io::Result<()>
+    ensures { OnOk result (Appends (W.contents w.old) (W.contents w.new) (text.names_text (map (λ name. name.items) processes.now) name.now driver)) }
 {
     let n = processes.len();
     put_processes(w, processes)?;
@@ -66,12 +60,12 @@ fn put_left<W: Write, K>(w: &mut W, driver: Driver, log: &StreamLog<K>) -> io::R
 #[tactic(auto, using(strm_text::proofs::WriteLemmas::appends_then), unfolding(crate::specs::Chart::stream_chart))]
 pub(crate) fn put_stream<W: Write, K: PrintKind + Drop>(
     w: &mut W,
-    processes: &[ProcessDecl<K>],
+    processes: &[Name],
     name: &[u8],
     setup: &Setup,
     log: &StreamLog<K>,
 ) -> io::Result<()>
-    ensures { OnOk result (Appends (W.contents w.old) (W.contents w.new) (text.stream_chart K.spelling (map process_view processes.now) name.now setup.now log.now)) }
+    ensures { OnOk result (Appends (W.contents w.old) (W.contents w.new) (text.stream_chart K.spelling (map (λ name. name.items) processes.now) name.now setup.now log.now)) }
 {
     put_heading(w, name)?;
     put_names(w, processes, name, setup.driver)?;

@@ -15,7 +15,7 @@ use strm_history::{Call, Called, Receipt, Setup, StreamLog, Transcript};
 use strm_job::{Feed, Script, ScriptCall};
 use strm_module::{Boxed, Kind, ModuleOf, Plain};
 use strm_msg::{Message, NoMem};
-use strm_plan::{Handed, Plan, hand_over, parse};
+use strm_plan::{Handed, Names, hand_over, parse};
 use strm_script::print;
 use strm_shared::{EndFault, Ended, Feeder, Ring, Runs, Seat, Shared};
 
@@ -300,8 +300,8 @@ fn done<N: Runs<Kind>, R: Print + Wait>(
 }
 
 /// What a script hands over.
-fn handed(alloc: Global, bytes: &[u8]) -> anyhow::Result<Handed<Plain>> {
-    let plan = parse(alloc, bytes)?;
+fn handed(alloc: Global, bytes: &[u8]) -> anyhow::Result<Handed<Boxed<Plain>>> {
+    let plan = parse::<Plain>(alloc, bytes)?;
     Ok(hand_over(alloc, plan)?)
 }
 
@@ -331,12 +331,12 @@ fn messages_of(alloc: Global, feeds: Vec<Feed>) -> Vec<Message> {
 /// The calls of a script.
 fn calls(alloc: Global, bytes: &[u8]) -> anyhow::Result<Vec<ScriptCall<Boxed<Plain>>>> {
     let Handed {
-        plan,
+        names,
         setups: _,
         scripts,
         feeds,
     } = handed(alloc, bytes)?;
-    drop(plan);
+    drop(names);
     drop(feeds);
     Ok(calls_of(alloc, scripts))
 }
@@ -362,10 +362,10 @@ fn log<R: Print + Wait>(
 }
 
 /// Prints what is left of a stream.
-fn tell(rt: &impl Print, alloc: Global, plan: &Plan, log: StreamLog<Kind>) -> anyhow::Result<()> {
+fn tell(rt: &impl Print, alloc: Global, names: &Names, log: StreamLog<Kind>) -> anyhow::Result<()> {
     let mut streams = Vec::new(alloc);
     streams.push(log)?;
-    print(&Transcript { streams }, plan, &mut io::writer(rt))?;
+    print(&Transcript { streams }, names, &mut io::writer(rt))?;
     Ok(())
 }
 
@@ -373,12 +373,12 @@ fn tell(rt: &impl Print, alloc: Global, plan: &Plan, log: StreamLog<Kind>) -> an
 fn play_out<R: Print + Wait>(
     rt: &R,
     alloc: Global,
-    handed: Handed<Plain>,
+    handed: Handed<Boxed<Plain>>,
     same: Vec<ScriptCall<Boxed<Plain>>>,
     offers: &str,
 ) -> anyhow::Result<()> {
     let Handed {
-        plan,
+        names,
         mut setups,
         scripts,
         feeds,
@@ -398,10 +398,10 @@ fn play_out<R: Print + Wait>(
         }
     };
     let told = match log {
-        Ok(log) => tell(rt, alloc, &plan, log),
+        Ok(log) => tell(rt, alloc, &names, log),
         Err(fault) => Err(fault),
     };
-    drop(plan);
+    drop(names);
     told
 }
 

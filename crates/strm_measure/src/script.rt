@@ -19,7 +19,7 @@ pub fn script<R: Files>(rt: &R, alloc: Global, path: &str) -> Result<Vec<u8>, Lo
 /// How many milliseconds it takes to read a script.
 fn time_to_read(rt: &impl Clock, alloc: Global, bytes: &[u8]) -> anyhow::Result<u128> {
     let start = Instant::now(rt)?;
-    let plan = parse::<Kind>(alloc, bytes)?;
+    let plan = parse::<Plain>(alloc, bytes)?;
     let read = start.elapsed(rt);
     drop(plan);
     Ok(read?.as_millis())
@@ -29,7 +29,7 @@ fn time_to_read(rt: &impl Clock, alloc: Global, bytes: &[u8]) -> anyhow::Result<
 fn time_to_print(rt: &impl Clock, alloc: Global, outcome: &Outcome) -> anyhow::Result<u128> {
     let start = Instant::now(rt)?;
     let mut text = Vec::new(alloc);
-    print(&outcome.transcript, &outcome.plan, &mut text)?;
+    print(&outcome.transcript, &outcome.names, &mut text)?;
     Ok(start.elapsed(rt)?.as_millis())
 }
 

@@ -50,7 +50,7 @@ few_setups n setups entries are many under =
     omega (arith, as_many, viewed, many, under)
 
 -- and fewer processes
-pub few_scripts : {K : Type 0} (n : ℕ) (scripts : List (Script (Shape K))) (processes : List (ProcessDecl K)) → calls_of_scripts scripts ≡ calls_of_processes processes → length (map process_view processes) ≤ n → n < 4294967296 → length scripts < 4294967296
+pub few_scripts : {K : Type 0} (n : ℕ) (scripts : List (Script (Shape K))) (processes : List (ProcessDecl (Shape K))) → calls_of_scripts scripts ≡ calls_of_processes processes → length (map process_view processes) ≤ n → n < 4294967296 → length scripts < 4294967296
 few_scripts n scripts processes are many under =
     let made : length (calls_of_scripts scripts) ≡ length scripts = length-map scripts (λ script. script.calls.items) in
     let of_plan : length (calls_of_processes processes) ≡ length processes = length-map processes (λ process. process.calls.items) in
@@ -90,11 +90,11 @@ process_there {K} entries calls there =
     (λ k d under. let one = get_or calls k d in sym (same_end entries one.stream one.call.end) ∙ each k d under)
 
 -- those of all processes, by the lists of calls
-scripts_there : {K : Type 0} (entries : Entries) (scripts : List (Script (Shape K))) (processes : List (ProcessDecl K)) → calls_of_scripts scripts ≡ calls_of_processes processes → AreProcessesThere (streams_view entries) (map process_view processes) → All (λ script. runs.AreCallsThere (setups_in entries) script.calls.items) scripts
+scripts_there : {K : Type 0} (entries : Entries) (scripts : List (Script (Shape K))) (processes : List (ProcessDecl (Shape K))) → calls_of_scripts scripts ≡ calls_of_processes processes → AreProcessesThere (streams_view entries) (map process_view processes) → All (λ script. runs.AreCallsThere (setups_in entries) script.calls.items) scripts
 scripts_there {K} entries scripts processes same there =
     let each = unmapped (λ process. plans.AreCallsThere (streams_view entries) process.calls) process_view processes there in
     let lists : All (λ (calls : List (ScriptCall (Shape K))). runs.AreCallsThere (setups_in entries) calls) (calls_of_processes processes) =
-    All-map (λ (calls : List (ScriptCall (Shape K))). runs.AreCallsThere (setups_in entries) calls) (λ (process : ProcessDecl K). process.calls.items) processes (λ k d under. process_there entries (get_or processes k d).calls.items (each k d under)) in
+    All-map (λ (calls : List (ScriptCall (Shape K))). runs.AreCallsThere (setups_in entries) calls) (λ (process : ProcessDecl (Shape K)). process.calls.items) processes (λ k d under. process_there entries (get_or processes k d).calls.items (each k d under)) in
     unmapped (λ (calls : List (ScriptCall (Shape K))). runs.AreCallsThere (setups_in entries) calls) (λ (script : Script (Shape K)). script.calls.items) scripts
     (subst (All (λ (calls : List (ScriptCall (Shape K))). runs.AreCallsThere (setups_in entries) calls)) (sym same) lists)
 
@@ -118,7 +118,7 @@ pairs_unmapped R f xs all i j d before under =
     (subst (λ y. R (get_or (map f xs) i (f d)) y) (at_map f xs j d under) (all i j (f d) before (omega (arith, many, under))))
 
 -- so all is there that the run of a plan names
-pub all_there : {K : Type 0} (entries : Entries) (scripts : List (Script (Shape K))) (processes : List (ProcessDecl K)) (feeds : List Feed) → calls_of_scripts scripts ≡ calls_of_processes processes → AreProcessesThere (streams_view entries) (map process_view processes) → AreLinesThere (streams_view entries) (map feed_view feeds) → AreOnce (map feed_view feeds) → runs.AreThere (setups_in entries) scripts feeds
+pub all_there : {K : Type 0} (entries : Entries) (scripts : List (Script (Shape K))) (processes : List (ProcessDecl (Shape K))) (feeds : List Feed) → calls_of_scripts scripts ≡ calls_of_processes processes → AreProcessesThere (streams_view entries) (map process_view processes) → AreLinesThere (streams_view entries) (map feed_view feeds) → AreOnce (map feed_view feeds) → runs.AreThere (setups_in entries) scripts feeds
 all_there entries scripts processes feeds same calls lines once = record {
   calls = scripts_there entries scripts processes same calls;
   lines = feeds_there entries feeds lines;

@@ -7,6 +7,7 @@ use Rattle.std.specs.Str.{bytes_eq}
 use Rattle.indexmap.specs.IndexMap.{insert_entry}
 use Rattle.std.proofs.lemmas.Option.{slice_get-map}
 use Rattle.strm_module.specs.declared.driver.Driver.{Driver}
+use Rattle.strm_module.specs.declared.shape.Shape.{Shape}
 use Rattle.strm_call.specs.declared.setup.Setup.{Setup}
 use Rattle.strm_plan.specs.Plan.{Streams, process_view, feed_view}
 use Rattle.strm_plan.specs.Reading.{has_feed}
@@ -70,7 +71,7 @@ inserted name_of (x ∷ entries) k setup is =
     ∙ ap (λ (rest : Streams). named (name_of x.0) x.1 ∷ rest) (inserted name_of entries k setup both.1)
 
 -- a process of some name
-pub any_name : {K : Type 0} (wanted : List ℕ) (processes : List (ProcessDecl K)) → list_any (λ (process : ProcessDecl K). bytes_eq wanted process.name.items) processes ≡ list_any (bytes_eq wanted) (map (λ process. process.name) (map process_view processes))
+pub any_name : {K : Type 0} (wanted : List ℕ) (processes : List (ProcessDecl (Shape K))) → list_any (λ (process : ProcessDecl (Shape K)). bytes_eq wanted process.name.items) processes ≡ list_any (bytes_eq wanted) (map (λ process. process.name) (map process_view processes))
 any_name wanted [] = refl
 any_name wanted (process ∷ processes) = ap (λ (b : Bool). bytes_eq wanted process.name.items || b) (any_name wanted processes)
 

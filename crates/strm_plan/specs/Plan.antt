@@ -10,6 +10,7 @@ use Rattle.strm_job.specs.declared.script.ScriptCall.{ScriptCall}
 use Rattle.strm_job.specs.declared.script.Feed.{Feed}
 use Rattle.strm_plan.specs.declared.plan.ProcessDecl.{ProcessDecl}
 use Rattle.strm_plan.specs.declared.plan.Plan.{Plan}
+use Rattle.strm_plan.specs.declared.plan.Names.{Names}
 use Rattle.strm_plan.specs.declared.draft.Current.{Current}
 use Rattle.strm_plan.specs.declared.draft.Draft.{Draft}
 
@@ -39,6 +40,11 @@ pub record Whole (K : Type 0) : Type 0 where
   pub processes : List (Process K)
   pub feeds : List Fed
 
+-- the names of streams, with how each is made, and of processes: by these a transcript is printed
+pub record Named : Type 0 where
+  pub streams : Streams
+  pub processes : List (List ℕ)
+
 -- to what the lines that come next belong
 pub data Place (K : Type 0) : Type 0 where
   Nowhere : Place K
@@ -60,7 +66,7 @@ abbrev pub call_view : {K : Type 0} → ScriptCall (Shape K) → Call K
 call_view line = record { stream = line.stream; end = line.call.end; asked = asked_of line.call.request }
 
 -- a process, its calls without their places in memory
-abbrev pub process_view : {K : Type 0} → ProcessDecl K → Process K
+abbrev pub process_view : {K : Type 0} → ProcessDecl (Shape K) → Process K
 process_view process = record { name = process.name.items; calls = map call_view process.calls.items }
 
 -- what a line is fed with
@@ -72,18 +78,22 @@ abbrev pub streams_view : List (ArrayVec ℕ × Setup) → Streams
 streams_view entries = map (λ entry. (entry.0.items, entry.1)) entries
 
 -- a plan
-abbrev pub plan_view : {K : Type 0} → Plan K → Whole K
+abbrev pub plan_view : {K : Type 0} → Plan (Shape K) → Whole K
 plan_view plan =
     record { streams = streams_view plan.streams.entries; processes = map process_view plan.processes.items; feeds = map feed_view plan.feeds.items }
 
+-- the names of a plan
+abbrev pub names_view : Names → Named
+names_view names = record { streams = streams_view names.streams.entries; processes = map (λ name. name.items) names.processes.items }
+
 -- what goes on
-abbrev pub place_view : {K : Type 0} → Current K → Place K
+abbrev pub place_view : {K : Type 0} → Current (Shape K) → Place K
 place_view Current.Nowhere = Nowhere
 place_view (Current.Process process) = In_process (process_view process)
 place_view (Current.Feed feed) = In_feed (feed_view feed)
 
 -- a plan while it is read
-abbrev pub draft_view : {K : Type 0} → Draft K → Partial K
+abbrev pub draft_view : {K : Type 0} → Draft (Shape K) → Partial K
 draft_view draft =
     record {
       streams = streams_view draft.streams.entries;

@@ -1,5 +1,6 @@
 -- What `parse` answers: what the script spells, unless memory was wanting.
 use Rattle.std.specs.Prelude.{◌≡◌, ◌⊎◌, Result, Ok, Err}
+use Rattle.strm_module.specs.declared.shape.Shape.{Shape}
 use Rattle.strm_verb.specs.declared.fault.Cause.TheVariants as causes
 use Rattle.strm_plan.specs.Plan.{Whole, plan_view}
 use Rattle.strm_plan.specs.Reading.{FaultAt}
@@ -12,6 +13,6 @@ pub record IsNoMemory (fault : ScriptFault) : Type 0 where
   pub cause : fault.cause ≡ causes.NoMemory
 
 -- the plan is the one that is spelt; the fault is the one that reading finds, or want of memory
-abbrev pub Spells : {K : Type 0} → Result (Plan K) ScriptFault → Result (Whole K) FaultAt → Type 0
+abbrev pub Spells : {K : Type 0} → Result (Plan (Shape K)) ScriptFault → Result (Whole K) FaultAt → Type 0
 Spells (Ok plan) spelt = spelt ≡ Ok (plan_view plan)
 Spells (Err fault) spelt = IsNoMemory fault ⊎ (spelt ≡ Err (record { line = fault.line; cause = fault.cause }))

@@ -11,7 +11,8 @@ use indexmap::IndexMap;
 use std::alloc::Global;
 use strm_call::{Call, Setup};
 use strm_job::ScriptCall;
-use strm_verb::{Cause, PushDecl, ReadError, ReadKind, Verb, request_at};
+use strm_module::Boxed;
+use strm_verb::{Cause, PlayModule, ReadError, ReadKind, Verb, request_at};
 
 /// How many modules were declared when this call is.
 pub(crate) fn modules_after(verb: Verb, modules: u64) -> u64
@@ -25,16 +26,18 @@ pub(crate) fn modules_after(verb: Verb, modules: u64) -> u64
 }
 
 /// A call with as many fields as it has.
-fn placed_call<K: ReadKind>(
+fn placed_call<M: PlayModule>(
     alloc: Global,
     streams: &IndexMap<Name, Setup>,
     serial: u64,
     verb: Verb,
     target: &[u8],
     texts: &[&[u8]],
-) -> Result<ScriptCall<PushDecl<K>>, ReadError>
+) -> Result<ScriptCall<Boxed<M>>, ReadError>
+where
+    M::Kind: ReadKind,
     requires { length streams.now.entries ≤ MOST_STREAMS }
-    ensures { Gives call_view result (reading.placed_call K.words (streams_view streams.now.entries) serial verb target.now (map (λ text. text.now) texts.now)) }
+    ensures { Gives call_view result (reading.placed_call M.Kind.words (streams_view streams.now.entries) serial verb target.now (map (λ text. text.now) texts.now)) }
 {
     let Some((stream, end)) = target_of(streams, target) else {
         return Err(ReadError::Fault(Cause::NoSuch));
@@ -46,20 +49,22 @@ fn placed_call<K: ReadKind>(
 
 /// The call of this verb with these fields: NAME:END and what follows it.
 #[tactic(auto, unfolding(crate::specs::Reading::call_at))]
-pub(crate) fn call_at<K: ReadKind>(
+pub(crate) fn call_at<M: PlayModule>(
     alloc: Global,
     streams: &IndexMap<Name, Setup>,
     serial: u64,
     verb: Verb,
     texts: &[&[u8]],
-) -> Result<ScriptCall<PushDecl<K>>, ReadError>
+) -> Result<ScriptCall<Boxed<M>>, ReadError>
+where
+    M::Kind: ReadKind,
     requires { length streams.now.entries ≤ MOST_STREAMS }
-    ensures { Gives call_view result (reading.call_at K.words (streams_view streams.now.entries) serial verb (map (λ text. text.now) texts.now)) }
+    ensures { Gives call_view result (reading.call_at M.Kind.words (streams_view streams.now.entries) serial verb (map (λ text. text.now) texts.now)) }
 {
     let [target, texts @ ..] = texts else {
         return Err(ReadError::Fault(Cause::Fields));
     };
-    let arity = verb.arity::<K>(texts)?;
+    let arity = verb.arity::<M::Kind>(texts)?;
     if texts.len() != arity {
         return Err(ReadError::Fault(Cause::Fields));
     }

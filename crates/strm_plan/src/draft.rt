@@ -15,9 +15,9 @@ use std::alloc::Global;
 use std::mem;
 use strm_call::Setup;
 use strm_job::Feed;
-use strm_module::Driver;
+use strm_module::{Boxed, Driver};
 use strm_text::{cut_fields, is_allowed};
-use strm_verb::{Cause, MessageWord, ReadError, ReadKind, Verb, message_at};
+use strm_verb::{Cause, MessageWord, PlayModule, ReadError, ReadKind, Verb, message_at, named};
 
 /// The most streams of a plan.
 const MOST_STREAMS: usize = 64;
@@ -36,28 +36,28 @@ const LONGEST_LINE: usize = 16_384;
 
 /// To what the lines that come next belong.
 #[derive(Drop)]
-enum Current<K> {
+enum Current<P> {
     /// To nothing yet.
     Nowhere,
     /// To a process.
-    Process(ProcessDecl<K>),
+    Process(ProcessDecl<P>),
     /// To a feed.
     Feed(Feed),
 }
 
 /// A plan while it is read: what has ended, how many modules were declared, and what goes on.
 #[derive(Drop)]
-pub(crate) struct Draft<K> {
+pub(crate) struct Draft<P> {
     /// How each stream is made, by its name.
     streams: IndexMap<Name, Setup>,
     /// The processes that have ended.
-    processes: Vec<ProcessDecl<K>>,
+    processes: Vec<ProcessDecl<P>>,
     /// The feeds that have ended.
     feeds: Vec<Feed>,
     /// How many modules were declared, by all processes.
     modules: u64,
     /// What goes on.
-    current: Current<K>,
+    current: Current<P>,
 }
 
 /// Whether there may be one stream more.
@@ -78,16 +78,19 @@ fn has_feed(feeds: &[Feed], number: u32) -> bool
 fn outside(word: &[u8]) -> Cause
     ensures { result ≡ reading.outside word.now }
 {
-    if Verb::named(word).is_some() || MessageWord::named(word).is_some() {
+    if named::<Verb>(word).is_some() || named::<MessageWord>(word).is_some() {
         Cause::OutOfPlace
     } else {
         Cause::UnknownWord
     }
 }
 
-impl<K: ReadKind> Draft<K> {
+impl<M: PlayModule> Draft<Boxed<M>>
+where
+    M::Kind: ReadKind,
+{
     /// Nothing yet.
-    pub(crate) fn new(alloc: Global) -> Draft<K>
+    pub(crate) fn new(alloc: Global) -> Draft<Boxed<M>>
         ensures { draft_view result ≡ reading.nothing_yet }
     {
         Draft {
@@ -179,13 +182,13 @@ impl<K: ReadKind> Draft<K> {
     fn call_line(
         &mut self,
         alloc: Global,
-        mut process: ProcessDecl<K>,
+        mut process: ProcessDecl<Boxed<M>>,
         verb: Verb,
         texts: &[&[u8]],
     ) -> Result<(), ReadError>
         requires few { length self.old.streams.entries ≤ MOST_STREAMS }
         requires modules { self.old.modules < 2 ^ 63 }
-        ensures { Gives (λ _. draft_view self.new) result (reading.call_onto K.words (draft_view self.old) (process_view process) verb (map (λ text. text.now) texts.now)) }
+        ensures { Gives (λ _. draft_view self.new) result (reading.call_onto M.Kind.words (draft_view self.old) (process_view process) verb (map (λ text. text.now) texts.now)) }
     {
         let call = call_at(alloc, &self.streams, self.modules + 1, verb, texts)?;
         if process.calls.len() >= MOST_CALLS {
@@ -221,15 +224,15 @@ impl<K: ReadKind> Draft<K> {
     fn process_word(
         &mut self,
         alloc: Global,
-        process: ProcessDecl<K>,
+        process: ProcessDecl<Boxed<M>>,
         word: &[u8],
         texts: &[&[u8]],
     ) -> Result<(), ReadError>
         requires few { length self.old.streams.entries ≤ MOST_STREAMS }
         requires modules { self.old.modules < 2 ^ 63 }
-        ensures { Gives (λ _. draft_view self.new) result (reading.inner_onto K.words (draft_view self.old) (In_process (process_view process)) word.now (map (λ text. text.now) texts.now)) }
+        ensures { Gives (λ _. draft_view self.new) result (reading.inner_onto M.Kind.words (draft_view self.old) (In_process (process_view process)) word.now (map (λ text. text.now) texts.now)) }
     {
-        match Verb::named(word) {
+        match named(word) {
             Some(verb) => self.call_line(alloc, process, verb, texts),
             None => Err(ReadError::Fault(outside(word))),
         }
@@ -243,9 +246,9 @@ impl<K: ReadKind> Draft<K> {
         word: &[u8],
         texts: &[&[u8]],
     ) -> Result<(), ReadError>
-        ensures { Gives (λ _. draft_view self.new) result (reading.inner_onto K.words (draft_view self.old) (In_feed (feed_view feed)) word.now (map (λ text. text.now) texts.now)) }
+        ensures { Gives (λ _. draft_view self.new) result (reading.inner_onto M.Kind.words (draft_view self.old) (In_feed (feed_view feed)) word.now (map (λ text. text.now) texts.now)) }
     {
-        match MessageWord::named(word) {
+        match named(word) {
             Some(word) => self.message_line(alloc, feed, word, texts),
             None => Err(ReadError::Fault(outside(word))),
         }
@@ -256,7 +259,7 @@ impl<K: ReadKind> Draft<K> {
     fn inner_line(&mut self, alloc: Global, word: &[u8], texts: &[&[u8]]) -> Result<(), ReadError>
         requires few { length self.old.streams.entries ≤ MOST_STREAMS }
         requires modules { self.old.modules < 2 ^ 63 }
-        ensures { Gives (λ _. draft_view self.new) result (reading.inner_onto K.words (draft_view self.old) (draft_view self.old).place word.now (map (λ text. text.now) texts.now)) }
+        ensures { Gives (λ _. draft_view self.new) result (reading.inner_onto M.Kind.words (draft_view self.old) (draft_view self.old).place word.now (map (λ text. text.now) texts.now)) }
     {
         match mem::replace(&mut self.current, Current::Nowhere) {
             Current::Nowhere => Err(ReadError::Fault(outside(word))),
@@ -270,7 +273,7 @@ impl<K: ReadKind> Draft<K> {
     fn word_line(&mut self, alloc: Global, word: &[u8], texts: &[&[u8]]) -> Result<(), ReadError>
         requires few { length self.old.streams.entries ≤ MOST_STREAMS }
         requires modules { self.old.modules < 2 ^ 63 }
-        ensures { Gives (λ _. draft_view self.new) result (reading.word_onto K.words (draft_view self.old) word.now (map (λ text. text.now) texts.now)) }
+        ensures { Gives (λ _. draft_view self.new) result (reading.word_onto M.Kind.words (draft_view self.old) word.now (map (λ text. text.now) texts.now)) }
     {
         if word == b"stream".as_slice() {
             self.close()?;
@@ -291,7 +294,7 @@ impl<K: ReadKind> Draft<K> {
     fn fields_line(&mut self, alloc: Global, texts: &[&[u8]]) -> Result<(), ReadError>
         requires few { length self.old.streams.entries ≤ MOST_STREAMS }
         requires modules { self.old.modules < 2 ^ 63 }
-        ensures { Gives (λ _. draft_view self.new) result (reading.fields_onto K.words (draft_view self.old) (map (λ text. text.now) texts.now)) }
+        ensures { Gives (λ _. draft_view self.new) result (reading.fields_onto M.Kind.words (draft_view self.old) (map (λ text. text.now) texts.now)) }
     {
         match texts {
             [] => Ok(()),
@@ -310,7 +313,7 @@ impl<K: ReadKind> Draft<K> {
     ) -> Result<(), ReadError>
         requires few { length self.old.streams.entries ≤ MOST_STREAMS }
         requires modules { self.old.modules < 2 ^ 63 }
-        ensures { Gives (λ _. draft_view self.new) result (reading.line_onto K.words (draft_view self.old) line.now) }
+        ensures { Gives (λ _. draft_view self.new) result (reading.line_onto M.Kind.words (draft_view self.old) line.now) }
     {
         if line.len() > LONGEST_LINE {
             return Err(ReadError::Fault(Cause::TooLong));
@@ -326,7 +329,7 @@ impl<K: ReadKind> Draft<K> {
     }
 
     /// The plan that the lines make. Refused for want of memory alone.
-    pub(crate) fn finish(mut self) -> Result<Plan<K>, ReadError>
+    pub(crate) fn finish(mut self) -> Result<Plan<Boxed<M>>, ReadError>
         ensures { Gives plan_view result (Ok (reading.plan_of (draft_view self))) }
     {
         self.close()?;

@@ -10,7 +10,6 @@ mod loading;
 mod names;
 mod parsing;
 mod plan;
-mod pushing;
 mod setup;
 mod target;
 
@@ -18,6 +17,5 @@ pub use fault::{PlayFault, ScriptFault};
 pub use handing::{Handed, hand_over};
 pub use loading::{LoadFault, MOST_READ, load};
 pub use parsing::{LONGEST_SCRIPT, parse};
-pub use plan::{Name, Plan, ProcessDecl};
-pub use pushing::PlayModule;
-pub use strm_verb::{Cause, PushDecl, ReadKind};
+pub use plan::{Name, Names, Plan, ProcessDecl};
+pub use strm_verb::{Cause, PlayModule, ReadKind};

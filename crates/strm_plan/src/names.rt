@@ -10,6 +10,7 @@ ghost use Rattle.strm_verb.specs.Fault.{Gives};
 use crate::plan::{LONGEST, Name, ProcessDecl};
 use indexmap::IndexMap;
 use strm_call::Setup;
+use strm_module::{Boxed, ModuleOf};
 use strm_text::name;
 use strm_verb::{Cause, ReadError};
 
@@ -21,7 +22,7 @@ fn has_stream(streams: &IndexMap<Name, Setup>, chosen: &Name) -> bool
 }
 
 /// Whether a process has this name.
-fn has_process<K>(processes: &[ProcessDecl<K>], chosen: &Name) -> bool
+fn has_process<M: ModuleOf>(processes: &[ProcessDecl<Boxed<M>>], chosen: &Name) -> bool
     ensures { result ≡ list_any (bytes_eq chosen.now.items) (map (λ process. process.name) (map process_view processes.now)) }
 {
     processes.iter().any(|process| *chosen == process.name)
@@ -43,7 +44,10 @@ pub(crate) fn stream_name(streams: &IndexMap<Name, Setup>, text: &[u8]) -> Resul
 
 /// The name of a process to come. Refused where the text is no name, a process has it, or it is `line`,
 /// which stands for arrivals in a transcript.
-pub(crate) fn process_name<K>(processes: &[ProcessDecl<K>], text: &[u8]) -> Result<Name, ReadError>
+pub(crate) fn process_name<M: ModuleOf>(
+    processes: &[ProcessDecl<Boxed<M>>],
+    text: &[u8],
+) -> Result<Name, ReadError>
     ensures { Gives (λ name. name.items) result (reading.process_name (map process_view processes.now) text.now) }
 {
     let Some(chosen) = name::<LONGEST>(text) else {

@@ -10,20 +10,23 @@ use crate::draft::Draft;
 use crate::fault::ScriptFault;
 use crate::plan::Plan;
 use std::alloc::Global;
+use strm_module::Boxed;
 use strm_text::first_line;
-use strm_verb::{Cause, ReadError, ReadKind};
+use strm_verb::{Cause, PlayModule, ReadError, ReadKind};
 
 /// The longest script, in bytes.
 pub const LONGEST_SCRIPT: usize = 1_048_576;
 
-/// The plan that a script spells, whose modules are of the kinds that `K` has words for: what a run asks of streams,
-/// processes and feeds holds of it.
+/// The plan that a script spells, whose modules are of type `M`, and of the kinds that its vocabulary has words for: what
+/// a run asks of streams, processes and feeds holds of it.
 ///
 /// Refused with the first fault: too long a script before any line, then the faults of the lines in order,
 /// and those of a line from left to right. Want of memory, which says nothing of the script, is told of
 /// line 0.
-pub fn parse<K: ReadKind>(alloc: Global, bytes: &[u8]) -> Result<Plan<K>, ScriptFault>
-    ensures spells { Spells result (reading.spelt K.words bytes.now) }
+pub fn parse<M: PlayModule>(alloc: Global, bytes: &[u8]) -> Result<Plan<Boxed<M>>, ScriptFault>
+where
+    M::Kind: ReadKind,
+    ensures spells { Spells result (reading.spelt M.Kind.words bytes.now) }
     ensures sound { IfOk result (λ plan. IsSound (plan_view plan)) }
 {
     if bytes.len() > LONGEST_SCRIPT {
@@ -36,12 +39,14 @@ pub fn parse<K: ReadKind>(alloc: Global, bytes: &[u8]) -> Result<Plan<K>, Script
 }
 
 /// The plan that lines spell, or their first fault.
-fn parse_lines<K: ReadKind>(alloc: Global, bytes: &[u8]) -> Result<Plan<K>, ScriptFault>
+fn parse_lines<M: PlayModule>(alloc: Global, bytes: &[u8]) -> Result<Plan<Boxed<M>>, ScriptFault>
+where
+    M::Kind: ReadKind,
     requires { length bytes.now ≤ LONGEST_SCRIPT }
-    ensures spells { Spells result (reading.lines_onto K.words 0 reading.nothing_yet (lines bytes.now)) }
+    ensures spells { Spells result (reading.lines_onto M.Kind.words 0 reading.nothing_yet (lines bytes.now)) }
     ensures sound { IfOk result (λ plan. IsSound (plan_view plan)) }
 {
-    let mut draft = Draft::<K>::new(alloc);
+    let mut draft = Draft::<Boxed<M>>::new(alloc);
     let mut texts = Vec::new(alloc);
     let mut rest = bytes;
     let mut number = 0;

@@ -3,8 +3,7 @@ use arrayvec::ArrayVec;
 use indexmap::IndexMap;
 use strm_call::Setup;
 use strm_job::{Feed, ScriptCall};
-use strm_module::Kind;
-use strm_verb::PushDecl;
+use strm_module::{Boxed, Plain};
 
 /// The longest name of a stream or a process, in bytes.
 pub const LONGEST: usize = 16;
@@ -14,20 +13,29 @@ pub type Name = ArrayVec<u8, LONGEST>;
 
 /// A process: a caller with the calls that it makes, one after another.
 #[derive(Drop)]
-pub struct ProcessDecl<K = Kind> {
+pub struct ProcessDecl<P = Boxed<Plain>> {
     /// Its name, which no other process has.
     pub name: Name,
-    /// Its calls, in order, each on a stream by its number in the order of the plan. A push has the shape of its module.
-    pub calls: Vec<ScriptCall<PushDecl<K>>>,
+    /// Its calls, in order, each on a stream by its number in the order of the plan. A push has its module.
+    pub calls: Vec<ScriptCall<P>>,
 }
 
-/// What a script says, whose modules are of the built-in kinds, or of kinds of a program's own.
+/// What a script says, whose pushes carry `P`: modules of the built-in kinds, or of kinds of a program's own.
 #[derive(Drop)]
-pub struct Plan<K = Kind> {
+pub struct Plan<P = Boxed<Plain>> {
     /// How each stream is made, by its name, in order of declaration.
     pub streams: IndexMap<Name, Setup>,
     /// The processes, in order.
-    pub processes: Vec<ProcessDecl<K>>,
+    pub processes: Vec<ProcessDecl<P>>,
     /// The feeds, in order, each for another line, by its number in the order of the plan.
     pub feeds: Vec<Feed>,
+}
+
+/// The names by which a transcript is printed: what is left of a plan that was handed over.
+#[derive(Drop)]
+pub struct Names {
+    /// How each stream is made, by its name, in order of declaration.
+    pub streams: IndexMap<Name, Setup>,
+    /// The names of the processes, in order.
+    pub processes: Vec<Name>,
 }

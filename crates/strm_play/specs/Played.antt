@@ -23,14 +23,14 @@ use Rattle.strm_plan.specs.declared.fault.PlayFault.{PlayFault}
 use Rattle.strm_plan.specs.declared.fault.PlayFault.TheVariants.{Script, Run}
 
 -- the calls of a process, by its number; there are none past the last
-abbrev pub calls_of : {K : Type 0} → Plan K → ℕ → List (ScriptCall (Shape K))
+abbrev pub calls_of : {K : Type 0} → Plan (Shape K) → ℕ → List (ScriptCall (Shape K))
 calls_of plan caller = get_or (calls_of_processes plan.processes.items) caller []
 
--- what is left of a plan that was played are its names; each stream that it declares has a log, in order, with a legal history that
+-- what is left of a plan that was played are the names of its streams and processes; each stream that it declares has a log, in order, with a legal history that
 -- has each process's calls there, in order, and in which what came in is of the stream's feed
-pub record IsPlayedPlan {K : Type 0} (means : Meaning K) (plan : Plan K) (outcome : Outcome K) : Type 0 where
-  pub streams : outcome.plan.streams ≡ plan.streams
-  pub names : names_of outcome.plan.processes.items ≡ names_of plan.processes.items
+pub record IsPlayedPlan {K : Type 0} (means : Meaning K) (plan : Plan (Shape K)) (outcome : Outcome K) : Type 0 where
+  pub streams : outcome.names.streams ≡ plan.streams
+  pub names : outcome.names.processes.items ≡ names_of plan.processes.items
   pub many : length outcome.transcript.streams.items ≡ length (setups_of plan)
   pub legal : (k : ℕ) (setup : Setup) (log : StreamLog K) → k < length (setups_of plan) → IsLegal means (get_or (setups_of plan) k setup) (get_or outcome.transcript.streams.items k log)
   pub calls : (k caller : ℕ) (log : StreamLog K) → k < length (setups_of plan) → map asked_of (own caller (get_or outcome.transcript.streams.items k log).history.items) ≡ calls_on k (calls_of plan caller)
@@ -38,7 +38,7 @@ pub record IsPlayedPlan {K : Type 0} (means : Meaning K) (plan : Plan K) (outcom
 
 -- the plan is what the script spells, and it was played
 pub record IsPlayed {K : Type 0} (means : Meaning K) (words : KindWords K) (bytes : List ℕ) (outcome : Outcome K) : Type 0 where
-  pub plan : Plan K
+  pub plan : Plan (Shape K)
   pub spells : spelt words bytes ≡ Ok (plan_view plan)
   pub played : IsPlayedPlan means plan outcome
 
@@ -53,7 +53,7 @@ may_have workers runs.NoReceipt = is_crew workers
 
 -- the bytes are a script, and its run may have this fault
 pub record IsFaultOfRun {K : Type 0} (words : KindWords K) (bytes : List ℕ) (workers : ℕ) (fault : RunFault) : Type 0 where
-  pub plan : Plan K
+  pub plan : Plan (Shape K)
   pub spells : spelt words bytes ≡ Ok (plan_view plan)
   pub may : may_have workers fault ≡ true
 

@@ -10,15 +10,15 @@ use std::alloc::Global;
 use std::sync::Wait;
 use std::thread::Threads;
 use strm_history::SameKind;
-use strm_module::Kind;
-use strm_plan::{Handed, Plan, PlayFault, PlayModule, ReadKind, hand_over, parse};
+use strm_module::{Boxed, Kind, ModuleOf};
+use strm_plan::{Handed, Names, Plan, PlayFault, PlayModule, ReadKind, hand_over, parse};
 use strm_run::{Gate, RunFault, Transcript, run};
 
 /// What is left of a script that was played.
 #[derive(Drop)]
 pub struct Outcome<K = Kind> {
     /// The names of its streams and processes.
-    pub plan: Plan<K>,
+    pub names: Names,
     /// What became of each stream.
     pub transcript: Transcript<K>,
 }
@@ -36,10 +36,10 @@ impl Gate for Open {
 ///
 /// Refused as a run is: with `Workers` exactly where there are not 1 to `MOST_WORKERS` of them, but for want of memory
 /// before, and never with `NoSuch`.
-pub fn play_plan<M: PlayModule, R: Threads + Wait + Sync>(
+pub fn play_plan<M: ModuleOf, R: Threads + Wait + Sync>(
     rt: &R,
     alloc: Global,
-    plan: Plan<M::Kind>,
+    plan: Plan<Boxed<M>>,
     workers: u32,
 ) -> Result<Outcome<M::Kind>, RunFault>
 where
@@ -51,16 +51,13 @@ where
     ensures fault { IfErr result (λ fault. may_have workers fault ≡ true) }
 {
     let Handed {
-        plan: names,
+        names,
         setups,
         scripts,
         feeds,
-    } = hand_over::<M>(alloc, plan)?;
+    } = hand_over(alloc, plan)?;
     let transcript = run(rt, alloc, setups, scripts, feeds, workers, &Open)?;
-    Ok(Outcome {
-        plan: names,
-        transcript,
-    })
+    Ok(Outcome { names, transcript })
 }
 
 /// Plays a script with as many workers as are asked for, 1 to `MOST_WORKERS`: its streams are made, the
@@ -85,6 +82,6 @@ where
     ensures workers { IfOk result (λ _. is_crew workers ≡ true) }
     ensures fault { IfErr result (λ fault. IsFaultOf M.Kind.words bytes.now workers fault) }
 {
-    let plan = parse::<M::Kind>(alloc, bytes)?;
+    let plan = parse::<M>(alloc, bytes)?;
     Ok(play_plan::<M, R>(rt, alloc, plan, workers)?)
 }

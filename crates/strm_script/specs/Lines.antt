@@ -1,5 +1,6 @@
 -- The lines of a transcript.
 use Rattle.std.specs.Prelude.{ℕ, List, [], ◌∷◌, ◌++◌, slice_get, Option, Some, None, codes}
+use Rattle.std.specs.Option.{unwrap_or}
 use Rattle.std.specs.List.{flat_map}
 use Rattle.arrayvec.specs.ArrayVec.{ArrayVec}
 use Rattle.strm_msg.specs.declared.words.End.{End}
@@ -18,7 +19,7 @@ use Rattle.strm_entry.specs.declared.entry.Entry.{Entry}
 use Rattle.strm_entry.specs.declared.transcript.StreamLog.{StreamLog}
 use Rattle.strm_verb.specs.Field.{Field, Number, Word}
 use Rattle.strm_verb.specs.Table.{word_of, asked_of}
-use Rattle.strm_plan.specs.Plan.{Streams, Process, Whole}
+use Rattle.strm_plan.specs.Plan.{Streams, Named}
 use Rattle.strm_script.specs.Fields.{KindSpelling, spaced, verb_of, fields_of, message_fields}
 use Rattle.strm_script.specs.Replies.{answer_fields, name_fields}
 
@@ -26,16 +27,12 @@ abbrev pub end_word : End → List ℕ
 end_word A = codes "a"
 end_word B = codes "b"
 
-abbrev pub name_in : {K : Type 0} → Option (Process K) → List ℕ
-name_in None = []
-name_in (Some process) = process.name
-
--- the names of the processes, by number; one that there is not has no letter
-abbrev pub name_at : {K : Type 0} → List (Process K) → ℕ → List ℕ
-name_at processes n = name_in (slice_get processes n)
+-- the name of a process, by its number; that of one that there is not has no letter
+abbrev pub name_at : List (List ℕ) → ℕ → List ℕ
+name_at processes n = unwrap_or (slice_get processes n) []
 
 -- who made a step: a process, or the line
-abbrev pub who_text : {K : Type 0} → List (Process K) → Who → List ℕ
+abbrev pub who_text : List (List ℕ) → Who → List ℕ
 who_text processes (whos.Caller n) = name_at processes n
 who_text processes whos.Line = codes "line"
 
@@ -54,11 +51,11 @@ unfoldable pub answer_text : Answer → List ℕ
 answer_text answer = spaced (Word (codes ":") ∷ []) ++ spaced (answer_fields answer) ++ 10 ∷ []
 
 -- the line of a step
-unfoldable pub entry_text : {K : Type 0} → KindSpelling K → List (Process K) → List ℕ → Entry K → List ℕ
+unfoldable pub entry_text : {K : Type 0} → KindSpelling K → List (List ℕ) → List ℕ → Entry K → List ℕ
 entry_text spelling processes stream entry =
     who_text processes entry.who ++ event_text spelling stream entry.end entry.event ++ answer_text entry.answer
 
-abbrev pub entries_text : {K : Type 0} → KindSpelling K → List (Process K) → List ℕ → List (Entry K) → List ℕ
+abbrev pub entries_text : {K : Type 0} → KindSpelling K → List (List ℕ) → List ℕ → List (Entry K) → List ℕ
 entries_text spelling processes stream entries = flat_map (entry_text spelling processes stream) entries
 
 -- `open END NAME ..`, the names topmost first, or `closed END`
@@ -85,25 +82,25 @@ feed_text Line log = codes "feed" ++ counts_text log ++ 10 ∷ []
 feed_text driver log = []
 
 -- the lines of a stream
-unfoldable pub stream_text : {K : Type 0} → KindSpelling K → List (Process K) → List ℕ → Setup → StreamLog K → List ℕ
+unfoldable pub stream_text : {K : Type 0} → KindSpelling K → List (List ℕ) → List ℕ → Setup → StreamLog K → List ℕ
 stream_text spelling processes name setup log =
     codes "stream" ++ spaced (Word name ∷ []) ++ (10 ∷ []) ++ entries_text spelling processes name log.history.items ++ end_text A log.a ++ far_end_text setup.driver log.b ++ feed_text setup.driver log
 
--- the lines of a stream of the plan, if there is one (no public clause cites it)
-abbrev pub found_text : {K : Type 0} → KindSpelling K → List (Process K) → Option (List ℕ × Setup) → StreamLog K → List ℕ
+-- the lines of a stream, if there is one (no public clause cites it)
+abbrev pub found_text : {K : Type 0} → KindSpelling K → List (List ℕ) → Option (List ℕ × Setup) → StreamLog K → List ℕ
 found_text spelling processes None log = []
 found_text spelling processes (Some stream) log = stream_text spelling processes stream.0 stream.1 log
 
--- the lines of the stream of a number; nothing where the plan has none (no public clause cites it)
-abbrev pub numbered_text : {K : Type 0} → KindSpelling K → Whole K → ℕ → StreamLog K → List ℕ
-numbered_text spelling plan number log = found_text spelling plan.processes (slice_get plan.streams number) log
+-- the lines of the stream of a number; nothing where there is none (no public clause cites it)
+abbrev pub numbered_text : {K : Type 0} → KindSpelling K → Named → ℕ → StreamLog K → List ℕ
+numbered_text spelling names number log = found_text spelling names.processes (slice_get names.streams number) log
 
 -- the lines of all streams, each with the name by which it was declared
-abbrev pub streams_text : {K : Type 0} → KindSpelling K → List (Process K) → Streams → List (StreamLog K) → List ℕ
+abbrev pub streams_text : {K : Type 0} → KindSpelling K → List (List ℕ) → Streams → List (StreamLog K) → List ℕ
 streams_text spelling processes [] logs = []
 streams_text spelling processes (stream ∷ streams) [] = []
 streams_text spelling processes (stream ∷ streams) (log ∷ logs) = stream_text spelling processes stream.0 stream.1 log ++ streams_text spelling processes streams logs
 
--- a transcript of a plan's run
-abbrev pub transcript_text : {K : Type 0} → KindSpelling K → Whole K → List (StreamLog K) → List ℕ
-transcript_text spelling plan logs = streams_text spelling plan.processes plan.streams logs
+-- a transcript, by the names of its streams and processes
+abbrev pub transcript_text : {K : Type 0} → KindSpelling K → Named → List (StreamLog K) → List ℕ
+transcript_text spelling names logs = streams_text spelling names.processes names.streams logs

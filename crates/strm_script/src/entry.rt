@@ -1,7 +1,6 @@
 //! The lines of steps.
 ghost use Rattle.std.specs.Prelude.{◌≡◌, ◌∷◌, ◌++◌, [], OnOk, map};
 ghost use Rattle.std.specs.Io.KnownBytes.{Appends};
-ghost use Rattle.strm_plan.specs.Plan.{process_view};
 ghost use Rattle.strm_verb.specs.Field.{Word};
 ghost use Rattle.strm_script.specs.Fields.{spaced};
 ghost use Rattle.strm_script.specs.Lines as text;
@@ -15,9 +14,10 @@ use std::io::{self, Write};
 use strm_call::Request;
 use strm_head::Event;
 use strm_history::{Entry, Kept, Who};
+use strm_module::BoxedShape;
 use strm_msg::End;
-use strm_plan::ProcessDecl;
-use strm_verb::PushDecl;
+use strm_plan::Name;
+use strm_verb::Worded;
 
 /// The word of an end: `a` or `b`.
 pub fn end_word(end: End) -> &'static [u8]
@@ -30,18 +30,18 @@ pub fn end_word(end: End) -> &'static [u8]
 }
 
 /// The name of the process of this number; nothing where there is none.
-fn name_at<K>(processes: &[ProcessDecl<K>], number: u32) -> &[u8]
-    ensures { result.now ≡ text.name_at (map process_view processes.now) number }
+fn name_at(processes: &[Name], number: u32) -> &[u8]
+    ensures { result.now ≡ text.name_at (map (λ name. name.items) processes.now) number }
 {
     match processes.get(number as usize) {
-        Some(process) => process.name.as_slice(),
+        Some(name) => name.as_slice(),
         None => b"",
     }
 }
 
 /// Writes who made a step: the name of a process, or `line`.
-fn put_who<W: Write, K>(w: &mut W, processes: &[ProcessDecl<K>], who: Who) -> io::Result<()>
-    ensures { OnOk result (Appends (W.contents w.old) (W.contents w.new) (text.who_text (map process_view processes.now) who)) }
+fn put_who<W: Write>(w: &mut W, processes: &[Name], who: Who) -> io::Result<()>
+    ensures { OnOk result (Appends (W.contents w.old) (W.contents w.new) (text.who_text (map (λ name. name.items) processes.now) who)) }
 {
     match who {
         Who::Caller(number) => w.write_all(name_at(processes, number)),
@@ -66,7 +66,7 @@ fn put_call<W: Write, K: PrintKind + Drop>(
     w: &mut W,
     stream: &[u8],
     end: End,
-    request: &Request<PushDecl<K>>,
+    request: &Request<BoxedShape<K>>,
 ) -> io::Result<()>
     ensures { OnOk result (Appends (W.contents w.old) (W.contents w.new) (text.call_text K.spelling stream.now end request.now)) }
 {
@@ -82,7 +82,7 @@ pub fn put_event<W: Write, K: PrintKind + Drop>(
     w: &mut W,
     stream: &[u8],
     end: End,
-    event: &Event<PushDecl<K>>,
+    event: &Event<BoxedShape<K>>,
 ) -> io::Result<()>
     ensures { OnOk result (Appends (W.contents w.old) (W.contents w.new) (text.event_text K.spelling stream.now end event.now)) }
 {
@@ -96,11 +96,11 @@ pub fn put_event<W: Write, K: PrintKind + Drop>(
 #[tactic(auto, using(strm_text::proofs::WriteLemmas::appends_then), unfolding(crate::specs::Lines::entry_text))]
 fn put_entry<W: Write, K: PrintKind + Drop>(
     w: &mut W,
-    processes: &[ProcessDecl<K>],
+    processes: &[Name],
     stream: &[u8],
     entry: &Entry<K>,
 ) -> io::Result<()>
-    ensures { OnOk result (Appends (W.contents w.old) (W.contents w.new) (text.entry_text K.spelling (map process_view processes.now) stream.now entry.now)) }
+    ensures { OnOk result (Appends (W.contents w.old) (W.contents w.new) (text.entry_text K.spelling (map (λ name. name.items) processes.now) stream.now entry.now)) }
 {
     put_who(w, processes, entry.who)?;
     put_event(w, stream, entry.end, &entry.event)?;
@@ -111,11 +111,11 @@ fn put_entry<W: Write, K: PrintKind + Drop>(
 #[tactic(auto, using(strm_text::proofs::WriteLemmas::appends_then))]
 pub(crate) fn put_entries<W: Write, K: PrintKind + Drop>(
     w: &mut W,
-    processes: &[ProcessDecl<K>],
+    processes: &[Name],
     stream: &[u8],
     entries: &[Kept<K>],
 ) -> io::Result<()>
-    ensures { OnOk result (Appends (W.contents w.old) (W.contents w.new) (text.entries_text K.spelling (map process_view processes.now) stream.now entries.now)) }
+    ensures { OnOk result (Appends (W.contents w.old) (W.contents w.new) (text.entries_text K.spelling (map (λ name. name.items) processes.now) stream.now entries.now)) }
 {
     for kept in entries {
         put_entry(w, processes, stream, kept.entry())?;

@@ -18,6 +18,7 @@ pub use printing::print;
 pub use reply::put_answer;
 pub use stream::{put_end, put_far_end, put_feed, put_heading};
 pub use strm_plan::{
-    Cause, LoadFault, Name, Plan, ProcessDecl, PushDecl, ReadKind, ScriptFault, load, parse,
+    Cause, LoadFault, Name, Names, Plan, PlayModule, ProcessDecl, ReadKind, ScriptFault, load,
+    parse,
 };
 pub use strm_verb::{ReadError, byte_at, number_at, part_at, short_at, word_at};

@@ -9,13 +9,13 @@ use crate::field::Field::{Number, Pair, Word};
 use crate::field::{Field, part_field, put_all};
 use std::io::{self, Write};
 use strm_msg::{Errno, Message, MsgKind, Prot, ReadMode};
-use strm_verb::{MessageWord, Verb, flush_word, mode_word, prot_word};
+use strm_verb::{MessageWord, Verb, Worded};
 
 /// Writes a flush of all bands, or of one.
 fn put_flush<W: Write>(w: &mut W, band: Option<u8>, read: bool, write: bool) -> io::Result<()>
     ensures { OnOk result (Appends (W.contents w.old) (W.contents w.new) (text.spaced (text.flush_fields band (words.flush_word read write)))) }
 {
-    let flags = Word(flush_word(read, write));
+    let flags = Word((read, write).word());
     match band {
         None => put_all(w, &[Word(MessageWord::Flush.word()), flags]),
         Some(band) => {
@@ -31,7 +31,7 @@ fn mode_field<'a>(mode: Option<ReadMode>) -> Field<'a>
 {
     match mode {
         None => Word(b"-"),
-        Some(mode) => Word(mode_word(mode)),
+        Some(mode) => Word(mode.word()),
     }
 }
 
@@ -41,7 +41,7 @@ fn prot_field<'a>(prot: Option<Prot>) -> Field<'a>
 {
     match prot {
         None => Word(b"-"),
-        Some(prot) => Word(prot_word(prot)),
+        Some(prot) => Word(prot.word()),
     }
 }
 

@@ -9,7 +9,7 @@ use arrayvec::ArrayVec;
 use std::io::{self, Write};
 use strm_module::{Kind, Shape};
 use strm_msg::Marks;
-use strm_verb::KindWord;
+use strm_verb::{KindWord, Worded};
 
 /// Kinds of module that a transcript can name: the built-in ones of `Kind`, or those of a program.
 ///

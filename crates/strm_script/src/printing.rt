@@ -1,34 +1,33 @@
 //! What a run leaves, as text.
 ghost use Rattle.std.specs.Prelude.{OnOk};
 ghost use Rattle.std.specs.Io.KnownBytes.{Appends};
-ghost use Rattle.strm_plan.specs.Plan.{plan_view};
+ghost use Rattle.strm_plan.specs.Plan.{names_view};
 ghost use Rattle.strm_script.specs.Lines.{numbered_text, transcript_text};
 
 use crate::module::PrintKind;
 use crate::stream::put_stream;
 use std::io::{self, Write};
 use strm_history::{StreamLog, Transcript};
-use strm_plan::Plan;
+use strm_plan::Names;
 
-/// Writes the lines of the stream of this number; nothing where the plan has none.
+/// Writes the lines of the stream of this number; nothing where no stream has it.
 fn put_numbered<W: Write, K: PrintKind + Drop>(
     w: &mut W,
-    plan: &Plan<K>,
+    names: &Names,
     number: usize,
     log: &StreamLog<K>,
 ) -> io::Result<()>
-    ensures { OnOk result (Appends (W.contents w.old) (W.contents w.new) (numbered_text K.spelling (plan_view plan.now) number log.now)) }
+    ensures { OnOk result (Appends (W.contents w.old) (W.contents w.new) (numbered_text K.spelling (names_view names.now) number log.now)) }
 {
-    match plan.streams.get_index(number) {
+    match names.streams.get_index(number) {
         Some((name, setup)) => {
-            put_stream(w, plan.processes.as_slice(), name.as_slice(), setup, log)
+            put_stream(w, names.processes.as_slice(), name.as_slice(), setup, log)
         }
         None => Ok(()),
     }
 }
 
-/// Prints a transcript of a plan's run to a writer: stream after stream, each with the name by which the
-/// plan declares it.
+/// Prints a transcript to a writer: stream after stream, each with its name, and each call with that of its process.
 ///
 /// Of a stream come its name, each step in order with who made it and what was answered, end A, end B
 /// where it is a loop, and how many messages of its feed were accepted, came in and were handed back
@@ -39,13 +38,13 @@ fn put_numbered<W: Write, K: PrintKind + Drop>(
 #[tactic(auto, using(crate::proofs::LineLemmas::one_more_written, crate::proofs::LineLemmas::none_written))]
 pub fn print<W: Write, K: PrintKind + Drop>(
     transcript: &Transcript<K>,
-    plan: &Plan<K>,
+    names: &Names,
     w: &mut W,
 ) -> io::Result<()>
-    ensures text { OnOk result (Appends (W.contents w.old) (W.contents w.new) (transcript_text K.spelling (plan_view plan.now) transcript.now.streams.items)) }
+    ensures text { OnOk result (Appends (W.contents w.old) (W.contents w.new) (transcript_text K.spelling (names_view names.now) transcript.now.streams.items)) }
 {
     for (number, log) in transcript.streams.iter().enumerate() {
-        put_numbered(w, plan, number, log)?;
+        put_numbered(w, names, number, log)?;
     }
     Ok(())
 }

@@ -10,7 +10,7 @@ use crate::field::{part_field, put_all, put_names, put_number, put_part, put_wor
 use std::io::{self, Write};
 use strm_call::{Acknowledged, Answer, More, Peeked, Received, Reply};
 use strm_msg::Bytes;
-use strm_verb::{mode_word, priority_word, prot_word};
+use strm_verb::Worded;
 
 /// The word of which parts stay.
 fn more_word(more: More) -> &'static [u8]
@@ -56,7 +56,7 @@ fn put_peeked<W: Write>(w: &mut W, found: &Option<Peeked>) -> io::Result<()>
         None => put_word(w, b"none"),
         Some(seen) => {
             let (ctl, dat) = (part_field(&seen.ctl), part_field(&seen.dat));
-            put_all(w, &[ctl, dat, Word(priority_word(seen.flag))])
+            put_all(w, &[ctl, dat, Word(seen.flag.word())])
         }
     }
 }
@@ -93,7 +93,7 @@ fn put_reply<W: Write>(w: &mut W, reply: &Reply) -> io::Result<()>
             flag,
             more,
         } => {
-            let (flag, more) = (Word(priority_word(*flag)), Word(more_word(*more)));
+            let (flag, more) = (Word(flag.word()), Word(more_word(*more)));
             put_all(w, &[part_field(ctl), part_field(dat), flag, more])
         }
         Reply::Getpmsg {
@@ -106,9 +106,7 @@ fn put_reply<W: Write>(w: &mut W, reply: &Reply) -> io::Result<()>
         Reply::Write { len } => put_number(w, *len),
         Reply::Nread { messages, bytes } => put_all(w, &[Number(*messages), Number(*bytes)]),
         Reply::Peek { found } => put_peeked(w, found),
-        Reply::GetRead { mode, prot } => {
-            put_all(w, &[Word(mode_word(*mode)), Word(prot_word(*prot))])
-        }
+        Reply::GetRead { mode, prot } => { put_all(w, &[Word(mode.word()), Word(prot.word())]) }
         Reply::Canput { can } => put_word(w, holds_word(*can)),
         Reply::Ckband { waits } => put_word(w, holds_word(*waits)),
         Reply::Getband { band } => put_number(w, *band),

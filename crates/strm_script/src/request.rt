@@ -9,13 +9,11 @@ use crate::field::{maximum_field, part_field, put_all, put_number, put_part};
 use crate::module::{PrintKind, put_module};
 use std::io::{self, Write};
 use strm_call::Request;
-use strm_verb::{
-    PushDecl, Verb, flush_word, get_word, mode_word, priority_word, prot_word, put_word,
-    wanted_word,
-};
+use strm_module::BoxedShape;
+use strm_verb::{Verb, Worded};
 
 /// Which call a request is.
-pub(crate) fn verb_of<K>(request: &Request<PushDecl<K>>) -> Verb
+pub(crate) fn verb_of<K>(request: &Request<BoxedShape<K>>) -> Verb
     ensures { result ≡ text.verb_of (asked_of request.now) }
 {
     match request {
@@ -47,16 +45,13 @@ pub(crate) fn verb_of<K>(request: &Request<PushDecl<K>>) -> Verb
 /// Writes the fields of a call behind NAME:END.
 pub(crate) fn put_fields<W: Write, K: PrintKind + Drop>(
     w: &mut W,
-    request: &Request<PushDecl<K>>,
+    request: &Request<BoxedShape<K>>,
 ) -> io::Result<()>
     ensures { OnOk result (Appends (W.contents w.old) (W.contents w.new) (text.spaced (text.fields_of K.spelling (asked_of request.now)))) }
 {
     match request {
         Request::Putmsg { ctl, dat, flag } => {
-            put_all(
-                w,
-                &[part_field(ctl), part_field(dat), Word(priority_word(*flag))],
-            )
+            put_all(w, &[part_field(ctl), part_field(dat), Word(flag.word())])
         }
         Request::Putpmsg {
             ctl,
@@ -69,7 +64,7 @@ pub(crate) fn put_fields<W: Write, K: PrintKind + Drop>(
                 part_field(ctl),
                 part_field(dat),
                 Number(u64::from(*band)),
-                Word(put_word(*flag)),
+                Word(flag.word()),
             ],
         ),
         Request::Getmsg {
@@ -86,7 +81,7 @@ pub(crate) fn put_fields<W: Write, K: PrintKind + Drop>(
             &[
                 maximum_field(*maxctl),
                 maximum_field(*maxdat),
-                Word(wanted_word(*flag)),
+                Word(flag.word()),
             ],
         ),
         Request::Getpmsg {
@@ -100,7 +95,7 @@ pub(crate) fn put_fields<W: Write, K: PrintKind + Drop>(
                 maximum_field(*maxctl),
                 maximum_field(*maxdat),
                 Number(u64::from(*band)),
-                Word(get_word(*flag)),
+                Word(flag.word()),
             ],
         ),
         Request::Read { max } => put_number(w, u64::from(*max)),
@@ -108,13 +103,11 @@ pub(crate) fn put_fields<W: Write, K: PrintKind + Drop>(
         Request::Push { instance } => put_module(w, instance.shape()),
         Request::Find { name } => put_part(w, name.as_slice()),
         Request::Str { cmd, dat } => put_all(w, &[Number(u64::from(*cmd)), part_field(dat)]),
-        Request::Flush { r, w: write } => put_all(w, &[Word(flush_word(*r, *write))]),
+        Request::Flush { r, w: write } => put_all(w, &[Word((*r, *write).word())]),
         Request::FlushBand { band, r, w: write } => {
-            put_all(w, &[Number(u64::from(*band)), Word(flush_word(*r, *write))])
+            put_all(w, &[Number(u64::from(*band)), Word((*r, *write).word())])
         }
-        Request::SetRead { mode, prot } => {
-            put_all(w, &[Word(mode_word(*mode)), Word(prot_word(*prot))])
-        }
+        Request::SetRead { mode, prot } => { put_all(w, &[Word(mode.word()), Word(prot.word())]) }
         Request::Canput { band } | Request::Ckband { band } => put_number(w, u64::from(*band)),
         Request::Pop
         | Request::Look

@@ -1,7 +1,6 @@
 //! The lines of a stream.
 ghost use Rattle.std.specs.Prelude.{◌∷◌, ◌++◌, [], OnOk, codes, map};
 ghost use Rattle.std.specs.Io.KnownBytes.{Appends};
-ghost use Rattle.strm_plan.specs.Plan.{process_view};
 ghost use Rattle.strm_verb.specs.Field.{Number, Word};
 ghost use Rattle.strm_script.specs.Fields.{spaced};
 ghost use Rattle.strm_script.specs.Lines as text;
@@ -15,7 +14,6 @@ use strm_call::Name;
 use strm_head::{Driver, MOST_MODULES};
 use strm_history::{Setup, StreamLog};
 use strm_msg::End;
-use strm_plan::ProcessDecl;
 
 /// Writes the line of an end: open, with the names of its modules, topmost first, or closed.
 ///
@@ -108,12 +106,12 @@ pub fn put_heading<W: Write>(w: &mut W, name: &[u8]) -> io::Result<()>
 #[tactic(auto, using(strm_text::proofs::WriteLemmas::appends_then), unfolding(crate::specs::Lines::stream_text))]
 pub(crate) fn put_stream<W: Write, K: PrintKind + Drop>(
     w: &mut W,
-    processes: &[ProcessDecl<K>],
+    processes: &[strm_plan::Name],
     name: &[u8],
     setup: &Setup,
     log: &StreamLog<K>,
 ) -> io::Result<()>
-    ensures { OnOk result (Appends (W.contents w.old) (W.contents w.new) (text.stream_text K.spelling (map process_view processes.now) name.now setup.now log.now)) }
+    ensures { OnOk result (Appends (W.contents w.old) (W.contents w.new) (text.stream_text K.spelling (map (λ name. name.items) processes.now) name.now setup.now log.now)) }
 {
     put_heading(w, name)?;
     put_entries(w, processes, name, log.history.as_slice())?;

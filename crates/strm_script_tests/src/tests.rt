@@ -2,13 +2,26 @@
 //! stands in `tests/rows`.
 use std::alloc::Global;
 use std::process::Abort;
-use strm_plan::{Plan, parse};
+use strm_module::{Boxed, Plain};
+use strm_plan::{Handed, Names, hand_over, parse};
 
 mod charting;
 mod loading;
 mod printing;
 
-/// The plan of a script.
-fn plan_of(rt: &impl Abort, alloc: Global, script: &[u8]) -> Plan {
-    parse(alloc, script).ok().expect(rt, "a script")
+/// What a script hands over.
+fn handed(rt: &impl Abort, alloc: Global, script: &[u8]) -> Handed<Boxed<Plain>> {
+    let plan = parse::<Plain>(alloc, script).ok().expect(rt, "a script");
+    hand_over(alloc, plan).ok().expect(rt, "no memory")
+}
+
+/// The names of a script's streams and processes.
+fn names_of(rt: &impl Abort, alloc: Global, script: &[u8]) -> Names {
+    let Handed {
+        names,
+        setups: _,
+        scripts: _,
+        feeds: _,
+    } = handed(rt, alloc, script);
+    names
 }

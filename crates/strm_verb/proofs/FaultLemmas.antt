@@ -1,11 +1,13 @@
 -- What fails first.
-use Rattle.std.proofs.Common.{◌≡◌, ℕ, ◌<◌, ◌≤◌, List, [], ◌∷◌, length, map, get_or, Bor, Result, Ok, Err, ap, arith}
+use Rattle.std.proofs.Common.{◌≡◌, ℕ, ◌<◌, ◌≤◌, List, [], ◌∷◌, length, map, get_or, Bor, Option, Result, Ok, Err, ap, arith}
 use Rattle.strm_call.specs.declared.request.TheConstants.{MAX_CONTROL, MAX_DATA}
-use Rattle.strm_msg.specs.Message.{proto_msg}
+use Rattle.strm_msg.specs.Message.{bare, proto_msg}
+use Rattle.strm_msg.specs.declared.kind.MsgKind.TheVariants.{MSetopts}
+use Rattle.strm_msg.specs.declared.words.ReadMode.{ReadMode}
 use Rattle.strm_verb.specs.Fault.{◌>>=◌, Fails}
-use Rattle.strm_verb.specs.Field.{number_at, part_at, part_upto, optional_upto}
+use Rattle.strm_verb.specs.Field.{number_at, part_at, part_upto, optional_upto, kept_marks_at}
 use Rattle.strm_verb.specs.Push.{table_at}
-use Rattle.strm_verb.specs.Arrival.{proto_at, kept_errno_at, error2_at}
+use Rattle.strm_verb.specs.Arrival.{proto_at, kept_mode_at, kept_prot_at, setopts_at, kept_errno_at, error2_at}
 use Rattle.strm_verb.specs.declared.fault.Cause.{Cause}
 use Rattle.strm_verb.specs.declared.fault.ReadError.{ReadError}
 use Rattle.strm_verb.specs.declared.fault.ReadError.TheVariants as errors
@@ -43,3 +45,20 @@ control_fails error (x ∷ y ∷ []) d b least below band fails = absurd (omega 
 control_fails error (x ∷ y ∷ z ∷ []) d b least below band fails =
     fails_second error (number_at MOST_BAND x.now) b (λ n. part_upto MAX_CONTROL y.now) (λ n control. optional_upto MAX_DATA z.now >>= λ bytes. Ok (proto_msg n control bytes)) band fails
 control_fails error (x ∷ y ∷ z ∷ w ∷ texts) d b least below band fails = absurd (omega (arith, below))
+
+-- MODE is no mode
+pub mode_fails : (error : ReadError) (texts : List (Bor (List ℕ))) (d : Bor (List ℕ)) → 3 ≤ length texts → length texts < 4 → Fails error (kept_mode_at (get_or texts 0 d).now) → Fails error (setopts_at (map (λ text. text.now) texts))
+mode_fails error [] d least below fails = absurd (omega (arith, least))
+mode_fails error (x ∷ []) d least below fails = absurd (omega (arith, least))
+mode_fails error (x ∷ y ∷ []) d least below fails = absurd (omega (arith, least))
+mode_fails error (x ∷ y ∷ z ∷ []) d least below fails = fails_first error (kept_mode_at x.now) _ fails
+mode_fails error (x ∷ y ∷ z ∷ w ∷ texts) d least below fails = absurd (omega (arith, below))
+
+-- PROT says nothing of control behind a mode
+pub prot_fails : (error : ReadError) (texts : List (Bor (List ℕ))) (d : Bor (List ℕ)) (mode : Option ReadMode) → 3 ≤ length texts → length texts < 4 → kept_mode_at (get_or texts 0 d).now ≡ Ok mode → Fails error (kept_prot_at (get_or texts 1 d).now) → Fails error (setopts_at (map (λ text. text.now) texts))
+prot_fails error [] d mode least below is fails = absurd (omega (arith, least))
+prot_fails error (x ∷ []) d mode least below is fails = absurd (omega (arith, least))
+prot_fails error (x ∷ y ∷ []) d mode least below is fails = absurd (omega (arith, least))
+prot_fails error (x ∷ y ∷ z ∷ []) d mode least below is fails =
+    fails_second error (kept_mode_at x.now) mode (λ m. kept_prot_at y.now) (λ m p. kept_marks_at z.now >>= λ marks. Ok (bare (MSetopts m p marks))) is fails
+prot_fails error (x ∷ y ∷ z ∷ w ∷ texts) d mode least below is fails = absurd (omega (arith, below))

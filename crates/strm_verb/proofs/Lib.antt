@@ -1,5 +1,4 @@
 pub mod ChoiceLemmas
 pub mod FaultLemmas
-pub mod FindLemmas
 pub mod RequestLemmas
 pub mod TableLemmas

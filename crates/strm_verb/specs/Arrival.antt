@@ -1,17 +1,14 @@
 -- The messages of a feed, whose parts are no greater than those that a call may send.
-use Rattle.std.specs.Prelude.{ℕ, Bool, true, false, List, [], ◌∷◌, Option, Some, None, Result, Ok, Err, codes, if◌then◌else◌}
+use Rattle.std.specs.Prelude.{ℕ, Bool, List, [], ◌∷◌, Option, Some, None, Result, Ok, Err, codes, if◌then◌else◌}
 use Rattle.std.specs.Str.{bytes_eq}
-use Rattle.std.specs.List.{find}
 use Rattle.strm_msg.specs.Message.{Msg, bare, data_msg, proto_msg, pcproto_msg}
 use Rattle.strm_msg.specs.declared.kind.MsgKind.TheVariants.{MSetopts, MFlush, MHangup, MError}
 use Rattle.strm_msg.specs.declared.errno.Errno.{Errno}
 use Rattle.strm_msg.specs.declared.words.ReadMode.{ReadMode}
-use Rattle.strm_msg.specs.declared.words.ReadMode.TheVariants.{Rnorm, Rmsgn, Rmsgd}
 use Rattle.strm_msg.specs.declared.words.Prot.{Prot}
-use Rattle.strm_msg.specs.declared.words.Prot.TheVariants as prots
 use Rattle.strm_call.specs.declared.request.TheConstants.{MAX_CONTROL, MAX_DATA}
-use Rattle.strm_verb.specs.Fault.{◌>>=◌}
-use Rattle.strm_verb.specs.Words.{mode_word, prot_word, flush_word}
+use Rattle.strm_verb.specs.Fault.{◌>>=◌, or_fault}
+use Rattle.strm_verb.specs.Words.{named, mode_word, all_modes, prot_word, all_prots, flush_word, all_sides}
 use Rattle.strm_verb.specs.Field.{number_at, part_upto, optional_upto, kept_marks_at, errno_at}
 use Rattle.strm_verb.specs.declared.fault.Cause.{Cause}
 use Rattle.strm_verb.specs.declared.fault.Cause.TheVariants as causes
@@ -34,20 +31,14 @@ all_messages = MessageWord.Data ∷ MessageWord.Proto ∷ MessageWord.Pcproto �
 
 -- the message that a word names
 abbrev pub message_named : List ℕ → Option MessageWord
-message_named text = find (λ word. bytes_eq (message_word word) text) all_messages
+message_named text = named message_word all_messages text
 
 -- how reads treat the bounds of messages, and control
 abbrev pub mode_at : List ℕ → Result ReadMode Cause
-mode_at text =
-    if bytes_eq text (mode_word Rnorm) then Ok Rnorm
-    else (if bytes_eq text (mode_word Rmsgn) then Ok Rmsgn
-    else (if bytes_eq text (mode_word Rmsgd) then Ok Rmsgd else Err causes.UnknownWord))
+mode_at text = or_fault causes.UnknownWord (named mode_word all_modes text)
 
 abbrev pub prot_at : List ℕ → Result Prot Cause
-prot_at text =
-    if bytes_eq text (prot_word prots.Norm) then Ok prots.Norm
-    else (if bytes_eq text (prot_word prots.Dat) then Ok prots.Dat
-    else (if bytes_eq text (prot_word prots.Dis) then Ok prots.Dis else Err causes.UnknownWord))
+prot_at text = or_fault causes.UnknownWord (named prot_word all_prots text)
 
 -- the same, or `-` where it stays
 abbrev pub kept_mode_at : List ℕ → Result (Option ReadMode) Cause
@@ -58,11 +49,7 @@ kept_prot_at text = if bytes_eq text (codes "-") then Ok None else (prot_at text
 
 -- the sides that a flush is for, read and write
 abbrev pub flush_at : List ℕ → Result (Bool × Bool) Cause
-flush_at text =
-    if bytes_eq text (flush_word true true) then Ok (true, true)
-    else (if bytes_eq text (flush_word true false) then Ok (true, false)
-    else (if bytes_eq text (flush_word false true) then Ok (false, true)
-    else (if bytes_eq text (flush_word false false) then Ok (false, false) else Err causes.UnknownWord)))
+flush_at text = or_fault causes.UnknownWord (named (λ sides. flush_word sides.0 sides.1) all_sides text)
 
 -- BAND PART
 abbrev pub data_at : List (List ℕ) → Result Msg Cause

@@ -1,13 +1,13 @@
 -- What a field may be, and what it says.
 use Rattle.std.specs.Prelude.{ℕ, ◌==◌, nat_lt, nat_le, List, [], ◌∷◌, length, Option, Some, None, Result, Ok, Err, codes, if◌then◌else◌}
 use Rattle.std.specs.Str.{bytes_eq}
-use Rattle.std.specs.List.{list_any, find}
+use Rattle.std.specs.List.{list_any}
 use Rattle.strm_msg.specs.Text.{name_of}
 use Rattle.strm_msg.specs.declared.errno.Errno.{Errno}
 use Rattle.strm_msg.specs.Marks.{WaterMarks}
 use Rattle.strm_text.specs.Text.{number_of, part_of, halves_of}
 use Rattle.strm_verb.specs.Fault.{◌>>=◌, or_fault}
-use Rattle.strm_verb.specs.Words.{all_errnos}
+use Rattle.strm_verb.specs.Words.{all_errnos, named}
 use Rattle.strm_verb.specs.declared.fault.Cause.{Cause}
 use Rattle.strm_verb.specs.declared.fault.Cause.TheVariants as causes
 use Rattle.strm_verb.specs.declared.field.TheConstants.{MOST_ASKED, MOST_WORD}
@@ -112,4 +112,4 @@ abbrev pub optional_upto : ℕ → List ℕ → Result (Option (List ℕ)) Cause
 optional_upto most text = if bytes_eq text (codes "-") then Ok None else (part_upto most text >>= λ bytes. Ok (Some bytes))
 
 abbrev pub errno_at : List ℕ → Result Errno Cause
-errno_at text = or_fault causes.UnknownWord (find (λ errno. bytes_eq (name_of errno) text) all_errnos)
+errno_at text = or_fault causes.UnknownWord (named name_of all_errnos text)

@@ -1,14 +1,14 @@
 -- The words of the built-in kinds, and the fields of each.
 use Rattle.std.specs.Prelude.{ℕ, ◌==◌, ◌&&◌, Bool, true, not, List, [], ◌∷◌, length, map, get_or, Result, Ok, Err, Option, codes, if◌then◌else◌}
-use Rattle.std.specs.Str.{bytes_eq}
 use Rattle.std.specs.Option.{option_map}
-use Rattle.std.specs.List.{list_any, find, position_or_len, range_with_len}
+use Rattle.std.specs.List.{list_any, position_or_len, range_with_len}
 use Rattle.strm_module.specs.declared.kind.Kind.{Kind}
 use Rattle.strm_module.specs.declared.kind.TheConstants.{MOST_SPLIT}
 use Rattle.strm_module.specs.Shape.{is_split}
 use Rattle.strm_verb.specs.Fault.{◌>>=◌, or_fault}
 use Rattle.strm_verb.specs.Field.{number_at, part_at}
 use Rattle.strm_verb.specs.Naming.{KindWords}
+use Rattle.strm_verb.specs.Words.{named}
 use Rattle.strm_verb.specs.declared.fault.Cause.{Cause}
 use Rattle.strm_verb.specs.declared.fault.Cause.TheVariants as causes
 use Rattle.strm_verb.specs.declared.field.TheConstants.{MOST_BAND}
@@ -32,7 +32,7 @@ all_kinds = words.Pass ∷ words.Table ∷ words.CrNl ∷ words.Line ∷ words.C
 
 -- the kind that a word names
 abbrev pub kind_named : List ℕ → Option KindWord
-kind_named text = find (λ word. bytes_eq (kind_word word) text) all_kinds
+kind_named text = named kind_word all_kinds text
 
 -- how many fields a kind has for itself
 abbrev pub own_fields : KindWord → ℕ

@@ -1,11 +1,9 @@
 -- The calls of a script: the word of each, and its fields. Reading and printing go by this one table.
-use Rattle.std.specs.Prelude.{ℕ, Bool, true, false, List, [], ◌∷◌, length, Option, Result, Ok, codes, if◌then◌else◌}
-use Rattle.std.specs.Str.{bytes_eq}
-use Rattle.std.specs.List.{find}
+use Rattle.std.specs.Prelude.{ℕ, Bool, true, false, List, [], ◌∷◌, length, Option, Result, Ok, codes, map, if◌then◌else◌}
 use Rattle.strm_module.specs.declared.shape.Shape.{Shape}
 use Rattle.strm_call.specs.declared.request.Request.{Request}
 use Rattle.strm_verb.specs.Fault.{◌>>=◌}
-use Rattle.strm_verb.specs.Words.{priority_word, priority_words, put_word, put_words, wanted_word, wanted_words, get_word, get_words, mode_word, mode_words, prot_word, prot_words, flush_word, flush_words}
+use Rattle.strm_verb.specs.Words.{named, priority_word, all_priorities, put_word, all_puts, wanted_word, all_wanted, get_word, all_gets, mode_word, all_modes, prot_word, all_prots, flush_word, all_sides}
 use Rattle.strm_verb.specs.Field.{Form, Whole, Optional, Maximum, Upto, Choice, Field, Bytes, Number, Word, part_field, maximum_field, fields_at}
 use Rattle.strm_verb.specs.Naming.{KindWords, push_arity, shape_at}
 use Rattle.strm_verb.specs.declared.fault.Cause.{Cause}
@@ -42,22 +40,22 @@ all_verbs = Verb.Putmsg ∷ Verb.Putpmsg ∷ Verb.Getmsg ∷ Verb.Getpmsg ∷ Ve
 
 -- the call that a word names
 abbrev pub verb_named : List ℕ → Option Verb
-verb_named text = find (λ verb. bytes_eq (word_of verb) text) all_verbs
+verb_named text = named word_of all_verbs text
 
 -- the fields of a call behind NAME:END, from left to right. Those of a push hang on the kind of its module, and stand in Push
 abbrev pub forms_of : Verb → List Form
-forms_of Verb.Putmsg = Optional ∷ Optional ∷ Choice priority_words ∷ []
-forms_of Verb.Putpmsg = Optional ∷ Optional ∷ Upto MOST_BAND ∷ Choice put_words ∷ []
-forms_of Verb.Getmsg = Maximum ∷ Maximum ∷ Choice wanted_words ∷ []
-forms_of Verb.Getpmsg = Maximum ∷ Maximum ∷ Upto MOST_BAND ∷ Choice get_words ∷ []
+forms_of Verb.Putmsg = Optional ∷ Optional ∷ Choice (map priority_word all_priorities) ∷ []
+forms_of Verb.Putpmsg = Optional ∷ Optional ∷ Upto MOST_BAND ∷ Choice (map put_word all_puts) ∷ []
+forms_of Verb.Getmsg = Maximum ∷ Maximum ∷ Choice (map wanted_word all_wanted) ∷ []
+forms_of Verb.Getpmsg = Maximum ∷ Maximum ∷ Upto MOST_BAND ∷ Choice (map get_word all_gets) ∷ []
 forms_of Verb.Read = Upto MOST_ASKED ∷ []
 forms_of Verb.Write = Whole ∷ []
 forms_of Verb.Find = Whole ∷ []
 forms_of Verb.Str = Upto MOST_WORD ∷ Optional ∷ []
-forms_of Verb.Flush = Choice flush_words ∷ []
-forms_of Verb.FlushBand = Upto MOST_BAND ∷ Choice flush_words ∷ []
-forms_of Verb.Peek = Maximum ∷ Maximum ∷ Choice wanted_words ∷ []
-forms_of Verb.SetRead = Choice mode_words ∷ Choice prot_words ∷ []
+forms_of Verb.Flush = Choice (map (λ sides. flush_word sides.0 sides.1) all_sides) ∷ []
+forms_of Verb.FlushBand = Upto MOST_BAND ∷ Choice (map (λ sides. flush_word sides.0 sides.1) all_sides) ∷ []
+forms_of Verb.Peek = Maximum ∷ Maximum ∷ Choice (map wanted_word all_wanted) ∷ []
+forms_of Verb.SetRead = Choice (map mode_word all_modes) ∷ Choice (map prot_word all_prots) ∷ []
 forms_of Verb.Canput = Upto MOST_BAND ∷ []
 forms_of Verb.Ckband = Upto MOST_BAND ∷ []
 forms_of verb = []
@@ -103,8 +101,11 @@ plain_at asked texts = fields_at [] texts >>= λ fields. Ok asked
 abbrev pub arity_at : {K : Type 0} → KindWords K → Verb → List (List ℕ) → Result ℕ Cause
 arity_at words verb texts = if is_push verb then push_arity words texts else Ok (length (forms_of verb))
 
+-- what a call that is no push asks for
+abbrev pub told_at : {K : Type 0} → Verb → List (List ℕ) → Result (Asked K) Cause
+told_at verb texts = fields_at (forms_of verb) texts >>= λ fields. Ok (Told verb fields)
+
 -- what a call of this verb with these fields asks for; the module of a push gets this serial
 abbrev pub request_at : {K : Type 0} → KindWords K → ℕ → Verb → List (List ℕ) → Result (Asked K) Cause
 request_at words serial verb texts =
-    if is_push verb then (shape_at words serial texts >>= λ shape. Ok (Pushed shape))
-    else (fields_at (forms_of verb) texts >>= λ fields. Ok (Told verb fields))
+    if is_push verb then (shape_at words serial texts >>= λ shape. Ok (Pushed shape)) else told_at verb texts

@@ -1,5 +1,7 @@
 -- The words of the fields of a script and of a transcript.
-use Rattle.std.specs.Prelude.{ℕ, Bool, true, false, List, [], ◌∷◌, codes}
+use Rattle.std.specs.Prelude.{ℕ, Bool, true, false, List, [], ◌∷◌, Option, codes}
+use Rattle.std.specs.List.{find}
+use Rattle.std.specs.Str.{bytes_eq}
 use Rattle.strm_msg.specs.declared.errno.Errno.{Errno}
 use Rattle.strm_msg.specs.declared.errno.Errno.TheVariants.{EBADF, ENOSR, EINVAL, ERANGE, ENXIO, EBADMSG, ENODATA, EAGAIN, ETIME, EIO, EPROTO}
 use Rattle.strm_msg.specs.declared.words.ReadMode.{ReadMode}
@@ -15,13 +17,17 @@ use Rattle.strm_call.specs.declared.request.Wanted.TheVariants as wanted
 use Rattle.strm_call.specs.declared.request.GetFlag.{GetFlag}
 use Rattle.strm_call.specs.declared.request.GetFlag.TheVariants as gets
 
+-- what a text names, of values that have words
+abbrev pub named : {A : Type 0} → (A → List ℕ) → List A → List ℕ → Option A
+named word all text = find (λ one. bytes_eq (word one) text) all
+
 -- the priority of a putmsg
 abbrev pub priority_word : Priority → List ℕ
 priority_word priorities.Norm = codes "norm"
 priority_word priorities.Hipri = codes "hipri"
 
-abbrev pub priority_words : List (List ℕ)
-priority_words = priority_word priorities.Norm ∷ priority_word priorities.Hipri ∷ []
+abbrev pub all_priorities : List Priority
+all_priorities = priorities.Norm ∷ priorities.Hipri ∷ []
 
 -- the flag of a putpmsg
 abbrev pub put_word : PutFlag → List ℕ
@@ -29,16 +35,16 @@ put_word puts.Zero = codes "zero"
 put_word puts.Band = codes "band"
 put_word puts.Hipri = codes "hipri"
 
-abbrev pub put_words : List (List ℕ)
-put_words = put_word puts.Zero ∷ put_word puts.Band ∷ put_word puts.Hipri ∷ []
+abbrev pub all_puts : List PutFlag
+all_puts = puts.Zero ∷ puts.Band ∷ puts.Hipri ∷ []
 
 -- which message a getmsg or a peek takes
 abbrev pub wanted_word : Wanted → List ℕ
 wanted_word wanted.Any = codes "any"
 wanted_word wanted.Hipri = codes "hipri"
 
-abbrev pub wanted_words : List (List ℕ)
-wanted_words = wanted_word wanted.Any ∷ wanted_word wanted.Hipri ∷ []
+abbrev pub all_wanted : List Wanted
+all_wanted = wanted.Any ∷ wanted.Hipri ∷ []
 
 -- which message a getpmsg takes
 abbrev pub get_word : GetFlag → List ℕ
@@ -47,8 +53,8 @@ get_word gets.Any = codes "any"
 get_word gets.Band = codes "band"
 get_word gets.Hipri = codes "hipri"
 
-abbrev pub get_words : List (List ℕ)
-get_words = get_word gets.Zero ∷ get_word gets.Any ∷ get_word gets.Band ∷ get_word gets.Hipri ∷ []
+abbrev pub all_gets : List GetFlag
+all_gets = gets.Zero ∷ gets.Any ∷ gets.Band ∷ gets.Hipri ∷ []
 
 -- how reads treat the bounds of messages
 abbrev pub mode_word : ReadMode → List ℕ
@@ -56,8 +62,8 @@ mode_word Rnorm = codes "rnorm"
 mode_word Rmsgn = codes "rmsgn"
 mode_word Rmsgd = codes "rmsgd"
 
-abbrev pub mode_words : List (List ℕ)
-mode_words = mode_word Rnorm ∷ mode_word Rmsgn ∷ mode_word Rmsgd ∷ []
+abbrev pub all_modes : List ReadMode
+all_modes = Rnorm ∷ Rmsgn ∷ Rmsgd ∷ []
 
 -- how reads treat control
 abbrev pub prot_word : Prot → List ℕ
@@ -65,8 +71,8 @@ prot_word prots.Norm = codes "norm"
 prot_word prots.Dat = codes "dat"
 prot_word prots.Dis = codes "dis"
 
-abbrev pub prot_words : List (List ℕ)
-prot_words = prot_word prots.Norm ∷ prot_word prots.Dat ∷ prot_word prots.Dis ∷ []
+abbrev pub all_prots : List Prot
+all_prots = prots.Norm ∷ prots.Dat ∷ prots.Dis ∷ []
 
 -- the sides that a flush is for, read and write
 abbrev pub flush_word : Bool → Bool → List ℕ
@@ -75,8 +81,8 @@ flush_word true false = codes "r"
 flush_word false true = codes "w"
 flush_word false false = codes "none"
 
-abbrev pub flush_words : List (List ℕ)
-flush_words = flush_word true true ∷ flush_word true false ∷ flush_word false true ∷ flush_word false false ∷ []
+abbrev pub all_sides : List (Bool × Bool)
+all_sides = (true, true) ∷ (true, false) ∷ (false, true) ∷ (false, false) ∷ []
 
 abbrev pub all_errnos : List Errno
 all_errnos = EBADF ∷ ENOSR ∷ EINVAL ∷ ERANGE ∷ ENXIO ∷ EBADMSG ∷ ENODATA ∷ EAGAIN ∷ ETIME ∷ EIO ∷ EPROTO ∷ []

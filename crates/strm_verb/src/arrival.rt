@@ -6,7 +6,7 @@ ghost use Rattle.strm_verb.specs.Arrival as arrivals;
 
 use crate::fault::{Cause, ReadError};
 use crate::field::{byte_at, kept_marks_at, optional_upto, part_upto};
-use crate::words::{errno_at, flush_at, mode_at, prot_at};
+use crate::worded::{Worded, choice_at, named};
 use std::alloc::Global;
 use strm_call::{MAX_CONTROL, MAX_DATA};
 use strm_msg::{Errno, Message, MsgKind, Prot, ReadMode};
@@ -32,23 +32,14 @@ pub enum MessageWord {
     Error2,
 }
 
-/// Each kind of message.
-const MESSAGES: [MessageWord; 8] = [
-    MessageWord::Data,
-    MessageWord::Proto,
-    MessageWord::Pcproto,
-    MessageWord::Setopts,
-    MessageWord::Flush,
-    MessageWord::Hangup,
-    MessageWord::Error,
-    MessageWord::Error2,
-];
+impl Worded for MessageWord {
+    ghost use Rattle.strm_verb.specs.Arrival.{all_messages, message_word};
 
-impl MessageWord {
-    /// The word of the message.
-    pub fn word(self) -> &'static [u8]
-        ensures { result.now ≡ arrivals.message_word self }
-    {
+    ghost word = { message_word };
+
+    ghost all = { all_messages };
+
+    fn word(self) -> &'static [u8] {
         match self {
             MessageWord::Data => b"data",
             MessageWord::Proto => b"proto",
@@ -61,16 +52,17 @@ impl MessageWord {
         }
     }
 
-    /// The message of this word; nothing where none has it.
-    pub fn named(text: &[u8]) -> Option<MessageWord>
-        ensures { result ≡ arrivals.message_named text.now }
-    {
-        for message in MESSAGES {
-            if message.word() == text {
-                return Some(message);
-            }
-        }
-        None
+    fn all() -> &'static [MessageWord] {
+        &[
+            MessageWord::Data,
+            MessageWord::Proto,
+            MessageWord::Pcproto,
+            MessageWord::Setopts,
+            MessageWord::Flush,
+            MessageWord::Hangup,
+            MessageWord::Error,
+            MessageWord::Error2,
+        ]
     }
 }
 
@@ -136,7 +128,7 @@ fn kept_mode_at(text: &[u8]) -> Result<Option<ReadMode>, ReadError>
     if text == b"-".as_slice() {
         return Ok(None);
     }
-    Ok(Some(mode_at(text)?))
+    Ok(Some(choice_at(text)?))
 }
 
 /// How reads treat control, or none for `-`. Refused where no such way has this word.
@@ -146,7 +138,7 @@ fn kept_prot_at(text: &[u8]) -> Result<Option<Prot>, ReadError>
     if text == b"-".as_slice() {
         return Ok(None);
     }
-    Ok(Some(prot_at(text)?))
+    Ok(Some(choice_at(text)?))
 }
 
 /// `setopts MODE PROT HI/LO`, where `-` leaves each as it is.
@@ -171,7 +163,7 @@ fn flush(texts: &[&[u8]]) -> Result<Message, ReadError>
     let [flags] = texts else {
         return Err(ReadError::Fault(Cause::Fields));
     };
-    let (r, w) = flush_at(flags)?;
+    let (r, w) = choice_at(flags)?;
     Ok(Message::of_flush(r, w, None))
 }
 
@@ -194,7 +186,7 @@ fn error(texts: &[&[u8]]) -> Result<Message, ReadError>
     let [errno] = texts else {
         return Err(ReadError::Fault(Cause::Fields));
     };
-    let errno = errno_at(errno)?;
+    let errno = choice_at(errno)?;
     Ok(Message::of_error(errno))
 }
 
@@ -205,7 +197,7 @@ fn kept_errno_at(text: &[u8]) -> Result<Option<Errno>, ReadError>
     if text == b"-".as_slice() {
         return Ok(None);
     }
-    Ok(Some(errno_at(text)?))
+    Ok(Some(choice_at(text)?))
 }
 
 /// `error2 READ WRITE`, where `-` leaves a side as it is.

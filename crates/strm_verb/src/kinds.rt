@@ -1,4 +1,4 @@
-//! The kinds of module that a script can name, and the module that a push declares.
+//! The kinds of module that a script can name, and the modules that it pushes.
 ghost use Rattle.std.specs.Prelude.{◌≡◌, map};
 ghost use Rattle.strm_text.specs.Text.{name_of};
 ghost use Rattle.strm_verb.specs.Fault.{Gives, or_fault};
@@ -8,12 +8,23 @@ use crate::fault::{Cause, ReadError};
 use crate::field::side_at;
 use arrayvec::ArrayVec;
 use std::alloc::Global;
-use strm_module::{BoxedShape, Kind, LONGEST_NAME, Shape};
+use strm_module::{LONGEST_NAME, ModuleOf, Plain, Shape};
+use strm_msg::NoMem;
 use strm_text::name;
 
-/// The module that a push line declares: its serial, its name, its marks, and the kind with which
-/// it begins.
-pub type PushDecl<K = Kind> = BoxedShape<K>;
+/// Objects of modules that a script's push makes: `Plain` for the built-in kinds, or those of a program.
+pub trait PlayModule: ModuleOf {
+    /// The object of a new module, which is to stand with this shape.
+    ///
+    /// Refused for want of memory alone.
+    fn object(alloc: Global, shape: &Shape<Self::Kind>) -> Result<Self, NoMem>;
+}
+
+impl PlayModule for Plain {
+    fn object(_: Global, _: &Shape) -> Result<Plain, NoMem> {
+        Ok(Plain)
+    }
+}
 
 /// Kinds of module that a script can name, each by a word: the built-in ones of `Kind`, or those of a program.
 ///

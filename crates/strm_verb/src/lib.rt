@@ -8,6 +8,7 @@ mod kinds;
 mod push;
 mod request;
 mod verb;
+mod worded;
 mod words;
 
 pub use arrival::{MessageWord, message_at};
@@ -15,8 +16,8 @@ pub use fault::{Cause, ReadError};
 pub use field::{
     MOST_ASKED, MOST_BAND, MOST_WORD, byte_at, marks_at, number_at, part_at, short_at, word_at,
 };
-pub use kinds::{PushDecl, ReadKind};
+pub use kinds::{PlayModule, ReadKind};
 pub use push::KindWord;
 pub use request::request_at;
 pub use verb::Verb;
-pub use words::{flush_word, get_word, mode_word, priority_word, prot_word, put_word, wanted_word};
+pub use worded::{Worded, named};

@@ -7,6 +7,7 @@ ghost use Rattle.strm_verb.specs.Push as pushes;
 use crate::fault::{Cause, ReadError};
 use crate::field::{byte_at, number_at, part_at};
 use crate::kinds::ReadKind;
+use crate::worded::{Worded, named};
 use std::alloc::Global;
 use strm_module::{Kind, MOST_SPLIT};
 use strm_msg::Bytes;
@@ -34,49 +35,7 @@ pub enum KindWord {
     Split,
 }
 
-/// Each kind.
-const KINDS: [KindWord; 9] = [
-    KindWord::Pass,
-    KindWord::Table,
-    KindWord::CrNl,
-    KindWord::Line,
-    KindWord::Count,
-    KindWord::Band,
-    KindWord::Tee,
-    KindWord::Mute,
-    KindWord::Split,
-];
-
 impl KindWord {
-    /// The word of the kind.
-    pub fn word(self) -> &'static [u8]
-        ensures { result.now ≡ pushes.kind_word self }
-    {
-        match self {
-            KindWord::Pass => b"pass",
-            KindWord::Table => b"table",
-            KindWord::CrNl => b"crnl",
-            KindWord::Line => b"line",
-            KindWord::Count => b"count",
-            KindWord::Band => b"band",
-            KindWord::Tee => b"tee",
-            KindWord::Mute => b"mute",
-            KindWord::Split => b"split",
-        }
-    }
-
-    /// The kind of this word; nothing where no kind has it.
-    pub fn named(text: &[u8]) -> Option<KindWord>
-        ensures { result ≡ pushes.kind_named text.now }
-    {
-        for kind in KINDS {
-            if kind.word() == text {
-                return Some(kind);
-            }
-        }
-        None
-    }
-
     /// How many fields the kind has for itself, behind KIND NAME RD WR.
     pub fn own_fields(self) -> u8
         ensures { result ≡ pushes.own_fields self }
@@ -91,6 +50,42 @@ impl KindWord {
             | KindWord::Tee
             | KindWord::Mute => 0,
         }
+    }
+}
+
+impl Worded for KindWord {
+    ghost use Rattle.strm_verb.specs.Push.{all_kinds, kind_word};
+
+    ghost word = { kind_word };
+
+    ghost all = { all_kinds };
+
+    fn word(self) -> &'static [u8] {
+        match self {
+            KindWord::Pass => b"pass",
+            KindWord::Table => b"table",
+            KindWord::CrNl => b"crnl",
+            KindWord::Line => b"line",
+            KindWord::Count => b"count",
+            KindWord::Band => b"band",
+            KindWord::Tee => b"tee",
+            KindWord::Mute => b"mute",
+            KindWord::Split => b"split",
+        }
+    }
+
+    fn all() -> &'static [KindWord] {
+        &[
+            KindWord::Pass,
+            KindWord::Table,
+            KindWord::CrNl,
+            KindWord::Line,
+            KindWord::Count,
+            KindWord::Band,
+            KindWord::Tee,
+            KindWord::Mute,
+            KindWord::Split,
+        ]
     }
 }
 
@@ -234,12 +229,12 @@ impl ReadKind for Kind {
     ghost words = { builtin_words };
 
     fn fields(word: &[u8]) -> Option<u8> {
-        let word = KindWord::named(word)?;
+        let word = named::<KindWord>(word)?;
         Some(word.own_fields())
     }
 
     fn begins(alloc: Global, word: &[u8], texts: &[&[u8]]) -> Result<Kind, ReadError> {
-        match KindWord::named(word) {
+        match named::<KindWord>(word) {
             Some(word) => kind_at(alloc, word, texts),
             None => Err(ReadError::Fault(Cause::UnknownWord)),
         }

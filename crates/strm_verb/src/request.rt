@@ -5,28 +5,29 @@ ghost use Rattle.strm_verb.specs.Table as table;
 
 use crate::fault::{Cause, ReadError};
 use crate::field::{byte_at, maximum_at, optional_at, part_at, short_at, word_at};
-use crate::kinds::{PushDecl, ReadKind, shape_at};
+use crate::kinds::{PlayModule, ReadKind, shape_at};
 use crate::verb::Verb;
-use crate::words::{flush_at, get_at, mode_at, priority_at, prot_at, put_at, wanted_at};
+use crate::worded::choice_at;
 use std::alloc::Global;
 use strm_call::Request;
+use strm_module::{Boxed, Instance, ModuleOf};
 
 /// `putmsg CTL DAT FLAG`.
-fn putmsg<K: ReadKind>(alloc: Global, texts: &[&[u8]]) -> Result<Request<PushDecl<K>>, ReadError>
-    ensures { Gives table.asked_of result (table.request_at K.words 0 Verb.Putmsg (map (λ text. text.now) texts.now)) }
+fn putmsg<M: ModuleOf>(alloc: Global, texts: &[&[u8]]) -> Result<Request<Boxed<M>>, ReadError>
+    ensures { Gives table.asked_of result (table.told_at Verb.Putmsg (map (λ text. text.now) texts.now)) }
 {
     let [ctl, dat, flag] = texts else {
         return Err(ReadError::Fault(Cause::Fields));
     };
     let ctl = optional_at(alloc, ctl)?;
     let dat = optional_at(alloc, dat)?;
-    let flag = priority_at(flag)?;
+    let flag = choice_at(flag)?;
     Ok(Request::Putmsg { ctl, dat, flag })
 }
 
 /// `putpmsg CTL DAT BAND FLAG`.
-fn putpmsg<K: ReadKind>(alloc: Global, texts: &[&[u8]]) -> Result<Request<PushDecl<K>>, ReadError>
-    ensures { Gives table.asked_of result (table.request_at K.words 0 Verb.Putpmsg (map (λ text. text.now) texts.now)) }
+fn putpmsg<M: ModuleOf>(alloc: Global, texts: &[&[u8]]) -> Result<Request<Boxed<M>>, ReadError>
+    ensures { Gives table.asked_of result (table.told_at Verb.Putpmsg (map (λ text. text.now) texts.now)) }
 {
     let [ctl, dat, band, flag] = texts else {
         return Err(ReadError::Fault(Cause::Fields));
@@ -34,7 +35,7 @@ fn putpmsg<K: ReadKind>(alloc: Global, texts: &[&[u8]]) -> Result<Request<PushDe
     let ctl = optional_at(alloc, ctl)?;
     let dat = optional_at(alloc, dat)?;
     let band = byte_at(band)?;
-    let flag = put_at(flag)?;
+    let flag = choice_at(flag)?;
     Ok(Request::Putpmsg {
         ctl,
         dat,
@@ -44,15 +45,15 @@ fn putpmsg<K: ReadKind>(alloc: Global, texts: &[&[u8]]) -> Result<Request<PushDe
 }
 
 /// `getmsg MAXCTL MAXDAT FLAG`.
-fn getmsg<K: ReadKind>(texts: &[&[u8]]) -> Result<Request<PushDecl<K>>, ReadError>
-    ensures { Gives table.asked_of result (table.request_at K.words 0 Verb.Getmsg (map (λ text. text.now) texts.now)) }
+fn getmsg<M: ModuleOf>(texts: &[&[u8]]) -> Result<Request<Boxed<M>>, ReadError>
+    ensures { Gives table.asked_of result (table.told_at Verb.Getmsg (map (λ text. text.now) texts.now)) }
 {
     let [maxctl, maxdat, flag] = texts else {
         return Err(ReadError::Fault(Cause::Fields));
     };
     let maxctl = maximum_at(maxctl)?;
     let maxdat = maximum_at(maxdat)?;
-    let flag = wanted_at(flag)?;
+    let flag = choice_at(flag)?;
     Ok(Request::Getmsg {
         maxctl,
         maxdat,
@@ -61,8 +62,8 @@ fn getmsg<K: ReadKind>(texts: &[&[u8]]) -> Result<Request<PushDecl<K>>, ReadErro
 }
 
 /// `getpmsg MAXCTL MAXDAT BAND FLAG`.
-fn getpmsg<K: ReadKind>(texts: &[&[u8]]) -> Result<Request<PushDecl<K>>, ReadError>
-    ensures { Gives table.asked_of result (table.request_at K.words 0 Verb.Getpmsg (map (λ text. text.now) texts.now)) }
+fn getpmsg<M: ModuleOf>(texts: &[&[u8]]) -> Result<Request<Boxed<M>>, ReadError>
+    ensures { Gives table.asked_of result (table.told_at Verb.Getpmsg (map (λ text. text.now) texts.now)) }
 {
     let [maxctl, maxdat, band, flag] = texts else {
         return Err(ReadError::Fault(Cause::Fields));
@@ -70,7 +71,7 @@ fn getpmsg<K: ReadKind>(texts: &[&[u8]]) -> Result<Request<PushDecl<K>>, ReadErr
     let maxctl = maximum_at(maxctl)?;
     let maxdat = maximum_at(maxdat)?;
     let band = byte_at(band)?;
-    let flag = get_at(flag)?;
+    let flag = choice_at(flag)?;
     Ok(Request::Getpmsg {
         maxctl,
         maxdat,
@@ -80,8 +81,8 @@ fn getpmsg<K: ReadKind>(texts: &[&[u8]]) -> Result<Request<PushDecl<K>>, ReadErr
 }
 
 /// `read MAX`.
-fn read<K: ReadKind>(texts: &[&[u8]]) -> Result<Request<PushDecl<K>>, ReadError>
-    ensures { Gives table.asked_of result (table.request_at K.words 0 Verb.Read (map (λ text. text.now) texts.now)) }
+fn read<M: ModuleOf>(texts: &[&[u8]]) -> Result<Request<Boxed<M>>, ReadError>
+    ensures { Gives table.asked_of result (table.told_at Verb.Read (map (λ text. text.now) texts.now)) }
 {
     let [max] = texts else {
         return Err(ReadError::Fault(Cause::Fields));
@@ -91,8 +92,8 @@ fn read<K: ReadKind>(texts: &[&[u8]]) -> Result<Request<PushDecl<K>>, ReadError>
 }
 
 /// `write DAT`.
-fn write<K: ReadKind>(alloc: Global, texts: &[&[u8]]) -> Result<Request<PushDecl<K>>, ReadError>
-    ensures { Gives table.asked_of result (table.request_at K.words 0 Verb.Write (map (λ text. text.now) texts.now)) }
+fn write<M: ModuleOf>(alloc: Global, texts: &[&[u8]]) -> Result<Request<Boxed<M>>, ReadError>
+    ensures { Gives table.asked_of result (table.told_at Verb.Write (map (λ text. text.now) texts.now)) }
 {
     let [dat] = texts else {
         return Err(ReadError::Fault(Cause::Fields));
@@ -102,8 +103,8 @@ fn write<K: ReadKind>(alloc: Global, texts: &[&[u8]]) -> Result<Request<PushDecl
 }
 
 /// `find NAME`.
-fn find<K: ReadKind>(alloc: Global, texts: &[&[u8]]) -> Result<Request<PushDecl<K>>, ReadError>
-    ensures { Gives table.asked_of result (table.request_at K.words 0 Verb.Find (map (λ text. text.now) texts.now)) }
+fn find<M: ModuleOf>(alloc: Global, texts: &[&[u8]]) -> Result<Request<Boxed<M>>, ReadError>
+    ensures { Gives table.asked_of result (table.told_at Verb.Find (map (λ text. text.now) texts.now)) }
 {
     let [name] = texts else {
         return Err(ReadError::Fault(Cause::Fields));
@@ -113,8 +114,8 @@ fn find<K: ReadKind>(alloc: Global, texts: &[&[u8]]) -> Result<Request<PushDecl<
 }
 
 /// `str CMD DAT`.
-fn str<K: ReadKind>(alloc: Global, texts: &[&[u8]]) -> Result<Request<PushDecl<K>>, ReadError>
-    ensures { Gives table.asked_of result (table.request_at K.words 0 Verb.Str (map (λ text. text.now) texts.now)) }
+fn str<M: ModuleOf>(alloc: Global, texts: &[&[u8]]) -> Result<Request<Boxed<M>>, ReadError>
+    ensures { Gives table.asked_of result (table.told_at Verb.Str (map (λ text. text.now) texts.now)) }
 {
     let [cmd, dat] = texts else {
         return Err(ReadError::Fault(Cause::Fields));
@@ -125,38 +126,38 @@ fn str<K: ReadKind>(alloc: Global, texts: &[&[u8]]) -> Result<Request<PushDecl<K
 }
 
 /// `flush SIDES`.
-fn flush<K: ReadKind>(texts: &[&[u8]]) -> Result<Request<PushDecl<K>>, ReadError>
-    ensures { Gives table.asked_of result (table.request_at K.words 0 Verb.Flush (map (λ text. text.now) texts.now)) }
+fn flush<M: ModuleOf>(texts: &[&[u8]]) -> Result<Request<Boxed<M>>, ReadError>
+    ensures { Gives table.asked_of result (table.told_at Verb.Flush (map (λ text. text.now) texts.now)) }
 {
     let [sides] = texts else {
         return Err(ReadError::Fault(Cause::Fields));
     };
-    let (r, w) = flush_at(sides)?;
+    let (r, w) = choice_at(sides)?;
     Ok(Request::Flush { r, w })
 }
 
 /// `flushband BAND SIDES`.
-fn flush_band<K: ReadKind>(texts: &[&[u8]]) -> Result<Request<PushDecl<K>>, ReadError>
-    ensures { Gives table.asked_of result (table.request_at K.words 0 Verb.FlushBand (map (λ text. text.now) texts.now)) }
+fn flush_band<M: ModuleOf>(texts: &[&[u8]]) -> Result<Request<Boxed<M>>, ReadError>
+    ensures { Gives table.asked_of result (table.told_at Verb.FlushBand (map (λ text. text.now) texts.now)) }
 {
     let [band, sides] = texts else {
         return Err(ReadError::Fault(Cause::Fields));
     };
     let band = byte_at(band)?;
-    let (r, w) = flush_at(sides)?;
+    let (r, w) = choice_at(sides)?;
     Ok(Request::FlushBand { band, r, w })
 }
 
 /// `peek MAXCTL MAXDAT FLAG`.
-fn peek<K: ReadKind>(texts: &[&[u8]]) -> Result<Request<PushDecl<K>>, ReadError>
-    ensures { Gives table.asked_of result (table.request_at K.words 0 Verb.Peek (map (λ text. text.now) texts.now)) }
+fn peek<M: ModuleOf>(texts: &[&[u8]]) -> Result<Request<Boxed<M>>, ReadError>
+    ensures { Gives table.asked_of result (table.told_at Verb.Peek (map (λ text. text.now) texts.now)) }
 {
     let [maxctl, maxdat, flag] = texts else {
         return Err(ReadError::Fault(Cause::Fields));
     };
     let maxctl = maximum_at(maxctl)?;
     let maxdat = maximum_at(maxdat)?;
-    let flag = wanted_at(flag)?;
+    let flag = choice_at(flag)?;
     Ok(Request::Peek {
         maxctl,
         maxdat,
@@ -165,20 +166,20 @@ fn peek<K: ReadKind>(texts: &[&[u8]]) -> Result<Request<PushDecl<K>>, ReadError>
 }
 
 /// `setread MODE PROT`.
-fn set_read<K: ReadKind>(texts: &[&[u8]]) -> Result<Request<PushDecl<K>>, ReadError>
-    ensures { Gives table.asked_of result (table.request_at K.words 0 Verb.SetRead (map (λ text. text.now) texts.now)) }
+fn set_read<M: ModuleOf>(texts: &[&[u8]]) -> Result<Request<Boxed<M>>, ReadError>
+    ensures { Gives table.asked_of result (table.told_at Verb.SetRead (map (λ text. text.now) texts.now)) }
 {
     let [mode, prot] = texts else {
         return Err(ReadError::Fault(Cause::Fields));
     };
-    let mode = mode_at(mode)?;
-    let prot = prot_at(prot)?;
+    let mode = choice_at(mode)?;
+    let prot = choice_at(prot)?;
     Ok(Request::SetRead { mode, prot })
 }
 
 /// `canput BAND`.
-fn canput<K: ReadKind>(texts: &[&[u8]]) -> Result<Request<PushDecl<K>>, ReadError>
-    ensures { Gives table.asked_of result (table.request_at K.words 0 Verb.Canput (map (λ text. text.now) texts.now)) }
+fn canput<M: ModuleOf>(texts: &[&[u8]]) -> Result<Request<Boxed<M>>, ReadError>
+    ensures { Gives table.asked_of result (table.told_at Verb.Canput (map (λ text. text.now) texts.now)) }
 {
     let [band] = texts else {
         return Err(ReadError::Fault(Cause::Fields));
@@ -188,8 +189,8 @@ fn canput<K: ReadKind>(texts: &[&[u8]]) -> Result<Request<PushDecl<K>>, ReadErro
 }
 
 /// `ckband BAND`.
-fn ckband<K: ReadKind>(texts: &[&[u8]]) -> Result<Request<PushDecl<K>>, ReadError>
-    ensures { Gives table.asked_of result (table.request_at K.words 0 Verb.Ckband (map (λ text. text.now) texts.now)) }
+fn ckband<M: ModuleOf>(texts: &[&[u8]]) -> Result<Request<Boxed<M>>, ReadError>
+    ensures { Gives table.asked_of result (table.told_at Verb.Ckband (map (λ text. text.now) texts.now)) }
 {
     let [band] = texts else {
         return Err(ReadError::Fault(Cause::Fields));
@@ -198,23 +199,27 @@ fn ckband<K: ReadKind>(texts: &[&[u8]]) -> Result<Request<PushDecl<K>>, ReadErro
     Ok(Request::Ckband { band })
 }
 
-/// `push KIND NAME RD WR` and the fields of the kind.
-fn push<K: ReadKind>(
+/// `push KIND NAME RD WR` and the fields of the kind. The module is made with its object.
+fn push<M: PlayModule>(
     alloc: Global,
     serial: u64,
     texts: &[&[u8]],
-) -> Result<Request<PushDecl<K>>, ReadError>
-    ensures { Gives table.asked_of result (table.request_at K.words serial Verb.Push (map (λ text. text.now) texts.now)) }
+) -> Result<Request<Boxed<M>>, ReadError>
+where
+    M::Kind: ReadKind,
+    ensures { Gives table.asked_of result (table.request_at M.Kind.words serial Verb.Push (map (λ text. text.now) texts.now)) }
 {
-    let instance = PushDecl::new(alloc, shape_at(alloc, serial, texts)?)?;
+    let shape = shape_at(alloc, serial, texts)?;
+    let object = M::object(alloc, &shape)?;
+    let instance = Boxed::new(alloc, Instance::new(shape, object))?;
     Ok(Request::Push { instance })
 }
 
 /// A call without fields. Refused where there is one.
-fn plain<K: ReadKind>(
+fn plain<M: ModuleOf>(
     texts: &[&[u8]],
-    request: Request<PushDecl<K>>,
-) -> Result<Request<PushDecl<K>>, ReadError>
+    request: Request<Boxed<M>>,
+) -> Result<Request<Boxed<M>>, ReadError>
     ensures { Gives table.asked_of result (table.plain_at (table.asked_of request) (map (λ text. text.now) texts.now)) }
 {
     match texts {
@@ -226,13 +231,15 @@ fn plain<K: ReadKind>(
 /// What a call asks for, by its fields behind NAME:END; the module of a push gets the serial.
 /// Refused where there are others than it has, and then for the first that does not say what it
 /// should.
-pub fn request_at<K: ReadKind>(
+pub fn request_at<M: PlayModule>(
     alloc: Global,
     serial: u64,
     verb: Verb,
     texts: &[&[u8]],
-) -> Result<Request<PushDecl<K>>, ReadError>
-    ensures { Gives table.asked_of result (table.request_at K.words serial verb (map (λ text. text.now) texts.now)) }
+) -> Result<Request<Boxed<M>>, ReadError>
+where
+    M::Kind: ReadKind,
+    ensures { Gives table.asked_of result (table.request_at M.Kind.words serial verb (map (λ text. text.now) texts.now)) }
 {
     match verb {
         Verb::Putmsg => putmsg(alloc, texts),

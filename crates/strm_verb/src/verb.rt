@@ -5,6 +5,7 @@ ghost use Rattle.strm_verb.specs.Table as table;
 
 use crate::fault::ReadError;
 use crate::kinds::{ReadKind, push_arity};
+use crate::worded::{Worded, named};
 
 /// A call on an end of a stream.
 #[derive(Clone, Copy, Debug, PartialEq, Eq)]
@@ -55,75 +56,7 @@ pub enum Verb {
     Close,
 }
 
-/// Each call.
-const VERBS: [Verb; 22] = [
-    Verb::Putmsg,
-    Verb::Putpmsg,
-    Verb::Getmsg,
-    Verb::Getpmsg,
-    Verb::Read,
-    Verb::Write,
-    Verb::Push,
-    Verb::Pop,
-    Verb::Look,
-    Verb::List,
-    Verb::Find,
-    Verb::Str,
-    Verb::Flush,
-    Verb::FlushBand,
-    Verb::Nread,
-    Verb::Peek,
-    Verb::SetRead,
-    Verb::GetRead,
-    Verb::Canput,
-    Verb::Ckband,
-    Verb::Getband,
-    Verb::Close,
-];
-
 impl Verb {
-    /// The word of the call.
-    pub fn word(self) -> &'static [u8]
-        ensures { result.now ≡ table.word_of self }
-    {
-        match self {
-            Verb::Putmsg => b"putmsg",
-            Verb::Putpmsg => b"putpmsg",
-            Verb::Getmsg => b"getmsg",
-            Verb::Getpmsg => b"getpmsg",
-            Verb::Read => b"read",
-            Verb::Write => b"write",
-            Verb::Push => b"push",
-            Verb::Pop => b"pop",
-            Verb::Look => b"look",
-            Verb::List => b"list",
-            Verb::Find => b"find",
-            Verb::Str => b"str",
-            Verb::Flush => b"flush",
-            Verb::FlushBand => b"flushband",
-            Verb::Nread => b"nread",
-            Verb::Peek => b"peek",
-            Verb::SetRead => b"setread",
-            Verb::GetRead => b"getread",
-            Verb::Canput => b"canput",
-            Verb::Ckband => b"ckband",
-            Verb::Getband => b"getband",
-            Verb::Close => b"close",
-        }
-    }
-
-    /// The call of this word; nothing where no call has it.
-    pub fn named(text: &[u8]) -> Option<Verb>
-        ensures { result ≡ table.verb_named text.now }
-    {
-        for verb in VERBS {
-            if verb.word() == text {
-                return Some(verb);
-            }
-        }
-        None
-    }
-
     /// How many fields the call has behind NAME:END, where it is no push.
     fn count(self) -> usize
         ensures { result ≡ length (table.forms_of self) }
@@ -153,5 +86,67 @@ impl Verb {
             return push_arity::<K>(texts);
         }
         Ok(self.count())
+    }
+}
+
+impl Worded for Verb {
+    ghost use Rattle.strm_verb.specs.Table.{all_verbs, word_of};
+
+    ghost word = { word_of };
+
+    ghost all = { all_verbs };
+
+    fn word(self) -> &'static [u8] {
+        match self {
+            Verb::Putmsg => b"putmsg",
+            Verb::Putpmsg => b"putpmsg",
+            Verb::Getmsg => b"getmsg",
+            Verb::Getpmsg => b"getpmsg",
+            Verb::Read => b"read",
+            Verb::Write => b"write",
+            Verb::Push => b"push",
+            Verb::Pop => b"pop",
+            Verb::Look => b"look",
+            Verb::List => b"list",
+            Verb::Find => b"find",
+            Verb::Str => b"str",
+            Verb::Flush => b"flush",
+            Verb::FlushBand => b"flushband",
+            Verb::Nread => b"nread",
+            Verb::Peek => b"peek",
+            Verb::SetRead => b"setread",
+            Verb::GetRead => b"getread",
+            Verb::Canput => b"canput",
+            Verb::Ckband => b"ckband",
+            Verb::Getband => b"getband",
+            Verb::Close => b"close",
+        }
+    }
+
+    fn all() -> &'static [Verb] {
+        &[
+            Verb::Putmsg,
+            Verb::Putpmsg,
+            Verb::Getmsg,
+            Verb::Getpmsg,
+            Verb::Read,
+            Verb::Write,
+            Verb::Push,
+            Verb::Pop,
+            Verb::Look,
+            Verb::List,
+            Verb::Find,
+            Verb::Str,
+            Verb::Flush,
+            Verb::FlushBand,
+            Verb::Nread,
+            Verb::Peek,
+            Verb::SetRead,
+            Verb::GetRead,
+            Verb::Canput,
+            Verb::Ckband,
+            Verb::Getband,
+            Verb::Close,
+        ]
     }
 }

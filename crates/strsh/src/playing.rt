@@ -1,7 +1,7 @@
 //! A script is played, and its transcript or chart printed.
 ghost use Rattle.std.specs.Prelude.{if◌then◌else◌, IfOk, OnOk};
 ghost use Rattle.std.specs.Io.KnownBytes.{Appends};
-ghost use Rattle.strm_plan.specs.Plan.{plan_view};
+ghost use Rattle.strm_plan.specs.Plan.{names_view, plan_view};
 ghost use Rattle.strm_plan.specs.Sound.{IsSound};
 ghost use Rattle.strm_script.specs.Fields.{builtin_spelling};
 ghost use Rattle.strm_script.specs.Lines.{transcript_text};
@@ -14,7 +14,7 @@ use std::rt::Files;
 use std::sync::Wait;
 use std::thread::Threads;
 use strm_chart::chart;
-use strm_module::{Kind, Plain};
+use strm_module::Plain;
 use strm_plan::{Plan, parse};
 use strm_play::{Outcome, play_plan};
 use strm_script::{LoadFault, load, print};
@@ -29,23 +29,23 @@ fn script<R: Files>(rt: &R, alloc: Global, path: &str) -> Result<Vec<u8>, LoadFa
 }
 
 /// The plan that the script at a path spells. Its text is dropped before the plan is played.
-fn plan_at<R: Files>(rt: &R, alloc: Global, path: &str) -> Result<Plan<Kind>, Fault>
+fn plan_at<R: Files>(rt: &R, alloc: Global, path: &str) -> Result<Plan, Fault>
     ensures { IfOk result (λ plan. IsSound (plan_view plan)) }
 {
     let bytes = script(rt, alloc, path)?;
-    Ok(parse(alloc, bytes.as_slice())?)
+    Ok(parse::<Plain>(alloc, bytes.as_slice())?)
 }
 
 /// Writes what is left of a script that was played: as a chart where one is asked for, and else as a transcript.
 fn put_text<W: Write>(outcome: &Outcome, as_chart: bool, w: &mut W) -> io::Result<()>
     ensures { OnOk result (Appends (W.contents w.old) (W.contents w.new)
-        (if as_chart then chart_text builtin_spelling (plan_view outcome.now.plan) outcome.now.transcript.streams.items
-        else transcript_text builtin_spelling (plan_view outcome.now.plan) outcome.now.transcript.streams.items)) }
+        (if as_chart then chart_text builtin_spelling (names_view outcome.now.names) outcome.now.transcript.streams.items
+        else transcript_text builtin_spelling (names_view outcome.now.names) outcome.now.transcript.streams.items)) }
 {
     if as_chart {
-        chart(&outcome.transcript, &outcome.plan, w)
+        chart(&outcome.transcript, &outcome.names, w)
     } else {
-        print(&outcome.transcript, &outcome.plan, w)
+        print(&outcome.transcript, &outcome.names, w)
     }
 }
 
@@ -54,8 +54,8 @@ fn put_text<W: Write>(outcome: &Outcome, as_chart: bool, w: &mut W) -> io::Resul
 /// Refused where the writer is, and with its error.
 pub fn put<W: Write>(outcome: &Outcome, as_chart: bool, w: &mut W) -> io::Result<()>
     ensures text { OnOk result (Appends (W.contents w.old) (W.contents w.new)
-        (if as_chart then chart_text builtin_spelling (plan_view outcome.now.plan) outcome.now.transcript.streams.items
-        else transcript_text builtin_spelling (plan_view outcome.now.plan) outcome.now.transcript.streams.items)) }
+        (if as_chart then chart_text builtin_spelling (names_view outcome.now.names) outcome.now.transcript.streams.items
+        else transcript_text builtin_spelling (names_view outcome.now.names) outcome.now.transcript.streams.items)) }
 {
     put_text(outcome, as_chart, w)?;
     w.flush()

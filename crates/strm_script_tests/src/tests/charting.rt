@@ -1,5 +1,5 @@
 //! Charts of which no script is sure to be the cause: messages that came in from a line.
-use super::plan_of;
+use super::names_of;
 use super::printing::log;
 use std::alloc::Global;
 use std::process::Abort;
@@ -10,7 +10,7 @@ use strm_history::{Entry, Kept, Serials, Who};
 use strm_module::Kind;
 use strm_msg::End::A;
 use strm_msg::{BoxedMessage, Message};
-use strm_plan::Plan;
+use strm_plan::Names;
 use strm_run::{StreamLog, Transcript};
 
 /// A line `l`, and one process.
@@ -65,18 +65,18 @@ fn arrivals(rt: &impl Abort, alloc: Global) -> Vec<Kept<Kind>> {
 }
 
 /// What is drawn of one stream.
-fn drawn(rt: &impl Abort, alloc: Global, plan: &Plan, log: StreamLog<Kind>) -> Vec<u8> {
+fn drawn(rt: &impl Abort, alloc: Global, names: &Names, log: StreamLog<Kind>) -> Vec<u8> {
     let streams = vec![in alloc; log].expect(rt, "no memory");
     let mut out: Vec<u8> = Vec::new(alloc);
-    assert!(rt; chart(&Transcript { streams }, plan, &mut out).is_ok());
+    assert!(rt; chart(&Transcript { streams }, names, &mut out).is_ok());
     out
 }
 
 #[test]
 fn messages_that_came_in_are_drawn_from_the_line(rt: HostRuntime) {
     let alloc: Global = rt.alloc();
-    let plan = plan_of(&rt, alloc, PLAN);
+    let names = names_of(&rt, alloc, PLAN);
     let mut log = log(&rt, alloc, &[b"m"]);
     log.history = arrivals(&rt, alloc);
-    assert!(rt; drawn(&rt, alloc, &plan, log).as_slice() == DRAWN.as_bytes());
+    assert!(rt; drawn(&rt, alloc, &names, log).as_slice() == DRAWN.as_bytes());
 }

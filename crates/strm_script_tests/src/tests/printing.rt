@@ -1,6 +1,6 @@
 //! Transcripts of which no script can be the cause: answers that no stream gives to such a call, numbers that do not
 //! fit each other, and writers that fail.
-use super::plan_of;
+use super::{handed, names_of};
 use Ask::{Getband, Nread, Str};
 use Say::{Ack, Broke, Line, Nak, Refused};
 use arrayvec::ArrayVec;
@@ -10,11 +10,11 @@ use std::process::Abort;
 use strm_call::{Acknowledged, Answer, Name, Refusal, Reply, Request};
 use strm_head::{Event, MOST_MODULES, Moves};
 use strm_history::{Entry, Kept, Serials, Who};
-use strm_module::Kind;
+use strm_module::{BoxedShape, Kind};
 use strm_msg::End::{A, B};
 use strm_msg::{BoxedMessage, Bytes, End, Errno, Message};
-use strm_plan::{Plan, PushDecl};
-use strm_run::{StreamLog, Transcript};
+use strm_plan::Names;
+use strm_run::{Feed, StreamLog, Transcript};
 use strm_script::print;
 
 /// A part, if there is one.
@@ -149,7 +149,7 @@ fn part(rt: &impl Abort, alloc: Global, part: Part) -> Option<Bytes> {
     }
 }
 
-fn request(rt: &impl Abort, alloc: Global, ask: Ask) -> Request<PushDecl> {
+fn request(rt: &impl Abort, alloc: Global, ask: Ask) -> Request<BoxedShape> {
     match ask {
         Nread => Request::Nread,
         Str(cmd, dat) => Request::Str {
@@ -182,7 +182,7 @@ fn step(
     rt: &impl Abort,
     alloc: Global,
     (who, end): (Who, End),
-    event: Event<PushDecl>,
+    event: Event<BoxedShape>,
     answer: Answer,
 ) -> Kept<Kind> {
     let entry = Entry {
@@ -238,10 +238,10 @@ pub(super) fn log(rt: &impl Abort, alloc: Global, on_a: &[&[u8]]) -> StreamLog<K
 }
 
 /// What is printed of one stream.
-fn printed(rt: &impl Abort, alloc: Global, plan: &Plan, log: StreamLog<Kind>) -> Vec<u8> {
+fn printed(rt: &impl Abort, alloc: Global, names: &Names, log: StreamLog<Kind>) -> Vec<u8> {
     let streams = vec![in alloc; log].expect(rt, "no memory");
     let mut out: Vec<u8> = Vec::new(alloc);
-    assert!(rt; print(&Transcript { streams }, plan, &mut out).is_ok());
+    assert!(rt; print(&Transcript { streams }, names, &mut out).is_ok());
     out
 }
 
@@ -275,10 +275,10 @@ fn lines(rt: &impl Abort, alloc: Global) -> Vec<u8> {
 #[test]
 fn steps_are_spelt_with_their_answers(rt: HostRuntime) {
     let alloc: Global = rt.alloc();
-    let plan = plan_of(&rt, alloc, b"stream s loop 16/4 16/4\nprocess q\nprocess p");
+    let names = names_of(&rt, alloc, b"stream s loop 16/4 16/4\nprocess q\nprocess p");
     let mut log = log(&rt, alloc, &[]);
     log.history = steps(&rt, alloc);
-    assert!(rt; printed(&rt, alloc, &plan, log) == lines(&rt, alloc));
+    assert!(rt; printed(&rt, alloc, &names, log) == lines(&rt, alloc));
 }
 
 /// Messages of a feed, also with words and parts that a transcript has otherwise.
@@ -294,10 +294,10 @@ const FED: &str = "stream s\n\
     line error2 - - : 0\nline proto 3 =c - : 0\nline pcproto = =- : 0\nline data 255 =a%20b : 0\n\
     open a\nfeed accepted 3 arrived 2 overrun 1\n";
 
-/// A step for each message of the plan's feeds.
-fn fed(rt: &impl Abort, alloc: Global, plan: &Plan) -> Vec<Kept<Kind>> {
+/// A step for each message of feeds.
+fn fed(rt: &impl Abort, alloc: Global, feeds: &[Feed]) -> Vec<Kept<Kind>> {
     let mut history = Vec::new(alloc);
-    for feed in &plan.feeds {
+    for feed in feeds {
         for m in &feed.messages {
             let m = m.copy(alloc).expect(rt, "no memory");
             let entry = came(rt, alloc, m, Answer::Done(Reply::Line));
@@ -310,10 +310,10 @@ fn fed(rt: &impl Abort, alloc: Global, plan: &Plan) -> Vec<Kept<Kind>> {
 #[test]
 fn messages_that_came_in_are_spelt_as_in_a_feed(rt: HostRuntime) {
     let alloc: Global = rt.alloc();
-    let plan = plan_of(&rt, alloc, FEED);
+    let handed = handed(&rt, alloc, FEED);
     let mut log = log(&rt, alloc, &[]);
-    log.history = fed(&rt, alloc, &plan);
-    assert!(rt; printed(&rt, alloc, &plan, log).as_slice() == FED.as_bytes());
+    log.history = fed(&rt, alloc, handed.feeds.as_slice());
+    assert!(rt; printed(&rt, alloc, &handed.names, log).as_slice() == FED.as_bytes());
 }
 
 /// A plan with a loop `one` and an echo `two`, and one process, `p`.
@@ -362,10 +362,10 @@ impl Write for Taker {
 }
 
 /// What is printed to such a writer, and whether all was.
-fn taken(transcript: &Transcript<Kind>, plan: &Plan, most: usize, before: usize) -> Taken {
+fn taken(transcript: &Transcript<Kind>, names: &Names, most: usize, before: usize) -> Taken {
     let out = ArrayVec::new();
     let mut taker = Taker { out, most, before };
-    let is_ok = print(transcript, plan, &mut taker).is_ok();
+    let is_ok = print(transcript, names, &mut taker).is_ok();
     (taker.out, is_ok)
 }
 
@@ -387,14 +387,14 @@ const WRITES: usize = 68;
 #[test]
 fn each_write_may_fail_or_take_little(rt: HostRuntime) {
     let alloc: Global = rt.alloc();
-    let (transcript, plan) = (transcript(&rt, alloc), plan_of(&rt, alloc, PLAN));
+    let (transcript, names) = (transcript(&rt, alloc), names_of(&rt, alloc, PLAN));
     for most in [1, 5, 80] {
         for before in 0..WRITES {
-            assert!(rt; is_beginning(&taken(&transcript, &plan, most, before)));
+            assert!(rt; is_beginning(&taken(&transcript, &names, most, before)));
         }
-        let all = taken(&transcript, &plan, most, WRITES);
+        let all = taken(&transcript, &names, most, WRITES);
         assert!(rt; all.1 && is_beginning(&all));
     }
-    let (none, is_ok) = taken(&transcript, &plan, 0, WRITES);
+    let (none, is_ok) = taken(&transcript, &names, 0, WRITES);
     assert!(rt; !is_ok && none.is_empty());
 }

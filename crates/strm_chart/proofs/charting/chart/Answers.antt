@@ -1,6 +1,6 @@
 use Rattle.std.proofs.Common.{◌≡◌, refl, length, map, slice_get, Some}
 use Rattle.std.proofs.lemmas.Option.{slice_get_read}
-use Rattle.strm_plan.specs.Plan.{process_view, streams_view}
+use Rattle.strm_plan.specs.Plan.{streams_view}
 use Rattle.strm_chart.proofs.ChartLemmas.{one_more_written}
 use Rattle.strm_chart.proofs.charting.chart.Goals as goal
 
@@ -11,4 +11,4 @@ loop-number-preserved g c =
     let seen = c.deref-log-items.result.now in
     let found : slice_get seen number ≡ Some log = slice_get_read seen (length seen) number log refl c.loop-number-test.true c.log-item.is in
     let is : slice_get c.args.transcript.now.streams.items number ≡ Some log = rw c.deref-log-items.ensures.value at found in
-    one_more_written g.K.PrintKind.spelling _ _ _ (map process_view c.args.plan.now.processes.items) (streams_view c.args.plan.now.streams.entries) c.args.transcript.now.streams.items number log is c.loop-number.invariant c.in_ok-put_numbered.ensures
+    one_more_written g.K.PrintKind.spelling _ _ _ (map (λ name. name.items) c.args.names.now.processes.items) (streams_view c.args.names.now.streams.entries) c.args.transcript.now.streams.items number log is c.loop-number.invariant c.in_ok-put_numbered.ensures

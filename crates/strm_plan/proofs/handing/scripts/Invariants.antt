@@ -1,14 +1,13 @@
 use Rattle.std.proofs.Common.{◌≡◌, ◌++◌, length}
 use Rattle.std.specs.Vec.Iter.{into_iter_items, into_iter_len}
-use Rattle.strm_plan.specs.Handing.{calls_of_processes, calls_of_scripts, names_of, AreIdle}
+use Rattle.strm_plan.specs.Handing.{calls_of_processes, calls_of_scripts, names_of}
 use Rattle.strm_plan.proofs.handing.scripts.Given as goal
 
--- the scripts and the names so far are those of the processes
+-- the names and the scripts so far are those of the processes
 abbrev pub invariant-loop-process : goal.invariant-loop-process
 invariant-loop-process g l = record {
   left : into_iter_len l.process-iterator ≡ length (into_iter_items l.process-iterator);
   rest : l.yielded ++ into_iter_items l.process-iterator ≡ l.fn.processes.items;
-  names : names_of l.named.items ≡ names_of l.yielded;
-  idle : AreIdle l.named.items;
-  calls : calls_of_scripts l.all.items ≡ calls_of_processes l.yielded;
+  names : l.names.items ≡ names_of l.yielded;
+  calls : calls_of_scripts l.scripts.items ≡ calls_of_processes l.yielded;
 }

@@ -8,9 +8,9 @@ use Rattle.strm_plan.proofs.parsing.parse_lines.Goals as goal
 
 pub loop-rest-preserved : goal.loop-rest-preserved
 loop-rest-preserved g c =
-    let keeps : Keeps (draft_view c.loop-rest.draft) (draft_view c.line.new.self) = line_keeps g.K.ReadKind.words (draft_view c.loop-rest.draft) (draft_view c.line.new.self) c.first_line.result.0.now c.in-Ok.ensures c.loop-rest.invariant.kept in
+    let keeps : Keeps (draft_view c.loop-rest.draft) (draft_view c.line.new.self) = line_keeps g.M.Kind.ReadKind.words (draft_view c.loop-rest.draft) (draft_view c.line.new.self) c.first_line.result.0.now c.in-Ok.ensures c.loop-rest.invariant.kept in
     record {
-      same = one_more g.K.ReadKind.words _ _ c.loop-rest.rest.now _ c.first_line.result.1.now _ c.first_line.ensures.first c.loop-rest.invariant.same _ c.in-Ok.ensures;
+      same = one_more g.M.Kind.ReadKind.words _ _ c.loop-rest.rest.now _ c.first_line.result.1.now _ c.first_line.ensures.first c.loop-rest.invariant.same _ c.in-Ok.ensures;
       few = omega (arith, c.first_line.ensures.shorter);
       modules = omega (arith, keeps.modules, c.loop-rest.invariant.modules);
       kept = keeps.kept;
@@ -19,15 +19,15 @@ loop-rest-preserved g c =
 pub returns-in-Err-Fault-clause-spells : goal.returns-in-Err-Fault-clause-spells
 returns-in-Err-Fault-clause-spells g c =
     let fault = rw c.in-Err-Fault.field-0-is at c.in-Err-Fault.ensures in
-    rw c.in-Err-Fault.field-0-is (inr (one_fault g.K.ReadKind.words _ (draft_view c.loop-rest.draft) c.loop-rest.rest.now _ c.first_line.result.1.now _ c.first_line.ensures.first c.loop-rest.invariant.same _ fault))
+    rw c.in-Err-Fault.field-0-is (inr (one_fault g.M.Kind.ReadKind.words _ (draft_view c.loop-rest.draft) c.loop-rest.rest.now _ c.first_line.result.1.now _ c.first_line.ensures.first c.loop-rest.invariant.same _ fault))
 
 pub returns-in-Ok-finish-clause-spells : goal.returns-in-Ok-finish-clause-spells
 returns-in-Ok-finish-clause-spells g c =
     let none : length c.loop-rest.rest.now ≡ 0 = search rules in
     let plan : plan_of (draft_view c.loop-rest.draft) ≡ plan_view c.in-Ok-finish.plan = cc c.in-Ok-finish.ensures in
-    all_done g.K.ReadKind.words c.loop-rest.number (draft_view c.loop-rest.draft) c.loop-rest.rest.now _ none c.loop-rest.invariant.same ∙ ap Ok plan
+    all_done g.M.Kind.ReadKind.words c.loop-rest.number (draft_view c.loop-rest.draft) c.loop-rest.rest.now _ none c.loop-rest.invariant.same ∙ ap Ok plan
 
 pub returns-in-Ok-finish-clause-sound : goal.returns-in-Ok-finish-clause-sound
 returns-in-Ok-finish-clause-sound g c =
     let plan : plan_of (draft_view c.loop-rest.draft) ≡ plan_view c.in-Ok-finish.plan = cc c.in-Ok-finish.ensures in
-    subst (λ (whole : Whole g.row.K.Denot). IsSound whole) plan (kept_sound (draft_view c.loop-rest.draft) c.loop-rest.invariant.kept)
+    subst (λ (whole : Whole g.row.M-Kind.Denot). IsSound whole) plan (kept_sound (draft_view c.loop-rest.draft) c.loop-rest.invariant.kept)

@@ -8,7 +8,7 @@ use Rattle.strm_plan.proofs.parsing.parse_lines.Given as goal
 -- the lines so far made the draft, onto which the others go
 abbrev pub invariant-loop-rest : goal.invariant-loop-rest
 invariant-loop-rest g l = record {
-  same : lines_onto g.K.ReadKind.words l.number (draft_view l.draft) (lines l.rest) ≡ lines_onto g.K.ReadKind.words 0 nothing_yet (lines l.bytes);
+  same : lines_onto g.M.Kind.ReadKind.words l.number (draft_view l.draft) (lines l.rest) ≡ lines_onto g.M.Kind.ReadKind.words 0 nothing_yet (lines l.bytes);
   few : l.number + length l.rest ≤ length l.bytes;
   modules : l.draft.modules ≤ l.number;
   kept : IsKept (draft_view l.draft);

@@ -8,16 +8,16 @@ use Rattle.strm_verb.proofs.request.str.Goals as goal
 pub returns : goal.returns
 returns g c =
     let texts = c.args.texts.now in
-    of_two g.row.K.Denot Verb.Str texts (Upto MOST_WORD) Optional (Number c.in_ok-cmd.cmd) (part_field c.in_ok-dat.dat) c.in-len2.len_at_least c.in-len2.len_below (upto MOST_WORD (at texts 0) c.in_ok-cmd.cmd c.in_ok-cmd.ensures) (optional (at texts 1) c.in_ok-dat.dat c.in_ok-dat.ensures)
+    of_two g.row.M-Kind.Denot Verb.Str texts (Upto MOST_WORD) Optional (Number c.in_ok-cmd.cmd) (part_field c.in_ok-dat.dat) c.in-len2.len_at_least c.in-len2.len_below (upto MOST_WORD (at texts 0) c.in_ok-cmd.cmd c.in_ok-cmd.ensures) (optional (at texts 1) c.in_ok-dat.dat c.in_ok-dat.ensures)
 
 pub returns-in_err-cmd : goal.returns-in_err-cmd
 returns-in_err-cmd g c =
     let texts = c.args.texts.now in
-    let fails = two_fails_0 g.row.K.Denot Verb.Str texts c.in_err-cmd.field-0.0 (Upto MOST_WORD) Optional c.in-len2.len_at_least c.in-len2.len_below (upto_fails c.in_err-cmd.field-0.0 MOST_WORD (at texts 0) c.in_err-cmd.ensures) in
+    let fails = two_fails_0 g.row.M-Kind.Denot Verb.Str texts c.in_err-cmd.field-0.0 (Upto MOST_WORD) Optional c.in-len2.len_at_least c.in-len2.len_below (upto_fails c.in_err-cmd.field-0.0 MOST_WORD (at texts 0) c.in_err-cmd.ensures) in
     search rules
 
 pub returns-in_err-dat : goal.returns-in_err-dat
 returns-in_err-dat g c =
     let texts = c.args.texts.now in
-    let fails = two_fails_1 g.row.K.Denot Verb.Str texts c.in_err-dat.field-0.0 (Upto MOST_WORD) Optional (Number c.in_ok-cmd.cmd) c.in-len2.len_at_least c.in-len2.len_below (upto MOST_WORD (at texts 0) c.in_ok-cmd.cmd c.in_ok-cmd.ensures) (optional_fails c.in_err-dat.field-0.0 (at texts 1) c.in_err-dat.ensures) in
+    let fails = two_fails_1 g.row.M-Kind.Denot Verb.Str texts c.in_err-dat.field-0.0 (Upto MOST_WORD) Optional (Number c.in_ok-cmd.cmd) c.in-len2.len_at_least c.in-len2.len_below (upto MOST_WORD (at texts 0) c.in_ok-cmd.cmd c.in_ok-cmd.ensures) (optional_fails c.in_err-dat.field-0.0 (at texts 1) c.in_err-dat.ensures) in
     search rules

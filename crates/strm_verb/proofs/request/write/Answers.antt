@@ -7,10 +7,10 @@ use Rattle.strm_verb.proofs.request.write.Goals as goal
 pub returns : goal.returns
 returns g c =
     let texts = c.args.texts.now in
-    of_one g.row.K.Denot Verb.Write texts Whole (Bytes c.in_ok-dat.dat) c.in-len1.len_at_least c.in-len1.len_below (whole (at texts 0) c.in_ok-dat.dat c.in_ok-dat.ensures)
+    of_one g.row.M-Kind.Denot Verb.Write texts Whole (Bytes c.in_ok-dat.dat) c.in-len1.len_at_least c.in-len1.len_below (whole (at texts 0) c.in_ok-dat.dat c.in_ok-dat.ensures)
 
 pub returns-in_err-dat : goal.returns-in_err-dat
 returns-in_err-dat g c =
     let texts = c.args.texts.now in
-    let fails = one_fails_0 g.row.K.Denot Verb.Write texts c.in_err-dat.field-0.0 Whole c.in-len1.len_at_least c.in-len1.len_below (whole_fails c.in_err-dat.field-0.0 (at texts 0) c.in_err-dat.ensures) in
+    let fails = one_fails_0 g.row.M-Kind.Denot Verb.Write texts c.in_err-dat.field-0.0 Whole c.in-len1.len_at_least c.in-len1.len_below (whole_fails c.in_err-dat.field-0.0 (at texts 0) c.in_err-dat.ensures) in
     search rules

@@ -8,7 +8,7 @@ use Rattle.strm_call.specs.declared.setup.Setup.{Setup}
 use Rattle.strm_entry.specs.declared.entry.Entry.{Entry}
 use Rattle.strm_entry.specs.declared.transcript.StreamLog.{StreamLog}
 use Rattle.strm_verb.specs.Field.{Word}
-use Rattle.strm_plan.specs.Plan.{Streams, Named}
+use Rattle.strm_plan.specs.Plan.{Streams, NamesValue}
 use Rattle.strm_script.specs.Fields.{KindSpelling, spaced}
 use Rattle.strm_script.specs.Lines.{event_text, answer_text, end_text, far_end_text, feed_text}
 use Rattle.strm_chart.specs.Columns.{all_bars, name_row, arrow, arrow_back, moved_text}
@@ -65,7 +65,7 @@ found_chart spelling processes None log = []
 found_chart spelling processes (Some stream) log = stream_chart spelling processes stream.0 stream.1 log
 
 -- that of the stream of a number; nothing where there is none
-abbrev pub numbered_chart : {K : Type 0} → KindSpelling K → Named → ℕ → StreamLog K → List ℕ
+abbrev pub numbered_chart : {K : Type 0} → KindSpelling K → NamesValue → ℕ → StreamLog K → List ℕ
 numbered_chart spelling names number log = found_chart spelling names.processes (slice_get names.streams number) log
 
 -- the charts of all streams, each with the name by which it was declared
@@ -73,5 +73,5 @@ abbrev pub streams_chart : {K : Type 0} → KindSpelling K → List (List ℕ) �
 streams_chart spelling processes streams logs = flat_map (λ stream. stream_chart spelling processes stream.0.0 stream.0.1 stream.1) (zip streams logs)
 
 -- the chart of a transcript, by the names of its streams and processes
-abbrev pub chart_text : {K : Type 0} → KindSpelling K → Named → List (StreamLog K) → List ℕ
+abbrev pub chart_text : {K : Type 0} → KindSpelling K → NamesValue → List (StreamLog K) → List ℕ
 chart_text spelling names logs = streams_chart spelling names.processes names.streams logs

@@ -41,7 +41,7 @@ pub record Whole (K : Type 0) : Type 0 where
   pub feeds : List Fed
 
 -- the names of streams, with how each is made, and of processes: by these a transcript is printed
-pub record Named : Type 0 where
+pub record NamesValue : Type 0 where
   pub streams : Streams
   pub processes : List (List ℕ)
 
@@ -83,7 +83,7 @@ plan_view plan =
     record { streams = streams_view plan.streams.entries; processes = map process_view plan.processes.items; feeds = map feed_view plan.feeds.items }
 
 -- the names of a plan
-abbrev pub names_view : Names → Named
+abbrev pub names_view : Names → NamesValue
 names_view names = record { streams = streams_view names.streams.entries; processes = map (λ name. name.items) names.processes.items }
 
 -- what goes on

@@ -5,7 +5,7 @@ ghost use Rattle.std.specs.Str.{bytes_eq};
 ghost use Rattle.strm_plan.specs.Plan.{process_view, streams_view};
 ghost use Rattle.strm_plan.specs.Reading as reading;
 ghost use Rattle.strm_plan.specs.Targets.{stream_names};
-ghost use Rattle.strm_verb.specs.Fault.{Gives};
+ghost use Rattle.strm_verb.specs.Fault.{Gives, Tells};
 
 use crate::plan::{LONGEST, Name, ProcessDecl};
 use indexmap::IndexMap;
@@ -29,15 +29,15 @@ fn has_process<M: ModuleOf>(processes: &[ProcessDecl<Boxed<M>>], chosen: &Name) 
 }
 
 /// The name of a stream to come. Refused where the text is no name, or a stream has it.
-pub(crate) fn stream_name(streams: &IndexMap<Name, Setup>, text: &[u8]) -> Result<Name, ReadError>
+pub(crate) fn stream_name(streams: &IndexMap<Name, Setup>, text: &[u8]) -> Result<Name, Cause>
     ensures unused { IfOk result (λ name. list_any (bytes_eq name.items) (stream_names (streams_view streams.now.entries)) ≡ false) }
-    ensures name { Gives (λ name. name.items) result (reading.fresh_name (stream_names (streams_view streams.now.entries)) text.now) }
+    ensures name { Tells (λ name. name.items) result (reading.fresh_name (stream_names (streams_view streams.now.entries)) text.now) }
 {
     let Some(chosen) = name::<LONGEST>(text) else {
-        return Err(ReadError::Fault(Cause::Name));
+        return Err(Cause::Name);
     };
     if has_stream(streams, &chosen) {
-        return Err(ReadError::Fault(Cause::Name));
+        return Err(Cause::Name);
     }
     Ok(chosen)
 }
@@ -47,14 +47,14 @@ pub(crate) fn stream_name(streams: &IndexMap<Name, Setup>, text: &[u8]) -> Resul
 pub(crate) fn process_name<M: ModuleOf>(
     processes: &[ProcessDecl<Boxed<M>>],
     text: &[u8],
-) -> Result<Name, ReadError>
-    ensures { Gives (λ name. name.items) result (reading.process_name (map process_view processes.now) text.now) }
+) -> Result<Name, Cause>
+    ensures { Tells (λ name. name.items) result (reading.process_name (map process_view processes.now) text.now) }
 {
     let Some(chosen) = name::<LONGEST>(text) else {
-        return Err(ReadError::Fault(Cause::Name));
+        return Err(Cause::Name);
     };
     if has_process(processes, &chosen) || chosen.as_slice() == b"line".as_slice() {
-        return Err(ReadError::Fault(Cause::Name));
+        return Err(Cause::Name);
     }
     Ok(chosen)
 }

@@ -1,21 +1,21 @@
 //! The fields of a stream line.
 ghost use Rattle.std.specs.Prelude.{◌≡◌, map};
 ghost use Rattle.strm_plan.specs.Reading as reading;
-ghost use Rattle.strm_verb.specs.Fault.{Gives};
+ghost use Rattle.strm_verb.specs.Fault.{Tells};
 
 use strm_call::{MOST_RING, Setup};
 use strm_module::Driver;
-use strm_verb::{Cause, ReadError, marks_at, number_at};
+use strm_verb::{Cause, marks_at, number_at};
 
 /// The driver that a word names.
-pub(crate) fn driver_at(text: &[u8]) -> Result<Driver, ReadError>
-    ensures { Gives (λ driver. driver) result (reading.driver_at text.now) }
+pub(crate) fn driver_at(text: &[u8]) -> Result<Driver, Cause>
+    ensures { Tells (λ driver. driver) result (reading.driver_at text.now) }
 {
     match text {
         b"echo" => Ok(Driver::Echo),
         b"loop" => Ok(Driver::Loop),
         b"line" => Ok(Driver::Line),
-        _ => Err(ReadError::Fault(Cause::UnknownWord)),
+        _ => Err(Cause::UnknownWord),
     }
 }
 
@@ -30,34 +30,34 @@ pub(crate) fn arity(driver: Driver) -> usize
 }
 
 /// How many messages a ring holds: 1 to 4096.
-fn ring_at(text: &[u8]) -> Result<u16, ReadError>
-    ensures { Gives (λ ring. ring) result (reading.ring_at text.now) }
+fn ring_at(text: &[u8]) -> Result<u16, Cause>
+    ensures { Tells (λ ring. ring) result (reading.ring_at text.now) }
 {
     let ring = number_at(text, u64::from(MOST_RING))?;
     if ring < 1 {
-        return Err(ReadError::Fault(Cause::Number));
+        return Err(Cause::Number);
     }
     Ok(ring as u16)
 }
 
 /// The ring that a line has and the other drivers have not.
-fn rings_at(driver: Driver, texts: &[&[u8]]) -> Result<u16, ReadError>
-    ensures { Gives (λ ring. ring) result (reading.rings_at driver (map (λ text. text.now) texts.now)) }
+fn rings_at(driver: Driver, texts: &[&[u8]]) -> Result<u16, Cause>
+    ensures { Tells (λ ring. ring) result (reading.rings_at driver (map (λ text. text.now) texts.now)) }
 {
     match (driver, texts) {
         (Driver::Line, [ring]) => ring_at(ring),
         (Driver::Echo | Driver::Loop, []) => Ok(1),
-        _ => Err(ReadError::Fault(Cause::Fields)),
+        _ => Err(Cause::Fields),
     }
 }
 
 /// How a stream of this driver is made, by the fields behind it.
 #[tactic(auto, unfolding(crate::specs::Reading::setup_at))]
-pub(crate) fn setup_at(driver: Driver, texts: &[&[u8]]) -> Result<Setup, ReadError>
-    ensures { Gives (λ setup. setup) result (reading.setup_at driver (map (λ text. text.now) texts.now)) }
+pub(crate) fn setup_at(driver: Driver, texts: &[&[u8]]) -> Result<Setup, Cause>
+    ensures { Tells (λ setup. setup) result (reading.setup_at driver (map (λ text. text.now) texts.now)) }
 {
     let [head, drv, texts @ ..] = texts else {
-        return Err(ReadError::Fault(Cause::Fields));
+        return Err(Cause::Fields);
     };
     let head = marks_at(head)?;
     let drv = marks_at(drv)?;

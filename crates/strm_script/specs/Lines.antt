@@ -19,7 +19,7 @@ use Rattle.strm_entry.specs.declared.entry.Entry.{Entry}
 use Rattle.strm_entry.specs.declared.transcript.StreamLog.{StreamLog}
 use Rattle.strm_verb.specs.Field.{Field, Number, Word}
 use Rattle.strm_verb.specs.Table.{word_of, asked_of}
-use Rattle.strm_plan.specs.Plan.{Streams, Named}
+use Rattle.strm_plan.specs.Plan.{Streams, NamesValue}
 use Rattle.strm_script.specs.Fields.{KindSpelling, spaced, verb_of, fields_of, message_fields}
 use Rattle.strm_script.specs.Replies.{answer_fields, name_fields}
 
@@ -92,7 +92,7 @@ found_text spelling processes None log = []
 found_text spelling processes (Some stream) log = stream_text spelling processes stream.0 stream.1 log
 
 -- the lines of the stream of a number; nothing where there is none (no public clause cites it)
-abbrev pub numbered_text : {K : Type 0} → KindSpelling K → Named → ℕ → StreamLog K → List ℕ
+abbrev pub numbered_text : {K : Type 0} → KindSpelling K → NamesValue → ℕ → StreamLog K → List ℕ
 numbered_text spelling names number log = found_text spelling names.processes (slice_get names.streams number) log
 
 -- the lines of all streams, each with the name by which it was declared
@@ -102,5 +102,5 @@ streams_text spelling processes (stream ∷ streams) [] = []
 streams_text spelling processes (stream ∷ streams) (log ∷ logs) = stream_text spelling processes stream.0 stream.1 log ++ streams_text spelling processes streams logs
 
 -- a transcript, by the names of its streams and processes
-abbrev pub transcript_text : {K : Type 0} → KindSpelling K → Named → List (StreamLog K) → List ℕ
+abbrev pub transcript_text : {K : Type 0} → KindSpelling K → NamesValue → List (StreamLog K) → List ℕ
 transcript_text spelling names logs = streams_text spelling names.processes names.streams logs

@@ -1,5 +1,5 @@
 -- The messages of a feed, whose parts are no greater than those that a call may send.
-use Rattle.std.specs.Prelude.{ℕ, Bool, List, [], ◌∷◌, Option, Some, None, Result, Ok, Err, codes, if◌then◌else◌}
+use Rattle.std.specs.Prelude.{ℕ, Bool, true, false, List, [], ◌∷◌, Option, Some, None, Result, Ok, Err, codes, if◌then◌else◌}
 use Rattle.std.specs.Str.{bytes_eq}
 use Rattle.strm_msg.specs.Message.{Msg, bare, data_msg, proto_msg, pcproto_msg}
 use Rattle.strm_msg.specs.declared.kind.MsgKind.TheVariants.{MSetopts, MFlush, MHangup, MError}
@@ -110,6 +110,13 @@ error2_at (read ∷ write ∷ []) = do
   wr ← kept_errno_at write
   Ok (bare (MError rd wr))
 error2_at texts = Err causes.Fields
+
+-- reading the message takes memory, for its parts
+abbrev pub takes_memory : MessageWord → Bool
+takes_memory MessageWord.Data = true
+takes_memory MessageWord.Proto = true
+takes_memory MessageWord.Pcproto = true
+takes_memory word = false
 
 -- the message that this word with these fields says
 abbrev pub message_at : MessageWord → List (List ℕ) → Result Msg Cause

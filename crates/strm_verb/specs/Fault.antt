@@ -25,6 +25,11 @@ abbrev pub Gives : {X Y : Type 0} → (X → Y) → Result X ReadError → Resul
 Gives view (Ok x) read = read ≡ Ok (view x)
 Gives view (Err error) read = Fails error read
 
+-- the same of what takes no memory: it is never wanting
+abbrev pub Tells : {X Y : Type 0} → (X → Y) → Result X Cause → Result Y Cause → Type 0
+Tells view (Ok x) read = read ≡ Ok (view x)
+Tells view (Err cause) read = read ≡ Err cause
+
 -- the number of a cause
 abbrev pub number_of : Cause → ℕ
 number_of TooLong = 1

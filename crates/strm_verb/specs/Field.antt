@@ -1,5 +1,5 @@
 -- What a field may be, and what it says.
-use Rattle.std.specs.Prelude.{ℕ, ◌==◌, nat_lt, nat_le, List, [], ◌∷◌, length, Option, Some, None, Result, Ok, Err, codes, if◌then◌else◌}
+use Rattle.std.specs.Prelude.{ℕ, Bool, true, false, ◌==◌, nat_lt, nat_le, List, [], ◌∷◌, length, Option, Some, None, Result, Ok, Err, codes, if◌then◌else◌}
 use Rattle.std.specs.Str.{bytes_eq}
 use Rattle.std.specs.List.{list_any}
 use Rattle.strm_msg.specs.Text.{name_of}
@@ -24,6 +24,12 @@ pub data Form : Type 0 where
   Upto : (most : ℕ) → Form
   -- one of these words
   Choice : (words : List (List ℕ)) → Form
+
+-- it may be a part, whose bytes take memory
+abbrev pub is_part : Form → Bool
+is_part Whole = true
+is_part Optional = true
+is_part form = false
 
 -- what a field says
 pub data Field : Type 0 where

@@ -1,10 +1,11 @@
 -- The calls of a script: the word of each, and its fields. Reading and printing go by this one table.
-use Rattle.std.specs.Prelude.{ℕ, Bool, true, false, List, [], ◌∷◌, length, Option, Result, Ok, codes, map, if◌then◌else◌}
+use Rattle.std.specs.Prelude.{ℕ, ◌||◌, Bool, true, false, List, [], ◌∷◌, length, Option, Result, Ok, codes, map, if◌then◌else◌}
+use Rattle.std.specs.List.{list_any}
 use Rattle.strm_module.specs.declared.shape.Shape.{Shape}
 use Rattle.strm_call.specs.declared.request.Request.{Request}
 use Rattle.strm_verb.specs.Fault.{◌>>=◌}
 use Rattle.strm_verb.specs.Words.{named, priority_word, all_priorities, put_word, all_puts, wanted_word, all_wanted, get_word, all_gets, mode_word, all_modes, prot_word, all_prots, flush_word, all_sides}
-use Rattle.strm_verb.specs.Field.{Form, Whole, Optional, Maximum, Upto, Choice, Field, Bytes, Number, Word, part_field, maximum_field, fields_at}
+use Rattle.strm_verb.specs.Field.{Form, Whole, Optional, Maximum, Upto, Choice, is_part, Field, Bytes, Number, Word, part_field, maximum_field, fields_at}
 use Rattle.strm_verb.specs.Naming.{KindWords, push_arity, shape_at}
 use Rattle.strm_verb.specs.declared.fault.Cause.{Cause}
 use Rattle.strm_verb.specs.declared.field.TheConstants.{MOST_ASKED, MOST_BAND, MOST_WORD}
@@ -63,6 +64,10 @@ forms_of verb = []
 abbrev pub is_push : Verb → Bool
 is_push Verb.Push = true
 is_push verb = false
+
+-- reading the call takes memory: for a part, or for a module
+abbrev pub takes_memory : Verb → Bool
+takes_memory verb = is_push verb || list_any is_part (forms_of verb)
 
 -- what a call asks for: a verb with what its fields say, or a module to be pushed
 pub data Asked (K : Type 0) : Type 0 where

@@ -1,7 +1,7 @@
 //! The messages of a feed.
-ghost use Rattle.std.specs.Prelude.{◌≡◌, true, map, IfOk};
+ghost use Rattle.std.specs.Prelude.{◌≡◌, true, map, IfOk, IsErrOf};
 ghost use Rattle.strm_msg.specs.Kind.{is_from_line};
-ghost use Rattle.strm_verb.specs.Fault.{Gives};
+ghost use Rattle.strm_verb.specs.Fault.{Gives, Tells};
 ghost use Rattle.strm_verb.specs.Arrival as arrivals;
 
 use crate::fault::{Cause, ReadError};
@@ -122,8 +122,8 @@ fn pcproto(alloc: Global, texts: &[&[u8]]) -> Result<Message, ReadError>
 }
 
 /// How reads treat the bounds of messages, or none for `-`. Refused where no mode has this word.
-fn kept_mode_at(text: &[u8]) -> Result<Option<ReadMode>, ReadError>
-    ensures { Gives (λ mode. mode) result (arrivals.kept_mode_at text.now) }
+fn kept_mode_at(text: &[u8]) -> Result<Option<ReadMode>, Cause>
+    ensures { Tells (λ mode. mode) result (arrivals.kept_mode_at text.now) }
 {
     if text == b"-".as_slice() {
         return Ok(None);
@@ -132,8 +132,8 @@ fn kept_mode_at(text: &[u8]) -> Result<Option<ReadMode>, ReadError>
 }
 
 /// How reads treat control, or none for `-`. Refused where no such way has this word.
-fn kept_prot_at(text: &[u8]) -> Result<Option<Prot>, ReadError>
-    ensures { Gives (λ prot. prot) result (arrivals.kept_prot_at text.now) }
+fn kept_prot_at(text: &[u8]) -> Result<Option<Prot>, Cause>
+    ensures { Tells (λ prot. prot) result (arrivals.kept_prot_at text.now) }
 {
     if text == b"-".as_slice() {
         return Ok(None);
@@ -142,12 +142,12 @@ fn kept_prot_at(text: &[u8]) -> Result<Option<Prot>, ReadError>
 }
 
 /// `setopts MODE PROT HI/LO`, where `-` leaves each as it is.
-fn setopts(texts: &[&[u8]]) -> Result<Message, ReadError>
-    ensures message { Gives (λ m. m) result (arrivals.setopts_at (map (λ text. text.now) texts.now)) }
+fn setopts(texts: &[&[u8]]) -> Result<Message, Cause>
+    ensures message { Tells (λ m. m) result (arrivals.setopts_at (map (λ text. text.now) texts.now)) }
     ensures line { IfOk result (λ m. is_from_line m.kind ≡ true) }
 {
     let [mode, prot, marks] = texts else {
-        return Err(ReadError::Fault(Cause::Fields));
+        return Err(Cause::Fields);
     };
     let mode = kept_mode_at(mode)?;
     let prot = kept_prot_at(prot)?;
@@ -156,43 +156,43 @@ fn setopts(texts: &[&[u8]]) -> Result<Message, ReadError>
 }
 
 /// `flush FLAGS`.
-fn flush(texts: &[&[u8]]) -> Result<Message, ReadError>
-    ensures message { Gives (λ m. m) result (arrivals.flush_msg_at (map (λ text. text.now) texts.now)) }
+fn flush(texts: &[&[u8]]) -> Result<Message, Cause>
+    ensures message { Tells (λ m. m) result (arrivals.flush_msg_at (map (λ text. text.now) texts.now)) }
     ensures line { IfOk result (λ m. is_from_line m.kind ≡ true) }
 {
     let [flags] = texts else {
-        return Err(ReadError::Fault(Cause::Fields));
+        return Err(Cause::Fields);
     };
     let (r, w) = choice_at(flags)?;
     Ok(Message::of_flush(r, w, None))
 }
 
 /// `hangup`.
-fn hangup(texts: &[&[u8]]) -> Result<Message, ReadError>
-    ensures message { Gives (λ m. m) result (arrivals.hangup_at (map (λ text. text.now) texts.now)) }
+fn hangup(texts: &[&[u8]]) -> Result<Message, Cause>
+    ensures message { Tells (λ m. m) result (arrivals.hangup_at (map (λ text. text.now) texts.now)) }
     ensures line { IfOk result (λ m. is_from_line m.kind ≡ true) }
 {
     match texts {
         [] => Ok(Message::of_hangup()),
-        _ => Err(ReadError::Fault(Cause::Fields)),
+        _ => Err(Cause::Fields),
     }
 }
 
 /// `error ERRNO`.
-fn error(texts: &[&[u8]]) -> Result<Message, ReadError>
-    ensures message { Gives (λ m. m) result (arrivals.error_at (map (λ text. text.now) texts.now)) }
+fn error(texts: &[&[u8]]) -> Result<Message, Cause>
+    ensures message { Tells (λ m. m) result (arrivals.error_at (map (λ text. text.now) texts.now)) }
     ensures line { IfOk result (λ m. is_from_line m.kind ≡ true) }
 {
     let [errno] = texts else {
-        return Err(ReadError::Fault(Cause::Fields));
+        return Err(Cause::Fields);
     };
     let errno = choice_at(errno)?;
     Ok(Message::of_error(errno))
 }
 
 /// An errno, or none for `-`. Refused where none has this name.
-fn kept_errno_at(text: &[u8]) -> Result<Option<Errno>, ReadError>
-    ensures { Gives (λ errno. errno) result (arrivals.kept_errno_at text.now) }
+fn kept_errno_at(text: &[u8]) -> Result<Option<Errno>, Cause>
+    ensures { Tells (λ errno. errno) result (arrivals.kept_errno_at text.now) }
 {
     if text == b"-".as_slice() {
         return Ok(None);
@@ -201,12 +201,12 @@ fn kept_errno_at(text: &[u8]) -> Result<Option<Errno>, ReadError>
 }
 
 /// `error2 READ WRITE`, where `-` leaves a side as it is.
-fn error2(texts: &[&[u8]]) -> Result<Message, ReadError>
-    ensures message { Gives (λ m. m) result (arrivals.error2_at (map (λ text. text.now) texts.now)) }
+fn error2(texts: &[&[u8]]) -> Result<Message, Cause>
+    ensures message { Tells (λ m. m) result (arrivals.error2_at (map (λ text. text.now) texts.now)) }
     ensures line { IfOk result (λ m. is_from_line m.kind ≡ true) }
 {
     let [read, write] = texts else {
-        return Err(ReadError::Fault(Cause::Fields));
+        return Err(Cause::Fields);
     };
     let read = kept_errno_at(read)?;
     let write = kept_errno_at(write)?;
@@ -214,19 +214,21 @@ fn error2(texts: &[&[u8]]) -> Result<Message, ReadError>
 }
 
 /// The message of a word with its fields. Refused where there are others than it has, and then for
-/// the first that does not say what it should, as a part of more bytes than a call may send.
+/// the first that does not say what it should, as a part of more bytes than a call may send; and for want
+/// of memory, where it has a part.
 pub fn message_at(alloc: Global, word: MessageWord, texts: &[&[u8]]) -> Result<Message, ReadError>
     ensures message { Gives (λ m. m) result (arrivals.message_at word (map (λ text. text.now) texts.now)) }
+    ensures memory { IsErrOf result ReadError.Memory → arrivals.takes_memory word ≡ true }
     ensures line { IfOk result (λ m. is_from_line m.kind ≡ true) }
 {
     match word {
         MessageWord::Data => data(alloc, texts),
         MessageWord::Proto => proto(alloc, texts),
         MessageWord::Pcproto => pcproto(alloc, texts),
-        MessageWord::Setopts => setopts(texts),
-        MessageWord::Flush => flush(texts),
-        MessageWord::Hangup => hangup(texts),
-        MessageWord::Error => error(texts),
-        MessageWord::Error2 => error2(texts),
+        MessageWord::Setopts => Ok(setopts(texts)?),
+        MessageWord::Flush => Ok(flush(texts)?),
+        MessageWord::Hangup => Ok(hangup(texts)?),
+        MessageWord::Error => Ok(error(texts)?),
+        MessageWord::Error2 => Ok(error2(texts)?),
     }
 }

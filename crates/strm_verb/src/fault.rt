@@ -99,6 +99,18 @@ pub enum ReadError {
     Fault(Cause),
 }
 
+/// What is wrong with the text.
+impl From<Cause> for ReadError {
+    ghost use Rattle.std.specs.Prelude.{◌≡◌};
+    ghost use Rattle.strm_verb.specs.declared.fault.ReadError.TheVariants as errors;
+
+    ghost from_gives = { λ cause error. error ≡ errors.Fault cause };
+
+    fn from(cause: Cause) -> Self {
+        ReadError::Fault(cause)
+    }
+}
+
 /// Want of memory.
 impl From<AllocError> for ReadError {
     ghost use Rattle.std.specs.Prelude.{◌≡◌};

@@ -1,7 +1,7 @@
 //! What a field says: numbers, parts, marks.
 ghost use Rattle.std.specs.Prelude.{◌≡◌, ◌≤◌, IfSome};
 ghost use Rattle.strm_text.specs.Text.{number_of};
-ghost use Rattle.strm_verb.specs.Fault.{Gives};
+ghost use Rattle.strm_verb.specs.Fault.{Gives, Tells};
 ghost use Rattle.strm_verb.specs.Field as fields;
 
 use crate::fault::{Cause, ReadError};
@@ -27,42 +27,42 @@ fn limited(text: &[u8], most: u64) -> Option<u64>
 }
 
 /// A number that is `most` at most. Refused where the text is none.
-pub fn number_at(text: &[u8], most: u64) -> Result<u64, ReadError>
-    ensures { Gives (λ n. n) result (fields.number_at most text.now) }
+pub fn number_at(text: &[u8], most: u64) -> Result<u64, Cause>
+    ensures { Tells (λ n. n) result (fields.number_at most text.now) }
 {
     match limited(text, most) {
         Some(n) => Ok(n),
-        None => Err(ReadError::Fault(Cause::Number)),
+        None => Err(Cause::Number),
     }
 }
 
 /// A number up to `MOST_BAND`. Refused where the text is none.
-pub fn byte_at(text: &[u8]) -> Result<u8, ReadError>
-    ensures { Gives (λ n. n) result (fields.number_at MOST_BAND text.now) }
+pub fn byte_at(text: &[u8]) -> Result<u8, Cause>
+    ensures { Tells (λ n. n) result (fields.number_at MOST_BAND text.now) }
 {
     match limited(text, MOST_BAND) {
         Some(n) => Ok(n as u8),
-        None => Err(ReadError::Fault(Cause::Number)),
+        None => Err(Cause::Number),
     }
 }
 
 /// A number up to `MOST_ASKED`. Refused where the text is none.
-pub fn short_at(text: &[u8]) -> Result<u16, ReadError>
-    ensures { Gives (λ n. n) result (fields.number_at MOST_ASKED text.now) }
+pub fn short_at(text: &[u8]) -> Result<u16, Cause>
+    ensures { Tells (λ n. n) result (fields.number_at MOST_ASKED text.now) }
 {
     match limited(text, MOST_ASKED) {
         Some(n) => Ok(n as u16),
-        None => Err(ReadError::Fault(Cause::Number)),
+        None => Err(Cause::Number),
     }
 }
 
 /// A number up to `MOST_WORD`. Refused where the text is none.
-pub fn word_at(text: &[u8]) -> Result<u32, ReadError>
-    ensures { Gives (λ n. n) result (fields.number_at MOST_WORD text.now) }
+pub fn word_at(text: &[u8]) -> Result<u32, Cause>
+    ensures { Tells (λ n. n) result (fields.number_at MOST_WORD text.now) }
 {
     match limited(text, MOST_WORD) {
         Some(n) => Ok(n as u32),
-        None => Err(ReadError::Fault(Cause::Number)),
+        None => Err(Cause::Number),
     }
 }
 
@@ -87,8 +87,8 @@ pub(crate) fn optional_at(alloc: Global, text: &[u8]) -> Result<Option<Bytes>, R
 }
 
 /// A number up to `MOST_ASKED`, or none for `-1`. Refused where the text is neither.
-pub(crate) fn maximum_at(text: &[u8]) -> Result<Option<u16>, ReadError>
-    ensures { Gives (λ most. most) result (fields.maximum_at text.now) }
+pub(crate) fn maximum_at(text: &[u8]) -> Result<Option<u16>, Cause>
+    ensures { Tells (λ most. most) result (fields.maximum_at text.now) }
 {
     if text == b"-1".as_slice() {
         return Ok(None);
@@ -98,32 +98,32 @@ pub(crate) fn maximum_at(text: &[u8]) -> Result<Option<u16>, ReadError>
 
 /// The water marks of `HI/LO`. Refused where a mark is no number, and then where the low one is not
 /// below the high one.
-fn water_at(text: &[u8]) -> Result<Marks, ReadError>
-    ensures { Gives fields.pair_of result (fields.marks_at text.now) }
+fn water_at(text: &[u8]) -> Result<Marks, Cause>
+    ensures { Tells fields.pair_of result (fields.marks_at text.now) }
 {
     let Some((high, low)) = split_once(text, b'/') else {
-        return Err(ReadError::Fault(Cause::Number));
+        return Err(Cause::Number);
     };
     let high = word_at(high)?;
     let low = word_at(low)?;
     match Marks::new(high, low) {
         Some(marks) => Ok(marks),
-        None => Err(ReadError::Fault(Cause::Marks)),
+        None => Err(Cause::Marks),
     }
 }
 
 /// The high and the low mark of `HI/LO`. Refused where a mark is no number up to `MOST_WORD`, and
 /// then where the low one is not below the high one.
-pub fn marks_at(text: &[u8]) -> Result<(u32, u32), ReadError>
-    ensures { Gives (λ marks. marks) result (fields.marks_at text.now) }
+pub fn marks_at(text: &[u8]) -> Result<(u32, u32), Cause>
+    ensures { Tells (λ marks. marks) result (fields.marks_at text.now) }
 {
     let marks = water_at(text)?;
     Ok((marks.hi, marks.lo))
 }
 
 /// The high and the low mark of `HI/LO`, or none for `-`. Refused as marks are.
-pub(crate) fn kept_marks_at(text: &[u8]) -> Result<Option<(u32, u32)>, ReadError>
-    ensures { Gives (λ marks. marks) result (fields.kept_marks_at text.now) }
+pub(crate) fn kept_marks_at(text: &[u8]) -> Result<Option<(u32, u32)>, Cause>
+    ensures { Tells (λ marks. marks) result (fields.kept_marks_at text.now) }
 {
     if text == b"-".as_slice() {
         return Ok(None);
@@ -132,8 +132,8 @@ pub(crate) fn kept_marks_at(text: &[u8]) -> Result<Option<(u32, u32)>, ReadError
 }
 
 /// The water marks of a side, or none for `-`. Refused as marks are.
-pub(crate) fn side_at(text: &[u8]) -> Result<Option<Marks>, ReadError>
-    ensures { Gives (λ side. side) result (fields.side_at text.now) }
+pub(crate) fn side_at(text: &[u8]) -> Result<Option<Marks>, Cause>
+    ensures { Tells (λ side. side) result (fields.side_at text.now) }
 {
     if text == b"-".as_slice() {
         return Ok(None);

@@ -1,7 +1,7 @@
 //! The kinds of module that a script can name, and the modules that it pushes.
 ghost use Rattle.std.specs.Prelude.{◌≡◌, map};
 ghost use Rattle.strm_text.specs.Text.{name_of};
-ghost use Rattle.strm_verb.specs.Fault.{Gives, or_fault};
+ghost use Rattle.strm_verb.specs.Fault.{Gives, Tells, or_fault};
 ghost use Rattle.strm_verb.specs.Naming as naming;
 
 use crate::fault::{Cause, ReadError};
@@ -58,25 +58,25 @@ pub trait ReadKind: Drop {
 
 /// How many fields a push has behind NAME:END. Refused where the first is missing, and where it
 /// names no kind.
-pub(crate) fn push_arity<K: ReadKind>(texts: &[&[u8]]) -> Result<usize, ReadError>
-    ensures { Gives (λ n. n) result (naming.push_arity K.words (map (λ text. text.now) texts.now)) }
+pub(crate) fn push_arity<K: ReadKind>(texts: &[&[u8]]) -> Result<usize, Cause>
+    ensures { Tells (λ n. n) result (naming.push_arity K.words (map (λ text. text.now) texts.now)) }
 {
     let [kind, ..] = texts else {
-        return Err(ReadError::Fault(Cause::Fields));
+        return Err(Cause::Fields);
     };
     match K::fields(kind) {
         Some(own) => Ok(usize::from(own) + 4),
-        None => Err(ReadError::Fault(Cause::UnknownWord)),
+        None => Err(Cause::UnknownWord),
     }
 }
 
 /// The name of a module. Refused where the text is none.
-fn name_at(text: &[u8]) -> Result<ArrayVec<u8, LONGEST_NAME>, ReadError>
-    ensures { Gives (λ name. name.items) result (or_fault Cause.Name (name_of LONGEST_NAME text.now)) }
+fn name_at(text: &[u8]) -> Result<ArrayVec<u8, LONGEST_NAME>, Cause>
+    ensures { Tells (λ name. name.items) result (or_fault Cause.Name (name_of LONGEST_NAME text.now)) }
 {
     match name(text) {
         Some(chosen) => Ok(chosen),
-        None => Err(ReadError::Fault(Cause::Name)),
+        None => Err(Cause::Name),
     }
 }
 

@@ -1,7 +1,7 @@
 //! The words of the built-in kinds.
 ghost use Rattle.std.specs.Prelude.{◌≡◌, ◌==◌, map};
 ghost use Rattle.std.specs.List.{list_any, position_or_len};
-ghost use Rattle.strm_verb.specs.Fault.{Gives};
+ghost use Rattle.strm_verb.specs.Fault.{Gives, Tells};
 ghost use Rattle.strm_verb.specs.Push as pushes;
 
 use crate::fault::{Cause, ReadError};
@@ -166,36 +166,36 @@ fn table_at(alloc: Global, texts: &[&[u8]]) -> Result<Kind, ReadError>
 
 /// The kind of BAND. Refused where there is not this one field, and where it is no number up to
 /// `MOST_BAND`.
-fn band_at(texts: &[&[u8]]) -> Result<Kind, ReadError>
-    ensures { Gives (λ kind. kind) result (pushes.band_at (map (λ text. text.now) texts.now)) }
+fn band_at(texts: &[&[u8]]) -> Result<Kind, Cause>
+    ensures { Tells (λ kind. kind) result (pushes.band_at (map (λ text. text.now) texts.now)) }
 {
     let [band] = texts else {
-        return Err(ReadError::Fault(Cause::Fields));
+        return Err(Cause::Fields);
     };
     Ok(Kind::Band { b: byte_at(band)? })
 }
 
 /// The kind of N. Refused where there is not this one field, and where it is no number of 1 to `MOST_SPLIT`.
-fn size_at(texts: &[&[u8]]) -> Result<Kind, ReadError>
-    ensures { Gives (λ kind. kind) result (pushes.size_at (map (λ text. text.now) texts.now)) }
+fn size_at(texts: &[&[u8]]) -> Result<Kind, Cause>
+    ensures { Tells (λ kind. kind) result (pushes.size_at (map (λ text. text.now) texts.now)) }
 {
     let [size] = texts else {
-        return Err(ReadError::Fault(Cause::Fields));
+        return Err(Cause::Fields);
     };
     let n = number_at(size, u64::from(MOST_SPLIT))?;
     if n == 0 {
-        return Err(ReadError::Fault(Cause::Number));
+        return Err(Cause::Number);
     }
     Ok(Kind::Split { n: n as u16 })
 }
 
 /// A kind without fields of its own. Refused where there is one.
-fn alone(kind: Kind, texts: &[&[u8]]) -> Result<Kind, ReadError>
-    ensures { Gives (λ kind. kind) result (pushes.alone kind (map (λ text. text.now) texts.now)) }
+fn alone(kind: Kind, texts: &[&[u8]]) -> Result<Kind, Cause>
+    ensures { Tells (λ kind. kind) result (pushes.alone kind (map (λ text. text.now) texts.now)) }
 {
     match texts {
         [] => Ok(kind),
-        _ => Err(ReadError::Fault(Cause::Fields)),
+        _ => Err(Cause::Fields),
     }
 }
 
@@ -205,20 +205,18 @@ fn kind_at(alloc: Global, word: KindWord, texts: &[&[u8]]) -> Result<Kind, ReadE
     ensures { Gives (λ kind. kind) result (pushes.kind_at word (map (λ text. text.now) texts.now)) }
 {
     match word {
-        KindWord::Pass => alone(Kind::Pass, texts),
+        KindWord::Pass => Ok(alone(Kind::Pass, texts)?),
         KindWord::Table => table_at(alloc, texts),
-        KindWord::CrNl => alone(Kind::CrNl, texts),
-        KindWord::Line => alone(
-            Kind::Line {
-                partial: Bytes::from(Vec::new(alloc)),
-            },
-            texts,
-        ),
-        KindWord::Count => alone(Kind::Count { n: 0 }, texts),
-        KindWord::Band => band_at(texts),
-        KindWord::Tee => alone(Kind::Tee, texts),
-        KindWord::Mute => alone(Kind::Mute, texts),
-        KindWord::Split => size_at(texts),
+        KindWord::CrNl => Ok(alone(Kind::CrNl, texts)?),
+        KindWord::Line => {
+            let partial = Bytes::from(Vec::new(alloc));
+            Ok(alone(Kind::Line { partial }, texts)?)
+        }
+        KindWord::Count => Ok(alone(Kind::Count { n: 0 }, texts)?),
+        KindWord::Band => Ok(band_at(texts)?),
+        KindWord::Tee => Ok(alone(Kind::Tee, texts)?),
+        KindWord::Mute => Ok(alone(Kind::Mute, texts)?),
+        KindWord::Split => Ok(size_at(texts)?),
     }
 }
 

@@ -1,6 +1,6 @@
 //! The calls of a script, read from their fields.
-ghost use Rattle.std.specs.Prelude.{map};
-ghost use Rattle.strm_verb.specs.Fault.{Gives};
+ghost use Rattle.std.specs.Prelude.{◌≡◌, true, map, IsErrOf};
+ghost use Rattle.strm_verb.specs.Fault.{Gives, Tells};
 ghost use Rattle.strm_verb.specs.Table as table;
 
 use crate::fault::{Cause, ReadError};
@@ -45,11 +45,11 @@ fn putpmsg<M: ModuleOf>(alloc: Global, texts: &[&[u8]]) -> Result<Request<Boxed<
 }
 
 /// `getmsg MAXCTL MAXDAT FLAG`.
-fn getmsg<M: ModuleOf>(texts: &[&[u8]]) -> Result<Request<Boxed<M>>, ReadError>
-    ensures { Gives table.asked_of result (table.told_at Verb.Getmsg (map (λ text. text.now) texts.now)) }
+fn getmsg<M: ModuleOf>(texts: &[&[u8]]) -> Result<Request<Boxed<M>>, Cause>
+    ensures { Tells table.asked_of result (table.told_at Verb.Getmsg (map (λ text. text.now) texts.now)) }
 {
     let [maxctl, maxdat, flag] = texts else {
-        return Err(ReadError::Fault(Cause::Fields));
+        return Err(Cause::Fields);
     };
     let maxctl = maximum_at(maxctl)?;
     let maxdat = maximum_at(maxdat)?;
@@ -62,11 +62,11 @@ fn getmsg<M: ModuleOf>(texts: &[&[u8]]) -> Result<Request<Boxed<M>>, ReadError>
 }
 
 /// `getpmsg MAXCTL MAXDAT BAND FLAG`.
-fn getpmsg<M: ModuleOf>(texts: &[&[u8]]) -> Result<Request<Boxed<M>>, ReadError>
-    ensures { Gives table.asked_of result (table.told_at Verb.Getpmsg (map (λ text. text.now) texts.now)) }
+fn getpmsg<M: ModuleOf>(texts: &[&[u8]]) -> Result<Request<Boxed<M>>, Cause>
+    ensures { Tells table.asked_of result (table.told_at Verb.Getpmsg (map (λ text. text.now) texts.now)) }
 {
     let [maxctl, maxdat, band, flag] = texts else {
-        return Err(ReadError::Fault(Cause::Fields));
+        return Err(Cause::Fields);
     };
     let maxctl = maximum_at(maxctl)?;
     let maxdat = maximum_at(maxdat)?;
@@ -81,11 +81,11 @@ fn getpmsg<M: ModuleOf>(texts: &[&[u8]]) -> Result<Request<Boxed<M>>, ReadError>
 }
 
 /// `read MAX`.
-fn read<M: ModuleOf>(texts: &[&[u8]]) -> Result<Request<Boxed<M>>, ReadError>
-    ensures { Gives table.asked_of result (table.told_at Verb.Read (map (λ text. text.now) texts.now)) }
+fn read<M: ModuleOf>(texts: &[&[u8]]) -> Result<Request<Boxed<M>>, Cause>
+    ensures { Tells table.asked_of result (table.told_at Verb.Read (map (λ text. text.now) texts.now)) }
 {
     let [max] = texts else {
-        return Err(ReadError::Fault(Cause::Fields));
+        return Err(Cause::Fields);
     };
     let max = short_at(max)?;
     Ok(Request::Read { max })
@@ -126,22 +126,22 @@ fn str<M: ModuleOf>(alloc: Global, texts: &[&[u8]]) -> Result<Request<Boxed<M>>,
 }
 
 /// `flush SIDES`.
-fn flush<M: ModuleOf>(texts: &[&[u8]]) -> Result<Request<Boxed<M>>, ReadError>
-    ensures { Gives table.asked_of result (table.told_at Verb.Flush (map (λ text. text.now) texts.now)) }
+fn flush<M: ModuleOf>(texts: &[&[u8]]) -> Result<Request<Boxed<M>>, Cause>
+    ensures { Tells table.asked_of result (table.told_at Verb.Flush (map (λ text. text.now) texts.now)) }
 {
     let [sides] = texts else {
-        return Err(ReadError::Fault(Cause::Fields));
+        return Err(Cause::Fields);
     };
     let (r, w) = choice_at(sides)?;
     Ok(Request::Flush { r, w })
 }
 
 /// `flushband BAND SIDES`.
-fn flush_band<M: ModuleOf>(texts: &[&[u8]]) -> Result<Request<Boxed<M>>, ReadError>
-    ensures { Gives table.asked_of result (table.told_at Verb.FlushBand (map (λ text. text.now) texts.now)) }
+fn flush_band<M: ModuleOf>(texts: &[&[u8]]) -> Result<Request<Boxed<M>>, Cause>
+    ensures { Tells table.asked_of result (table.told_at Verb.FlushBand (map (λ text. text.now) texts.now)) }
 {
     let [band, sides] = texts else {
-        return Err(ReadError::Fault(Cause::Fields));
+        return Err(Cause::Fields);
     };
     let band = byte_at(band)?;
     let (r, w) = choice_at(sides)?;
@@ -149,11 +149,11 @@ fn flush_band<M: ModuleOf>(texts: &[&[u8]]) -> Result<Request<Boxed<M>>, ReadErr
 }
 
 /// `peek MAXCTL MAXDAT FLAG`.
-fn peek<M: ModuleOf>(texts: &[&[u8]]) -> Result<Request<Boxed<M>>, ReadError>
-    ensures { Gives table.asked_of result (table.told_at Verb.Peek (map (λ text. text.now) texts.now)) }
+fn peek<M: ModuleOf>(texts: &[&[u8]]) -> Result<Request<Boxed<M>>, Cause>
+    ensures { Tells table.asked_of result (table.told_at Verb.Peek (map (λ text. text.now) texts.now)) }
 {
     let [maxctl, maxdat, flag] = texts else {
-        return Err(ReadError::Fault(Cause::Fields));
+        return Err(Cause::Fields);
     };
     let maxctl = maximum_at(maxctl)?;
     let maxdat = maximum_at(maxdat)?;
@@ -166,11 +166,11 @@ fn peek<M: ModuleOf>(texts: &[&[u8]]) -> Result<Request<Boxed<M>>, ReadError>
 }
 
 /// `setread MODE PROT`.
-fn set_read<M: ModuleOf>(texts: &[&[u8]]) -> Result<Request<Boxed<M>>, ReadError>
-    ensures { Gives table.asked_of result (table.told_at Verb.SetRead (map (λ text. text.now) texts.now)) }
+fn set_read<M: ModuleOf>(texts: &[&[u8]]) -> Result<Request<Boxed<M>>, Cause>
+    ensures { Tells table.asked_of result (table.told_at Verb.SetRead (map (λ text. text.now) texts.now)) }
 {
     let [mode, prot] = texts else {
-        return Err(ReadError::Fault(Cause::Fields));
+        return Err(Cause::Fields);
     };
     let mode = choice_at(mode)?;
     let prot = choice_at(prot)?;
@@ -178,22 +178,22 @@ fn set_read<M: ModuleOf>(texts: &[&[u8]]) -> Result<Request<Boxed<M>>, ReadError
 }
 
 /// `canput BAND`.
-fn canput<M: ModuleOf>(texts: &[&[u8]]) -> Result<Request<Boxed<M>>, ReadError>
-    ensures { Gives table.asked_of result (table.told_at Verb.Canput (map (λ text. text.now) texts.now)) }
+fn canput<M: ModuleOf>(texts: &[&[u8]]) -> Result<Request<Boxed<M>>, Cause>
+    ensures { Tells table.asked_of result (table.told_at Verb.Canput (map (λ text. text.now) texts.now)) }
 {
     let [band] = texts else {
-        return Err(ReadError::Fault(Cause::Fields));
+        return Err(Cause::Fields);
     };
     let band = byte_at(band)?;
     Ok(Request::Canput { band })
 }
 
 /// `ckband BAND`.
-fn ckband<M: ModuleOf>(texts: &[&[u8]]) -> Result<Request<Boxed<M>>, ReadError>
-    ensures { Gives table.asked_of result (table.told_at Verb.Ckband (map (λ text. text.now) texts.now)) }
+fn ckband<M: ModuleOf>(texts: &[&[u8]]) -> Result<Request<Boxed<M>>, Cause>
+    ensures { Tells table.asked_of result (table.told_at Verb.Ckband (map (λ text. text.now) texts.now)) }
 {
     let [band] = texts else {
-        return Err(ReadError::Fault(Cause::Fields));
+        return Err(Cause::Fields);
     };
     let band = byte_at(band)?;
     Ok(Request::Ckband { band })
@@ -219,18 +219,18 @@ where
 fn plain<M: ModuleOf>(
     texts: &[&[u8]],
     request: Request<Boxed<M>>,
-) -> Result<Request<Boxed<M>>, ReadError>
-    ensures { Gives table.asked_of result (table.plain_at (table.asked_of request) (map (λ text. text.now) texts.now)) }
+) -> Result<Request<Boxed<M>>, Cause>
+    ensures { Tells table.asked_of result (table.plain_at (table.asked_of request) (map (λ text. text.now) texts.now)) }
 {
     match texts {
         [] => Ok(request),
-        _ => Err(ReadError::Fault(Cause::Fields)),
+        _ => Err(Cause::Fields),
     }
 }
 
 /// What a call asks for, by its fields behind NAME:END; the module of a push gets the serial.
 /// Refused where there are others than it has, and then for the first that does not say what it
-/// should.
+/// should; and for want of memory, where a field is a part or the call is a push.
 pub fn request_at<M: PlayModule>(
     alloc: Global,
     serial: u64,
@@ -239,30 +239,31 @@ pub fn request_at<M: PlayModule>(
 ) -> Result<Request<Boxed<M>>, ReadError>
 where
     M::Kind: ReadKind,
-    ensures { Gives table.asked_of result (table.request_at M.Kind.words serial verb (map (λ text. text.now) texts.now)) }
+    ensures asked { Gives table.asked_of result (table.request_at M.Kind.words serial verb (map (λ text. text.now) texts.now)) }
+    ensures memory { IsErrOf result ReadError.Memory → table.takes_memory verb ≡ true }
 {
     match verb {
         Verb::Putmsg => putmsg(alloc, texts),
         Verb::Putpmsg => putpmsg(alloc, texts),
-        Verb::Getmsg => getmsg(texts),
-        Verb::Getpmsg => getpmsg(texts),
-        Verb::Read => read(texts),
+        Verb::Getmsg => Ok(getmsg(texts)?),
+        Verb::Getpmsg => Ok(getpmsg(texts)?),
+        Verb::Read => Ok(read(texts)?),
         Verb::Write => write(alloc, texts),
         Verb::Push => push(alloc, serial, texts),
-        Verb::Pop => plain(texts, Request::Pop),
-        Verb::Look => plain(texts, Request::Look),
-        Verb::List => plain(texts, Request::List),
+        Verb::Pop => Ok(plain(texts, Request::Pop)?),
+        Verb::Look => Ok(plain(texts, Request::Look)?),
+        Verb::List => Ok(plain(texts, Request::List)?),
         Verb::Find => find(alloc, texts),
         Verb::Str => str(alloc, texts),
-        Verb::Flush => flush(texts),
-        Verb::FlushBand => flush_band(texts),
-        Verb::Nread => plain(texts, Request::Nread),
-        Verb::Peek => peek(texts),
-        Verb::SetRead => set_read(texts),
-        Verb::GetRead => plain(texts, Request::GetRead),
-        Verb::Canput => canput(texts),
-        Verb::Ckband => ckband(texts),
-        Verb::Getband => plain(texts, Request::Getband),
-        Verb::Close => plain(texts, Request::Close),
+        Verb::Flush => Ok(flush(texts)?),
+        Verb::FlushBand => Ok(flush_band(texts)?),
+        Verb::Nread => Ok(plain(texts, Request::Nread)?),
+        Verb::Peek => Ok(peek(texts)?),
+        Verb::SetRead => Ok(set_read(texts)?),
+        Verb::GetRead => Ok(plain(texts, Request::GetRead)?),
+        Verb::Canput => Ok(canput(texts)?),
+        Verb::Ckband => Ok(ckband(texts)?),
+        Verb::Getband => Ok(plain(texts, Request::Getband)?),
+        Verb::Close => Ok(plain(texts, Request::Close)?),
     }
 }

@@ -1,9 +1,9 @@
 //! The calls of a script, by their words.
 ghost use Rattle.std.specs.Prelude.{◌≡◌, length, map};
-ghost use Rattle.strm_verb.specs.Fault.{Gives};
+ghost use Rattle.strm_verb.specs.Fault.{Tells};
 ghost use Rattle.strm_verb.specs.Table as table;
 
-use crate::fault::ReadError;
+use crate::fault::Cause;
 use crate::kinds::{ReadKind, push_arity};
 use crate::worded::{Worded, named};
 
@@ -79,8 +79,8 @@ impl Verb {
 
     /// How many fields the call has behind NAME:END; for a push that hangs on the first of them,
     /// which is refused where it is missing or names no kind of module.
-    pub fn arity<K: ReadKind>(self, texts: &[&[u8]]) -> Result<usize, ReadError>
-        ensures { Gives (λ n. n) result (table.arity_at K.words self (map (λ text. text.now) texts.now)) }
+    pub fn arity<K: ReadKind>(self, texts: &[&[u8]]) -> Result<usize, Cause>
+        ensures { Tells (λ n. n) result (table.arity_at K.words self (map (λ text. text.now) texts.now)) }
     {
         if matches!(self, Verb::Push) {
             return push_arity::<K>(texts);

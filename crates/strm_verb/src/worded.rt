@@ -1,10 +1,10 @@
 //! What scripts name by words.
 ghost use Rattle.std.specs.Prelude.{◌≡◌, map};
-ghost use Rattle.strm_verb.specs.Fault.{Gives, or_fault};
+ghost use Rattle.strm_verb.specs.Fault.{Tells, or_fault};
 ghost use Rattle.strm_verb.specs.Field.{choice_at};
 ghost use Rattle.strm_verb.specs.Words.{named};
 
-use crate::fault::{Cause, ReadError};
+use crate::fault::Cause;
 
 /// What a script names by a word, and a transcript by the same: a call, a flag, a kind of module.
 pub trait Worded: Copy + 'static {
@@ -38,12 +38,12 @@ pub fn named<W: Worded>(text: &[u8]) -> Option<W>
 }
 
 /// What this word names. Refused where it names none.
-pub(crate) fn choice_at<W: Worded>(text: &[u8]) -> Result<W, ReadError>
-    ensures choice { Gives W.word result (choice_at (map W.word W.all) text.now) }
-    ensures value { Gives (λ one. one) result (or_fault Cause.UnknownWord (named W.word W.all text.now)) }
+pub(crate) fn choice_at<W: Worded>(text: &[u8]) -> Result<W, Cause>
+    ensures choice { Tells W.word result (choice_at (map W.word W.all) text.now) }
+    ensures value { Tells (λ one. one) result (or_fault Cause.UnknownWord (named W.word W.all text.now)) }
 {
     match named(text) {
         Some(one) => Ok(one),
-        None => Err(ReadError::Fault(Cause::UnknownWord)),
+        None => Err(Cause::UnknownWord),
     }
 }

@@ -2,6 +2,7 @@ use Rattle.std.proofs.Common.{map, rules}
 use Rattle.strm_verb.specs.Field.{Optional, part_field, Choice, Word}
 use Rattle.strm_verb.specs.Words.{all_priorities, priority_word}
 use Rattle.strm_verb.specs.declared.verb.Verb.{Verb}
+use Rattle.strm_verb.specs.declared.fault.ReadError.TheVariants as errors
 use Rattle.strm_verb.proofs.RequestLemmas.{at, optional, optional_fails, choice, choice_fails, of_three, three_fails_0, three_fails_1, three_fails_2}
 use Rattle.strm_verb.proofs.request.putmsg.Goals as goal
 
@@ -25,5 +26,5 @@ returns-in_err-dat g c =
 pub returns-in_err-flag : goal.returns-in_err-flag
 returns-in_err-flag g c =
     let texts = c.args.texts.now in
-    let fails = three_fails_2 g.row.M-Kind.Denot Verb.Putmsg texts c.in_err-flag.field-0.0 Optional Optional (Choice (map priority_word all_priorities)) (part_field c.in_ok-ctl.ctl) (part_field c.in_ok-dat.dat) c.in-len3.len_at_least c.in-len3.len_below (optional (at texts 0) c.in_ok-ctl.ctl c.in_ok-ctl.ensures) (optional (at texts 1) c.in_ok-dat.dat c.in_ok-dat.ensures) (choice_fails c.in_err-flag.field-0.0 (map priority_word all_priorities) (at texts 2) c.in_err-flag.ensures.choice) in
+    let fails = three_fails_2 g.row.M-Kind.Denot Verb.Putmsg texts (errors.Fault c.in_err-flag.field-0.0) Optional Optional (Choice (map priority_word all_priorities)) (part_field c.in_ok-ctl.ctl) (part_field c.in_ok-dat.dat) c.in-len3.len_at_least c.in-len3.len_below (optional (at texts 0) c.in_ok-ctl.ctl c.in_ok-ctl.ensures) (optional (at texts 1) c.in_ok-dat.dat c.in_ok-dat.ensures) (choice_fails (errors.Fault c.in_err-flag.field-0.0) (map priority_word all_priorities) (at texts 2) c.in_err-flag.ensures.choice) in
     search rules

@@ -3,6 +3,7 @@ use Rattle.strm_verb.specs.Field.{Optional, part_field, Upto, Number, Choice, Wo
 use Rattle.strm_verb.specs.Words.{all_puts, put_word}
 use Rattle.strm_verb.specs.declared.field.TheConstants.{MOST_BAND}
 use Rattle.strm_verb.specs.declared.verb.Verb.{Verb}
+use Rattle.strm_verb.specs.declared.fault.ReadError.TheVariants as errors
 use Rattle.strm_verb.proofs.RequestLemmas.{at, optional, optional_fails, upto, upto_fails, choice, choice_fails, of_four, four_fails_0, four_fails_1, four_fails_2, four_fails_3}
 use Rattle.strm_verb.proofs.request.putpmsg.Goals as goal
 
@@ -26,11 +27,11 @@ returns-in_err-dat g c =
 pub returns-in_err-band : goal.returns-in_err-band
 returns-in_err-band g c =
     let texts = c.args.texts.now in
-    let fails = four_fails_2 g.row.M-Kind.Denot Verb.Putpmsg texts c.in_err-band.field-0.0 Optional Optional (Upto MOST_BAND) (Choice (map put_word all_puts)) (part_field c.in_ok-ctl.ctl) (part_field c.in_ok-dat.dat) c.in-len4.len_at_least c.in-len4.len_below (optional (at texts 0) c.in_ok-ctl.ctl c.in_ok-ctl.ensures) (optional (at texts 1) c.in_ok-dat.dat c.in_ok-dat.ensures) (upto_fails c.in_err-band.field-0.0 MOST_BAND (at texts 2) c.in_err-band.ensures) in
+    let fails = four_fails_2 g.row.M-Kind.Denot Verb.Putpmsg texts (errors.Fault c.in_err-band.field-0.0) Optional Optional (Upto MOST_BAND) (Choice (map put_word all_puts)) (part_field c.in_ok-ctl.ctl) (part_field c.in_ok-dat.dat) c.in-len4.len_at_least c.in-len4.len_below (optional (at texts 0) c.in_ok-ctl.ctl c.in_ok-ctl.ensures) (optional (at texts 1) c.in_ok-dat.dat c.in_ok-dat.ensures) (upto_fails (errors.Fault c.in_err-band.field-0.0) MOST_BAND (at texts 2) c.in_err-band.ensures) in
     search rules
 
 pub returns-in_err-flag : goal.returns-in_err-flag
 returns-in_err-flag g c =
     let texts = c.args.texts.now in
-    let fails = four_fails_3 g.row.M-Kind.Denot Verb.Putpmsg texts c.in_err-flag.field-0.0 Optional Optional (Upto MOST_BAND) (Choice (map put_word all_puts)) (part_field c.in_ok-ctl.ctl) (part_field c.in_ok-dat.dat) (Number c.in_ok-band.band) c.in-len4.len_at_least c.in-len4.len_below (optional (at texts 0) c.in_ok-ctl.ctl c.in_ok-ctl.ensures) (optional (at texts 1) c.in_ok-dat.dat c.in_ok-dat.ensures) (upto MOST_BAND (at texts 2) c.in_ok-band.band c.in_ok-band.ensures) (choice_fails c.in_err-flag.field-0.0 (map put_word all_puts) (at texts 3) c.in_err-flag.ensures.choice) in
+    let fails = four_fails_3 g.row.M-Kind.Denot Verb.Putpmsg texts (errors.Fault c.in_err-flag.field-0.0) Optional Optional (Upto MOST_BAND) (Choice (map put_word all_puts)) (part_field c.in_ok-ctl.ctl) (part_field c.in_ok-dat.dat) (Number c.in_ok-band.band) c.in-len4.len_at_least c.in-len4.len_below (optional (at texts 0) c.in_ok-ctl.ctl c.in_ok-ctl.ensures) (optional (at texts 1) c.in_ok-dat.dat c.in_ok-dat.ensures) (upto MOST_BAND (at texts 2) c.in_ok-band.band c.in_ok-band.ensures) (choice_fails (errors.Fault c.in_err-flag.field-0.0) (map put_word all_puts) (at texts 3) c.in_err-flag.ensures.choice) in
     search rules

@@ -2,6 +2,7 @@ use Rattle.std.proofs.Common.{rules}
 use Rattle.strm_verb.specs.Field.{Upto, Number, Optional, part_field}
 use Rattle.strm_verb.specs.declared.field.TheConstants.{MOST_WORD}
 use Rattle.strm_verb.specs.declared.verb.Verb.{Verb}
+use Rattle.strm_verb.specs.declared.fault.ReadError.TheVariants as errors
 use Rattle.strm_verb.proofs.RequestLemmas.{at, upto, upto_fails, optional, optional_fails, of_two, two_fails_0, two_fails_1}
 use Rattle.strm_verb.proofs.request.str.Goals as goal
 
@@ -13,7 +14,7 @@ returns g c =
 pub returns-in_err-cmd : goal.returns-in_err-cmd
 returns-in_err-cmd g c =
     let texts = c.args.texts.now in
-    let fails = two_fails_0 g.row.M-Kind.Denot Verb.Str texts c.in_err-cmd.field-0.0 (Upto MOST_WORD) Optional c.in-len2.len_at_least c.in-len2.len_below (upto_fails c.in_err-cmd.field-0.0 MOST_WORD (at texts 0) c.in_err-cmd.ensures) in
+    let fails = two_fails_0 g.row.M-Kind.Denot Verb.Str texts (errors.Fault c.in_err-cmd.field-0.0) (Upto MOST_WORD) Optional c.in-len2.len_at_least c.in-len2.len_below (upto_fails (errors.Fault c.in_err-cmd.field-0.0) MOST_WORD (at texts 0) c.in_err-cmd.ensures) in
     search rules
 
 pub returns-in_err-dat : goal.returns-in_err-dat

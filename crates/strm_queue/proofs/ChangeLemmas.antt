@@ -8,21 +8,14 @@ use Rattle.std.proofs.lemmas.List.{nil_from_length, get_or-set_same, append-nil}
 use Rattle.std.proofs.lemmas.List.Elements.{filter-append}
 use Rattle.strm_msg.specs.Message.{Msg, rank_of}
 use Rattle.strm_queue.specs.Queue.{is_flushed, flush_of, put_in, put_back_in}
-use Rattle.strm_queue.specs.Lanes.{Ranked, stands_in, is_laned, messages_of, spare_of, IsPlace}
+use Rattle.strm_queue.specs.Lanes.{Ranked, stands_in, is_laned, messages_of, spare_of, IsPlace, StaysEmpty}
+use Rattle.strm_queue.proofs.FrontLemmas.{set-empty}
 use Rattle.strm_queue.proofs.ListLemmas.{right_of, all_filter, filter_ext, filter_twice}
 use Rattle.strm_queue.proofs.PlaceLemmas.{lane_at, stands-place, is_laned-set, spare-set, length-set_lane, put_in-set, put_back_in-set, first-set, flush-set}
-
-pub either : {A E : Type 0} (r : Result A E) (P Q G : Type 0) → OnOk r P → OnErr r Q → (P → G) → (Q → G) → G
-either (Ok x) P Q G p q f g = f p
-either (Err e) P Q G p q f g = g q
 
 pub on_ok : {A E : Type 0} (r : Result A E) (P Q : Type 0) → (P → Q) → OnOk r P → OnOk r Q
 on_ok (Ok x) P Q f p = f p
 on_ok (Err e) P Q f p = tt
-
-pub on_err : {A E : Type 0} (r : Result A E) (P Q : Type 0) → (P → Q) → OnErr r P → OnErr r Q
-on_err (Ok x) P Q f p = tt
-on_err (Err e) P Q f p = f p
 
 pub on_any_err : {A E : Type 0} (r : Result A E) (Q : Type 0) → Q → OnErr r Q
 on_any_err (Ok x) Q q = tt
@@ -52,6 +45,13 @@ module _ (lanes : List Ranked) (at : ℕ) (lane new : Ranked) (less : at < lengt
       same_messages [] at less e = absurd (omega arith)
       same_messages (x ∷ xs) zero less e = rw e refl
       same_messages (x ∷ xs) (suc i) less e = ap (λ ys. x.messages ++ ys) (same_messages xs i (omega arith) e)
+
+  -- the lanes at the front stay empty where the lane does
+  pub stays-empty : (lane.messages ≡ [] → new.messages ≡ []) → StaysEmpty lanes (set lanes at new)
+  stays-empty none = set-empty new lane lanes at (λ empty. none (ap (λ (x : Ranked). x.messages) is ∙ empty))
+
+  pub flush-empty : new.messages ≡ flush_of lane.messages → StaysEmpty lanes (set lanes at new)
+  flush-empty e = stays-empty (λ none. rw (e, none) refl)
 
   pub put-behind : (m : Msg) → is_laned lanes ≡ true → lane.rank ≡ rank_of m → new.messages ≡ lane.messages ++ m ∷ [] → messages_of (set lanes at new) ≡ put_in (messages_of lanes) m
   put-behind m h rank e = put_in-set new lane m lanes at h less (ap (λ (x : Ranked). x.rank) (sym is) ∙ rank) (e ∙ ap (λ (x : Ranked). x.messages ++ m ∷ []) is)

@@ -1,5 +1,6 @@
 pub mod ChangeLemmas
 pub mod Flushing
+pub mod FrontLemmas
 pub mod LaneLemmas
 pub mod LanesLemmas
 pub mod ListLemmas

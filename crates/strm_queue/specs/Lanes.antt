@@ -1,5 +1,5 @@
 -- A queue kept as one list for each rank. No public clause cites what stands here.
-use Rattle.std.specs.Prelude.{◌≡◌, ℕ, ◌^◌, ◌==◌, ◌<◌, ◌&&◌, nat_lt, Bool, true, List, [], ◌∷◌, length, if◌then◌else◌, slice_index_or}
+use Rattle.std.specs.Prelude.{◌≡◌, ℕ, ◌^◌, ◌==◌, ◌<◌, ◌&&◌, nat_lt, Bool, true, List, [], ◌∷◌, length, take, if◌then◌else◌, slice_index_or}
 use Rattle.std.specs.List.{list_all, flat_map, prefix_len}
 use Rattle.strm_msg.specs.Message.{Msg, weight_of}
 use Rattle.strm_msg.specs.Kind.{is_high}
@@ -44,12 +44,22 @@ place_of rank lanes = prefix_len (λ lane. nat_lt rank lane.rank) lanes
 abbrev pub IsPlace : ℕ → ℕ → List Ranked → Type 0
 IsPlace rank at lanes = (at < length lanes) × ((d : Ranked) → (slice_index_or lanes at d).rank ≡ rank)
 
+-- no lane before the n-th has a message
+abbrev pub IsEmptyBefore : ℕ → List Ranked → Type 0
+IsEmptyBefore n lanes = messages_of (take n lanes) ≡ []
+
+-- as many lanes at the front have no message as had none
+abbrev pub StaysEmpty : List Ranked → List Ranked → Type 0
+StaysEmpty old new = (n : ℕ) → IsEmptyBefore n old → IsEmptyBefore n new
+
 -- no message weighs as much as 2 ^ 65
 abbrev pub is_light : Msg → Bool
 is_light m = nat_lt (weight_of m) (2 ^ 65)
 
--- the lanes of a queue, with the count of its messages, of which there are fewer than 2 ^ 63
-pub record IsKept (lanes : List Ranked) (count : ℕ) : Type 0 where
+-- the lanes of a queue, with how many at the front are known to be empty, and the count of its messages, of which
+-- there are fewer than 2 ^ 63
+pub record IsKept (lanes : List Ranked) (front count : ℕ) : Type 0 where
   pub laned : is_laned lanes ≡ true
+  pub empty : IsEmptyBefore front lanes
   pub counted : count ≡ length (messages_of lanes)
   pub most : count < 2 ^ 63

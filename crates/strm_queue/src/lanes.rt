@@ -2,7 +2,7 @@
 ghost use Rattle.std.specs.Prelude.{◌≡◌, ℕ, ◌+◌, ◌*◌, ◌^◌, ◌<◌, ◌≤◌, ◌↔◌, ◌&&◌, ◌∷◌, [], not, true, take, length, min, filter, sum_by, slice_index_or, slice_get, option_copied, IsTrue, IsOk, IfOk, OnOk, OnErr, IfErr, MatchOption};
 ghost use Rattle.strm_msg.specs.Message.{rank_of, weight_of};
 ghost use Rattle.strm_queue.specs.Queue.{put_in, put_back_in, flush_of, is_flushed};
-ghost use Rattle.strm_queue.specs.Lanes.{Ranked, stands_in, is_laned, messages_of, at_rank, spare_of, place_of, IsPlace};
+ghost use Rattle.strm_queue.specs.Lanes.{Ranked, stands_in, is_laned, messages_of, at_rank, spare_of, place_of, IsPlace, IsEmptyBefore, StaysEmpty};
 
 use crate::lane::Lane;
 use strm_msg::{BoxedMessage, Message, NoMem};
@@ -57,6 +57,8 @@ pub(crate) fn find_or_make(lanes: &mut Vec<Lane>, rank: u16) -> Result<usize, No
     ensures messages { messages_of lanes.new.items ≡ messages_of lanes.old.items }
     ensures room { (other : ℕ) → spare_of other lanes.old.items ≤ spare_of other lanes.new.items }
     ensures place { IfOk result (λ at. IsPlace rank at lanes.new.items) }
+    ensures before { IfOk result (λ at. take at lanes.new.items ≡ take at lanes.old.items) }
+    ensures empty { StaysEmpty lanes.old.items lanes.new.items }
     ensures enough { 0 < spare_of rank lanes.old.items → IsOk result }
 {
     let at = place_of(lanes.as_slice(), rank);
@@ -76,6 +78,7 @@ pub(crate) fn reserve_at(lanes: &mut Vec<Lane>, rank: u16) -> Result<(), NoMem>
     ensures laned { is_laned lanes.new.items ≡ true }
     ensures messages { messages_of lanes.new.items ≡ messages_of lanes.old.items }
     ensures kept { (other : ℕ) → spare_of other lanes.old.items ≤ spare_of other lanes.new.items }
+    ensures empty { StaysEmpty lanes.old.items lanes.new.items }
     ensures room { OnOk result (0 < spare_of rank lanes.new.items) }
     ensures enough { 0 < spare_of rank lanes.old.items → IsOk result }
 {
@@ -84,8 +87,9 @@ pub(crate) fn reserve_at(lanes: &mut Vec<Lane>, rank: u16) -> Result<(), NoMem>
     lane.reserve()
 }
 
-/// Puts a message behind those of its rank. It comes back for want of memory alone.
-pub(crate) fn put_behind(lanes: &mut Vec<Lane>, m: BoxedMessage) -> Result<(), BoxedMessage>
+/// Puts a message behind those of its rank, and answers the place of its lane. The message comes back
+/// for want of memory alone.
+pub(crate) fn put_behind(lanes: &mut Vec<Lane>, m: BoxedMessage) -> Result<usize, BoxedMessage>
     requires { is_laned lanes.old.items ≡ true }
     ensures laned { is_laned lanes.new.items ≡ true }
     ensures ok { OnOk result (messages_of lanes.new.items ≡ put_in (messages_of lanes.old.items) m) }
@@ -94,16 +98,20 @@ pub(crate) fn put_behind(lanes: &mut Vec<Lane>, m: BoxedMessage) -> Result<(), B
     ensures room { 0 < spare_of (min (rank_of m) 256) lanes.old.items → IsOk result }
     ensures spent { OnOk result ((other : ℕ) → spare_of other lanes.old.items ≤ spare_of other lanes.new.items + 1) }
     ensures unspent { OnErr result ((other : ℕ) → spare_of other lanes.old.items ≤ spare_of other lanes.new.items) }
+    ensures before { IfOk result (λ at. take at lanes.new.items ≡ take at lanes.old.items) }
+    ensures empty { OnErr result (StaysEmpty lanes.old.items lanes.new.items) }
 {
     let Ok(at) = find_or_make(lanes, rank_of(&m)) else {
         return Err(m);
     };
     let lane = &mut lanes[at];
-    lane.push_back(m)
+    lane.push_back(m)?;
+    Ok(at)
 }
 
-/// Puts a message before those of its rank. It comes back for want of memory alone.
-pub(crate) fn put_before(lanes: &mut Vec<Lane>, m: BoxedMessage) -> Result<(), BoxedMessage>
+/// Puts a message before those of its rank, and answers the place of its lane. The message comes back
+/// for want of memory alone.
+pub(crate) fn put_before(lanes: &mut Vec<Lane>, m: BoxedMessage) -> Result<usize, BoxedMessage>
     requires { is_laned lanes.old.items ≡ true }
     ensures laned { is_laned lanes.new.items ≡ true }
     ensures ok { OnOk result (messages_of lanes.new.items ≡ put_back_in (messages_of lanes.old.items) m) }
@@ -112,42 +120,51 @@ pub(crate) fn put_before(lanes: &mut Vec<Lane>, m: BoxedMessage) -> Result<(), B
     ensures room { 0 < spare_of (min (rank_of m) 256) lanes.old.items → IsOk result }
     ensures spent { OnOk result ((other : ℕ) → spare_of other lanes.old.items ≤ spare_of other lanes.new.items + 1) }
     ensures unspent { OnErr result ((other : ℕ) → spare_of other lanes.old.items ≤ spare_of other lanes.new.items) }
+    ensures before { IfOk result (λ at. take at lanes.new.items ≡ take at lanes.old.items) }
+    ensures empty { OnErr result (StaysEmpty lanes.old.items lanes.new.items) }
 {
     let Ok(at) = find_or_make(lanes, rank_of(&m)) else {
         return Err(m);
     };
     let lane = &mut lanes[at];
-    lane.push_front(m)
+    lane.push_front(m)?;
+    Ok(at)
 }
 
-/// The place of the first lane that has a message.
-pub(crate) fn first_filled(lanes: &[Lane]) -> Option<usize>
-    ensures { MatchOption result (messages_of lanes.now ≡ []) (λ at. (at < length lanes.now) × (messages_of (take at lanes.now) ≡ []) × ((d : Ranked) → 0 < length (slice_index_or lanes.now at d).messages)) }
+/// The place of the first lane that has a message, where none before `front` has one.
+pub(crate) fn first_filled(lanes: &[Lane], front: usize) -> Option<usize>
+    requires { IsEmptyBefore front lanes.now }
+    ensures { MatchOption result (messages_of lanes.now ≡ []) (λ at. (at < length lanes.now) × IsEmptyBefore at lanes.now × ((d : Ranked) → 0 < length (slice_index_or lanes.now at d).messages)) }
 {
-    for (i, lane) in lanes.iter().enumerate() {
-        if !lane.is_empty() {
-            return Some(i);
+    for at in front..lanes.len() {
+        if !lanes[at].is_empty() {
+            return Some(at);
         }
     }
     None
 }
 
-/// The first message.
-pub(crate) fn first(lanes: &[Lane]) -> Option<&Message>
+/// The first message, where no lane before `front` has one.
+pub(crate) fn first(lanes: &[Lane], front: usize) -> Option<&Message>
+    requires { IsEmptyBefore front lanes.now }
     ensures { option_copied result ≡ slice_get (messages_of lanes.now) 0 }
 {
-    let at = first_filled(lanes)?;
+    let at = first_filled(lanes, front)?;
     lanes[at].at(0)
 }
 
-/// Takes the first message. Its place stays with its lane.
-pub(crate) fn take_first(lanes: &mut Vec<Lane>) -> Option<BoxedMessage>
-    requires { is_laned lanes.old.items ≡ true }
+/// Takes the first message, where no lane before `front` has one, and moves `front` to its lane. Its
+/// place stays with the lane.
+pub(crate) fn take_first(lanes: &mut Vec<Lane>, front: &mut usize) -> Option<BoxedMessage>
+    requires laned { is_laned lanes.old.items ≡ true }
+    requires empty { IsEmptyBefore front.old lanes.old.items }
     ensures laned { is_laned lanes.new.items ≡ true }
+    ensures empty { IsEmptyBefore front.new lanes.new.items }
     ensures first { MatchOption result ((messages_of lanes.old.items ≡ []) × (messages_of lanes.new.items ≡ [])) (λ m. messages_of lanes.old.items ≡ m ∷ messages_of lanes.new.items) }
     ensures room { (other : ℕ) → spare_of other lanes.old.items ≤ spare_of other lanes.new.items }
 {
-    let at = first_filled(lanes.as_slice())?;
+    let at = first_filled(lanes.as_slice(), *front)?;
+    *front = at;
     let lane = &mut lanes[at];
     lane.pop()
 }
@@ -183,6 +200,7 @@ pub(crate) fn flush_rank(lanes: &mut Vec<Lane>, rank: u16) -> usize
     requires { is_laned lanes.old.items ≡ true }
     ensures laned { is_laned lanes.new.items ≡ true }
     ensures messages { messages_of lanes.new.items ≡ filter (λ m. not (is_flushed m.kind && stands_in rank m)) (messages_of lanes.old.items) }
+    ensures empty { StaysEmpty lanes.old.items lanes.new.items }
     ensures count { result + length (messages_of lanes.new.items) ≡ length (messages_of lanes.old.items) }
     ensures room { (other : ℕ) → spare_of other lanes.old.items ≤ spare_of other lanes.new.items }
 {
@@ -198,6 +216,7 @@ pub(crate) fn flush_all(lanes: &mut Vec<Lane>) -> usize
     requires most { length (messages_of lanes.old.items) < 2 ^ 63 }
     ensures laned { is_laned lanes.new.items ≡ true }
     ensures messages { messages_of lanes.new.items ≡ flush_of (messages_of lanes.old.items) }
+    ensures empty { StaysEmpty lanes.old.items lanes.new.items }
     ensures count { result + length (messages_of lanes.new.items) ≡ length (messages_of lanes.old.items) }
     ensures room { (other : ℕ) → spare_of other lanes.old.items ≤ spare_of other lanes.new.items }
 {

@@ -21,12 +21,17 @@ const MOST: usize = 9_223_372_036_854_775_807;
 /// Each rank in use has a lane with its messages and their weight, so that no call's cost grows
 /// with the number of messages, but for the flushes and what looks at the high messages.
 ///
+/// Lanes that ran empty stay. How many at the front are known to be empty is kept, and the search for
+/// the first message begins behind them.
+///
 /// A queue holds at most 2^63 - 1 messages, more than any memory has; where there are as many, a
 /// message more is refused as for want of memory.
 #[derive(Debug, Drop)]
 pub struct BandQueue {
     marks: Marks,
     lanes: Vec<Lane>,
+    /// No lane before this place has a message.
+    front: usize,
     len: usize,
 }
 
@@ -40,7 +45,7 @@ impl Model for BandQueue {
 
     ghost view = { λ q. record { marks = q.marks; messages = messages_of q.lanes.items; room = lane_room (2 ^ 63 - 1 - q.len) q.lanes.items } };
 
-    ghost invariant = { λ q. IsKept q.lanes.items q.len };
+    ghost invariant = { λ q. IsKept q.lanes.items q.front q.len };
 }
 
 impl BandQueue {
@@ -52,6 +57,7 @@ impl BandQueue {
         BandQueue {
             marks,
             lanes: Vec::new(alloc),
+            front: 0,
             len: 0,
         }
     }
@@ -81,7 +87,8 @@ impl BandQueue {
         if self.len == MOST {
             return Err(m);
         }
-        put_behind(&mut self.lanes, m)?;
+        let at = put_behind(&mut self.lanes, m)?;
+        self.front = self.front.min(at);
         self.len += 1;
         Ok(())
     }
@@ -102,7 +109,8 @@ impl BandQueue {
         if self.len == MOST {
             return Err(m);
         }
-        put_before(&mut self.lanes, m)?;
+        let at = put_before(&mut self.lanes, m)?;
+        self.front = self.front.min(at);
         self.len += 1;
         Ok(())
     }
@@ -130,7 +138,10 @@ impl BandQueue {
         ensures marks { self.new.marks ≡ self.old.marks }
         ensures room { (rank : ℕ) → room_for self.old.room rank ≤ room_for self.new.room rank }
     {
-        let m = take_first(&mut self.lanes)?;
+        if self.is_empty() {
+            return None;
+        }
+        let m = take_first(&mut self.lanes, &mut self.front)?;
         self.len -= 1;
         Some(m)
     }
@@ -142,7 +153,7 @@ impl BandQueue {
         if self.len == 0 {
             return None;
         }
-        first(self.lanes.as_slice())
+        first(self.lanes.as_slice(), self.front)
     }
 
     /// The message at a place, counted from 0 for the one that `get` would take.

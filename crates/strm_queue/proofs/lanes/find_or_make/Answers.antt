@@ -1,6 +1,7 @@
 use Rattle.std.proofs.Common.{◌≡◌, true, ap, arith, inl, inr}
 use Rattle.strm_queue.specs.Lanes.{Ranked, IsPlace, spare_of}
 use Rattle.strm_queue.proofs.LanesLemmas.{is_absent, lane_of-absent}
+use Rattle.strm_queue.proofs.FrontLemmas.{insert-empty}
 use Rattle.strm_queue.proofs.PlaceLemmas.{place_or_absent, messages-insert, is_laned-insert, spare-insert}
 use Rattle.strm_queue.proofs.lanes.find_or_make.Goals as goal
 
@@ -34,3 +35,6 @@ returns-clause-room c =
           let other : is_absent c.new.result.rank lanes ≡ true = rw c.new.ensures.rank absent in
           λ rank. rw c.in_ok-insert.ensures.items (spare-insert c.new.result c.new.ensures.messages rank lanes c.place_of-at.result other)
     ]
+
+pub returns-clause-empty : goal.returns-clause-empty
+returns-clause-empty c = λ n. rw c.in_ok-insert.ensures.items (insert-empty c.new.result c.new.ensures.messages c.args.lanes.now.items c.place_of-at.result n)

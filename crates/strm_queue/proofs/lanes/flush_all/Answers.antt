@@ -1,5 +1,5 @@
 use Rattle.std.proofs.Common.{◌<◌, length, length-set, ◌∙◌, arith}
-use Rattle.strm_queue.proofs.ChangeLemmas.{flushed-laned, flush-one, flushed-more, counted, unspent}
+use Rattle.strm_queue.proofs.ChangeLemmas.{flushed-laned, flush-empty, flush-one, flushed-more, counted, unspent}
 use Rattle.strm_queue.proofs.lanes.flush_all.Goals as goal
 
 within : (c : goal.After-lanes-1) → c.loop-i.i < length c.loop-i.lanes.items
@@ -23,6 +23,7 @@ loop-i-preserved c =
       len = length-set lanes c.loop-i.i new ∙ c.loop-i.invariant.len;
       flushed = flushed-more lanes c.loop-i.i lane new (within c) is flush c.loop-i.invariant.flushed;
       same = flush-one lanes c.loop-i.i lane new (within c) is flush ∙ c.loop-i.invariant.same;
+      empty = λ n empty. flush-empty lanes c.loop-i.i lane new (within c) is c.flush-removed.ensures.rank flush n (c.loop-i.invariant.empty n empty);
       count = omega (arith, sum, c.loop-i.invariant.count, c.flush-removed.ensures.count);
       room = λ other. omega (arith, c.loop-i.invariant.room other, unspent lanes c.loop-i.i lane new (within c) is c.flush-removed.ensures.rank c.flush-removed.ensures.room other);
     }

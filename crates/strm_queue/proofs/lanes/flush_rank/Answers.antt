@@ -2,7 +2,7 @@ use Rattle.std.proofs.Common.{◌≡◌, ap, sym, ◌∙◌, arith}
 use Rattle.strm_queue.specs.Lanes.{Ranked, IsPlace, stands_in}
 use Rattle.strm_queue.proofs.ListLemmas.{none_flushed}
 use Rattle.strm_queue.proofs.LanesLemmas.{lanes_filter}
-use Rattle.strm_queue.proofs.ChangeLemmas.{flushed, flushed-laned, counted, unspent}
+use Rattle.strm_queue.proofs.ChangeLemmas.{flushed, flushed-laned, flush-empty, counted, unspent}
 use Rattle.strm_queue.proofs.lanes.flush_rank.Goals as goal
 
 place : (c : goal.After-lanes-1) → IsPlace c.args.rank c.in-Some.at c.args.lanes.now.items
@@ -15,6 +15,9 @@ pub returns-in-Some-clause-messages : goal.returns-in-Some-clause-messages
 returns-in-Some-clause-messages c =
     let rank : c.index_mut.result.now.rank ≡ c.args.rank = ap (λ (x : Ranked). x.rank) c.index_mut.ensures.value ∙ (place c).1 c.index_mut.result.now in
     rw (← rank) (flushed c.args.lanes.now.items c.in-Some.at c.index_mut.result.now c.flush.new.self (place c).0 c.index_mut.ensures.value c.flush.ensures.rank c.requires c.flush.ensures.messages)
+
+pub returns-in-Some-clause-empty : goal.returns-in-Some-clause-empty
+returns-in-Some-clause-empty c = flush-empty c.args.lanes.now.items c.in-Some.at c.index_mut.result.now c.flush.new.self (place c).0 c.index_mut.ensures.value c.flush.ensures.rank c.flush.ensures.messages
 
 pub returns-in-Some-clause-count : goal.returns-in-Some-clause-count
 returns-in-Some-clause-count c =

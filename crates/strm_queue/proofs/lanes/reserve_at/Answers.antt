@@ -2,7 +2,7 @@ use Rattle.std.proofs.Common.{◌≡◌, true, ap, ◌∙◌, arith}
 use Rattle.std.specs.List.{list_all}
 use Rattle.strm_queue.specs.Lanes.{Ranked, stands_in, spare_of}
 use Rattle.strm_queue.proofs.PlaceLemmas.{lane_at}
-use Rattle.strm_queue.proofs.ChangeLemmas.{stood, changed-laned, unspent, unchanged, spare-there, on_ok}
+use Rattle.strm_queue.proofs.ChangeLemmas.{stood, changed-laned, unspent, unchanged, stays-empty, spare-there, on_ok}
 use Rattle.strm_queue.proofs.lanes.reserve_at.Goals as goal
 
 stays_laned : goal.returns-clause-laned
@@ -24,6 +24,10 @@ returns-clause-messages c =
 pub returns-clause-kept : goal.returns-clause-kept
 returns-clause-kept c = λ other.
     omega (arith, c.in_ok-at.ensures.room other, unspent c.find_or_make.new.lanes.items c.in_ok-at.at c.index_mut-lane.result.now c.reserve.new.self c.in_ok-at.ensures.place.0 c.index_mut-lane.ensures.value c.reserve.ensures.rank c.reserve.ensures.kept other)
+
+pub returns-clause-empty : goal.returns-clause-empty
+returns-clause-empty c = λ n empty.
+    stays-empty c.find_or_make.new.lanes.items c.in_ok-at.at c.index_mut-lane.result.now c.reserve.new.self c.in_ok-at.ensures.place.0 c.index_mut-lane.ensures.value c.reserve.ensures.rank (λ none. c.reserve.ensures.messages ∙ none) n (c.in_ok-at.ensures.empty n empty)
 
 pub returns-clause-room : goal.returns-clause-room
 returns-clause-room c =

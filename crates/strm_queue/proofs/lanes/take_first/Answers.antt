@@ -21,8 +21,8 @@ returns-clause-laned c =
     let lanes = c.args.lanes.now.items in
     let lane = c.index_mut-lane.result.now in
     let is = c.index_mut-lane.ensures.value in
-    let old = stood lanes c.in_ok-at.at lane c.pop.new.self (within c) is c.pop.ensures.rank c.requires in
-    changed-laned lanes c.in_ok-at.at lane c.pop.new.self (within c) is c.pop.ensures.rank c.requires (stands lane.rank c.pop.result lane.messages c.pop.new.self.messages c.pop.ensures.first old)
+    let old = stood lanes c.in_ok-at.at lane c.pop.new.self (within c) is c.pop.ensures.rank c.requires.laned in
+    changed-laned lanes c.in_ok-at.at lane c.pop.new.self (within c) is c.pop.ensures.rank c.requires.laned (stands lane.rank c.pop.result lane.messages c.pop.new.self.messages c.pop.ensures.first old)
 
 pub returns-clause-first : goal.returns-clause-first
 returns-clause-first c =

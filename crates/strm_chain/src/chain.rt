@@ -41,19 +41,20 @@ use hop::Hop;
 pub struct Chain<M: ModuleOf> {
     ends: Ends<M>,
     enabling: Enabling,
-    /// Room for messages on their way: taken by a delivery or a move, and put back empty unless memory
+    /// Room for messages on their way, with no message in it: taken by a delivery or a service, and put back unless memory
     /// was wanting.
     hops: VecDeque<Hop>,
 }
 
 impl<M: ModuleOf> Model for Chain<M> {
+    ghost use Rattle.std.specs.Prelude.{◌≡◌, []};
     ghost use Rattle.strm_chain.specs.Enabled.{ChainValue, IsReady, ArePlaces};
 
     ghost Value = { ChainValue M.Kind };
 
     ghost view = { λ c. record { image = c.ends.image; rooms = c.ends.rooms; run = c.enabling.run } };
 
-    ghost invariant = { λ c. IsReady c.ends.image c.enabling × ArePlaces c.ends.image c.enabling.run.items };
+    ghost invariant = { λ c. IsReady c.ends.image c.enabling × ArePlaces c.ends.image c.enabling.run.items × (c.hops.items ≡ []) };
 }
 
 impl<M: ModuleOf> Chain<M> {

@@ -218,14 +218,15 @@ impl Enabling {
         ensures given { IfSome result (λ _. self.new.run.given ≡ one_more self.old.run.given) }
     {
         let place = place_of(self.run.next()?);
-        if ends.may(place) {
+        let Some(may) = ends.first_may(place) else {
+            return Some((place, false));
+        };
+        if may {
             self.enable(place);
-            return Some((place, true));
-        }
-        if ends.holds(place) {
+        } else {
             self.wait(ends, place);
         }
-        Some((place, false))
+        Some((place, may))
     }
 
     /// A place that may not move waits for the queue ahead.

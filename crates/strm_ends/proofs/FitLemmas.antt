@@ -1,5 +1,5 @@
 -- Where a place may not move, it must not: a low mark is below its high one.
-use Rattle.std.proofs.Common.{◌≡◌, ℕ, ◌+◌, ◌-◌, ◌<◌, ◌&&◌, ◌||◌, not, Bool, true, false, Option, Some, None, List, [], ◌∷◌, take, drop, reverse, refl, sym, ◌∙◌, arith, suc, zero, if◌then◌else◌}
+use Rattle.std.proofs.Common.{◌≡◌, ℕ, ◌+◌, ◌-◌, ◌<◌, ◌&&◌, ◌||◌, not, Bool, true, false, Option, Some, None, List, [], ◌∷◌, take, drop, reverse, refl, sym, ◌∙◌, arith, suc, zero, if◌then◌else◌, option_map, is_some}
 use Rattle.std.proofs.lemmas.List.{reverse-append}
 use Rattle.std.proofs.lemmas.List.Folds.{list_all-map, list_all-append}
 use Rattle.std.proofs.lemmas.Bool.Decides.{nat_tests}
@@ -132,3 +132,16 @@ due_stays image place (Some m) f h =
 -- a place that may not move must not
 pub rests_if_still : {K : Type 0} (image : Image K) (place : Place) → IsFitEnd image.a → IsFitEnd image.b → may image place ≡ false → is_due image place ≡ false
 rests_if_still image place a b h = due_stays image place (front_of image place) (fit_ahead image a b place) h
+
+-- what is told of a message, if there is one
+pub told_of : {X : Type 0} (o : Option X) (b : Bool) → option_map (λ _. b) o ≡ Some false → b ≡ false
+told_of None b h = cc
+told_of (Some x) b h = cc
+
+pub told_there : {X : Type 0} (o : Option X) (b told : Bool) → option_map (λ _. b) o ≡ Some told → is_some o ≡ true
+told_there None b told h = cc
+told_there (Some x) b told h = refl
+
+pub untold : {X : Type 0} (o : Option X) (b : Bool) → option_map (λ _. b) o ≡ None → is_some o ≡ false
+untold None b h = refl
+untold (Some x) b h = cc

@@ -129,13 +129,12 @@ impl<M: ModuleOf> Chain<M> {
         ensures same { self.new ≡ self.old }
     {
         let none = VecDeque::new(self.alloc());
-        let mut hops = mem::replace(&mut self.hops, none);
-        hops.clear();
-        hops
+        mem::replace(&mut self.hops, none)
     }
 
     /// Puts the room for messages on their way back into the chain.
     pub(super) fn put_back_hops(&mut self, hops: VecDeque<Hop>)
+        requires { hops.items ≡ [] }
         ensures { self.new ≡ self.old }
     {
         self.hops = hops;
@@ -276,6 +275,7 @@ impl<M: ModuleOf> Chain<M> {
     /// Carries what is on its way to its end, and what comes of it, each before the next.
     pub(super) fn carry_all(&mut self, hops: &mut VecDeque<Hop>) -> Result<(), NoMem>
         ensures ok { OnOk result (self.new.image ≡ carry_all M.Kind.means self.old.image hops.old.items) }
+        ensures empty { OnOk result (hops.new.items ≡ []) }
         ensures same { SameModules self.old.image self.new.image }
         ensures given { self.new.run.given ≡ self.old.run.given }
         ensures grows { OnOk result (IsCalm M.Kind.means → are_calm_hops hops.old.items ≡ true → Grows self.old (options_carried self.old.image hops.old.items) self.new 0) }

@@ -51,6 +51,7 @@ impl<M: ModuleOf> Chain<M> {
         requires empty { hops.old.items ≡ [] }
         requires room { deque_len hops.old + 2 ≤ deque_capacity hops.old }
         ensures ok { OnOk result (self.new.image ≡ move M.Kind.means self.old.image (module_place side end i)) }
+        ensures done { OnOk result (hops.new.items ≡ []) }
         ensures same { SameModules self.old.image self.new.image }
         ensures given { self.new.run.given ≡ self.old.run.given }
         ensures moves { OnOk result (IsCalm M.Kind.means → is_enabled self.old.run (module_place side end i) ≡ true → HasMoved self.old self.new 0) }
@@ -66,6 +67,7 @@ impl<M: ModuleOf> Chain<M> {
         requires empty { hops.old.items ≡ [] }
         requires room { deque_len hops.old + 2 ≤ deque_capacity hops.old }
         ensures ok { OnOk result (self.new.image ≡ move M.Kind.means self.old.image (Places.Drv end)) }
+        ensures done { OnOk result (hops.new.items ≡ []) }
         ensures same { SameModules self.old.image self.new.image }
         ensures given { self.new.run.given ≡ self.old.run.given }
         ensures moves { OnOk result (IsCalm M.Kind.means → is_enabled self.old.run (Places.Drv end) ≡ true → HasMoved self.old self.new 0) }
@@ -88,6 +90,7 @@ impl<M: ModuleOf> Chain<M> {
         requires empty { hops.old.items ≡ [] }
         requires room { deque_len hops.old + 2 ≤ deque_capacity hops.old }
         ensures ok { OnOk result (self.new.image ≡ move M.Kind.means self.old.image place) }
+        ensures done { OnOk result (hops.new.items ≡ []) }
         ensures same { SameModules self.old.image self.new.image }
         ensures given { self.new.run.given ≡ self.old.run.given }
         ensures moves { OnOk result (IsCalm M.Kind.means → is_enabled self.old.run place ≡ true → HasMoved self.old self.new 0) }
@@ -96,6 +99,30 @@ impl<M: ModuleOf> Chain<M> {
             Place::Wr { end, i } => self.move_module(hops, end, usize::from(i), Side::Wr),
             Place::Drv { end } => self.move_driver(hops, end),
             Place::Rd { end, i } => self.move_module(hops, end, usize::from(i), Side::Rd),
+        }
+    }
+
+    /// A place that may move moves, with room for what it sends: its first message is served, and what comes of it is carried to
+    /// its end (srv(9E)).
+    ///
+    /// Refused for want of memory alone: with `NoMem` nothing is changed, and with `Broken` the chain is broken.
+    pub(super) fn serve(&mut self, hops: &mut VecDeque<Hop>, place: Place) -> Result<(), ChainFault>
+        requires empty { hops.old.items ≡ [] }
+        requires may { may self.old.image place ≡ true }
+        requires whole { self.old.image.broken ≡ false }
+        ensures ok { OnOk result (self.new.image ≡ move M.Kind.means self.old.image place) }
+        ensures done { OnOk result (hops.new.items ≡ []) }
+        ensures same { OnOk result (SameModules self.old.image self.new.image) }
+        ensures refused { IfErr result (λ fault. Refuses fault self.old.image self.new.image) }
+        ensures given { self.new.run.given ≡ self.old.run.given }
+        ensures moves { OnOk result (IsCalm M.Kind.means → is_enabled self.old.run place ≡ true → HasMoved self.old self.new 0) }
+    {
+        let Ok(()) = hops.reserve(2) else {
+            return Err(ChainFault::NoMem);
+        };
+        match self.move_place(hops, place) {
+            Ok(()) => Ok(()),
+            Err(_) => Err(self.give_up()),
         }
     }
 
@@ -117,15 +144,8 @@ impl<M: ModuleOf> Chain<M> {
             return Err(ChainFault::Broken);
         }
         let mut hops = self.take_hops();
-        let Ok(()) = hops.reserve(2) else {
-            return Err(ChainFault::NoMem);
-        };
-        match self.move_place(&mut hops, place) {
-            Ok(()) => {
-                self.put_back_hops(hops);
-                Ok(())
-            }
-            Err(_) => Err(self.give_up()),
-        }
+        self.serve(&mut hops, place)?;
+        self.put_back_hops(hops);
+        Ok(())
     }
 }

@@ -12,8 +12,10 @@ ghost use Rattle.strm_ends.specs.Flow.{may, IsQuiet, NoneMay};
 ghost use Rattle.strm_chain.specs.Service.{move, Leads};
 
 use super::Chain;
+use super::hop::Hop;
 use crate::fault::ChainFault;
 use crate::moves::{Moves, Settled};
+use std::collections::VecDeque;
 use strm_ends::Place;
 use strm_module::ModuleOf;
 
@@ -69,23 +71,32 @@ impl<M: ModuleOf> Chain<M> {
         }
         self.restart();
         let mut moves = Moves::new(self.ends.alloc());
+        let mut hops = self.take_hops();
         while let Some((place, may)) = self.look() {
             if may {
-                self.move_one(&mut moves, place)?;
+                self.move_one(&mut moves, &mut hops, place)?;
             }
         }
+        self.put_back_hops(hops);
         let looks = self.enabling.looks();
         Ok(Settled { moves, looks })
     }
 
-    /// Moves a place that may move, and puts it behind the moves so far.
+    /// Moves a place that may move, with room for what it sends, and puts it behind the moves so far.
     ///
     /// Refused for want of memory alone: with `NoMem` nothing is changed and there was no move
     /// before, and with `Broken` the chain is broken, or was before.
-    fn move_one(&mut self, moves: &mut Moves, place: Place) -> Result<(), ChainFault>
+    fn move_one(
+        &mut self,
+        moves: &mut Moves,
+        hops: &mut VecDeque<Hop>,
+        place: Place,
+    ) -> Result<(), ChainFault>
+        requires empty { hops.old.items ≡ [] }
         requires may { may self.old.image place ≡ true }
         requires whole { self.old.image.broken ≡ false }
         ensures ok { OnOk result (self.new.image ≡ move M.Kind.means self.old.image place) }
+        ensures done { OnOk result (hops.new.items ≡ []) }
         ensures moves { OnOk result (moves.new ≡ moves.old ++ place ∷ []) }
         ensures given { OnOk result (self.new.run.given ≡ self.old.run.given) }
         ensures few { OnOk result (length self.new.run.items ≤ QUEUES) }
@@ -100,7 +111,7 @@ impl<M: ModuleOf> Chain<M> {
             Ok(()) => {}
             Err(_) => return Err(self.refuse(is_first)),
         }
-        match self.serve_one(place) {
+        match self.serve(hops, place) {
             Ok(()) => {
                 // The proof learns from the lengths that both are small.
                 let _ = moves.len();

@@ -1,5 +1,5 @@
 //! Flow control: which queue is next after a place's, and whether a place may or must move.
-ghost use Rattle.std.specs.Prelude.{◌≡◌, ◌≤◌, true, false, IfSome, is_some, length, option_copied, option_map};
+ghost use Rattle.std.specs.Prelude.{◌≡◌, ◌≤◌, true, false, IfSome, Some, is_some, length, option_copied, option_map};
 ghost use Rattle.strm_module.specs.declared.driver.TheConstants.{MOST_MODULES};
 ghost use Rattle.strm_qpair.specs.Canput.{fill_of, below, full_in, slack_in};
 ghost use Rattle.strm_ends.specs.Image.{end_of};
@@ -144,13 +144,13 @@ impl<M: ModuleOf> Ends<M> {
         }
     }
 
-    /// Whether the first message of a place may move.
-    fn front_may(&self, place: Place) -> bool
-        ensures { result ≡ may self.now.image place }
+    /// Whether the first message of a place may move; nothing where it holds none.
+    fn front_may(&self, place: Place) -> Option<bool>
+        ensures { result ≡ option_map (λ _. may self.now.image place) (front_of self.now.image place) }
     {
         match self.front(place) {
-            Some(m) => m.is_high() || !self.full_ahead_of(place, m.band),
-            None => false,
+            Some(m) => Some(m.is_high() || !self.full_ahead_of(place, m.band)),
+            None => None,
         }
     }
 
@@ -164,17 +164,25 @@ impl<M: ModuleOf> Ends<M> {
         }
     }
 
-    /// Whether a place may move: it holds a message, and the first is high or the queue ahead is not
-    /// full in its band. A place that is not there may not. One that may not must not, since each low
-    /// mark is below its high one.
-    pub fn may(&self, place: Place) -> bool
-        ensures value { result ≡ may self.now.image place }
-        ensures rests { result ≡ false → is_due self.now.image place ≡ false }
+    /// Whether a place that holds a message may move: the first is high, or the queue ahead is not full in its band. Nothing
+    /// where it holds none, as one that is not there. One that may not must not, since each low mark is below its high one.
+    pub fn first_may(&self, place: Place) -> Option<bool>
+        ensures value { result ≡ option_map (λ _. may self.now.image place) (front_of self.now.image place) }
+        ensures rests { result ≡ Some false → is_due self.now.image place ≡ false }
     {
         // The proof learns from the numbers of modules that each low mark is below its high one.
         let _ = self.count(End::A);
         let _ = self.count(End::B);
         self.front_may(place)
+    }
+
+    /// Whether a place may move: it holds a message, and the first is high or the queue ahead is not
+    /// full in its band. A place that is not there may not. One that may not must not.
+    pub fn may(&self, place: Place) -> bool
+        ensures value { result ≡ may self.now.image place }
+        ensures rests { result ≡ false → is_due self.now.image place ≡ false }
+    {
+        self.first_may(place) == Some(true)
     }
 
     /// Whether a place must move: it holds a message, and the first is high or the queue ahead has

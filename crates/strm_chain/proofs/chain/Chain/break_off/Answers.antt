@@ -10,4 +10,5 @@ invariant_of-self g c =
     let is = ap (λ (v : EndsValue _). v.image) c.break_off.ensures in (
       ready_broken old new c.self.inside.enabling is c.self.invariant.0,
       places_broken old new c.self.inside.enabling.run.items is c.self.invariant.1,
+      c.self.invariant.2,
     )

@@ -22,6 +22,7 @@ invariant_of-self g c =
     (λ e. same_sets old new c.args.end e) in (
       c.wake_behind.ensures.ready (ready_marks old new c.args.end c.self.inside.enabling differs c.self.invariant.0),
       c.wake_behind.ensures.places (places_same old new c.self.inside.enabling.run.items (ways_of_same old new differs.same) c.self.invariant.1),
+      c.self.invariant.2,
     )
 
 pub invariant_of-self-2 : goal.invariant_of-self-2
@@ -35,6 +36,7 @@ invariant_of-self-2 g c =
     (λ e. same_differs old new (Head c.args.end) e) in (
       c.wake.ensures.ready old c.len-before.ensures c.self.invariant.0 differs,
       c.wake.ensures.places (places_same old new c.self.inside.enabling.run.items (ways_of_same old new differs.same) c.self.invariant.1),
+      c.self.invariant.2,
     )
 
 pub returns-then-sets-clause-grows : goal.returns-then-sets-clause-grows

@@ -18,6 +18,7 @@ invariant_of-self g c =
     (λ e. same_differs old new (Of (Places.Drv A)) e) in (
       c.wake.ensures.ready old c.len-before.ensures c.self.invariant.0 differs,
       c.wake.ensures.places (places_same old new c.self.inside.enabling.run.items (ways_of_same old new differs.same) c.self.invariant.1),
+      c.self.invariant.2,
     )
 
 pub returns-clause-ok : goal.returns-clause-ok

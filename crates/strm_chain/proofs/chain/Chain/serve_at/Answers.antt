@@ -24,6 +24,7 @@ invariant_of-self g c =
     rw c.in-Some.ensures.some (serves_differs g.M.Kind.Kinds.means old c.args.end new c.args.i c.args.side c.serve_at.ensures.same c.in-Ok.ensures.state) in (
       c.wake.ensures.ready old c.len-before.ensures c.self.invariant.0 differs,
       c.wake.ensures.places (places_same old new c.self.inside.enabling.run.items (ways_of_same old new differs.same) c.self.invariant.1),
+      c.self.invariant.2,
     )
 
 pub returns-in-Ok-clause-moves : goal.returns-in-Ok-clause-moves

@@ -8,11 +8,12 @@ use Rattle.strm_chain.proofs.chain.Chain.settle.Goals as goal
 pub loop-place-preserved : goal.loop-place-preserved
 loop-place-preserved g c =
     let l = c.loop-place.invariant in
-    let before = c.restart.new.self.image in
+    let before = c.take_hops-hops.new.self.image in
     let at = c.loop-place.self.image in
     let now = c.look.new.self.image in
     let counted = c.in-Some.ensures.given in
     record {
+      empty = l.empty;
       leads = leads_to _ c.loop-place.moves before at now c.look.ensures.image l.leads;
       same = same_to before at now c.look.ensures.image l.same;
       whole = l.whole;
@@ -31,7 +32,7 @@ loop-place-preserved g c =
 pub loop-place-preserved-in-Continue-1 : goal.loop-place-preserved-in-Continue-1
 loop-place-preserved-in-Continue-1 g c =
     let l = c.loop-place.invariant in
-    let before = c.restart.new.self.image in
+    let before = c.take_hops-hops.new.self.image in
     let at = c.loop-place.self.image in
     let mid = c.look.new.self.image in
     let now = c.move_one.new.self.image in
@@ -44,6 +45,7 @@ loop-place-preserved-in-Continue-1 g c =
     let may_now : may mid place ≡ true = ap (λ i. may i place) c.look.ensures.image ∙ c.in-Some.ensures.may ∙ c.if-may.true in
     let to_mid = leads_to _ c.loop-place.moves before at mid c.look.ensures.image l.leads in
     record {
+      empty = c.in_ok-move_one.ensures.done;
       leads = rw c.in_ok-move_one.ensures.moves
           (Leads-snoc _ c.loop-place.moves before mid now place to_mid may_now c.in_ok-move_one.ensures.ok);
       same = same_trans before mid now (same_to before at mid c.look.ensures.image l.same) c.in_ok-move_one.ensures.same;
@@ -65,15 +67,16 @@ loop-place-preserved-in-Continue-1 g c =
 
 pub returns-clause-most : goal.returns-clause-most
 returns-clause-most g c =
-    let began = c.restart.ensures.image in
+    let began = ap (λ (v : ChainValue _). v.image) c.take_hops-hops.ensures.same ∙ c.restart.ensures.image in
     λ kinds.
     let most = c.loop-place.invariant.most kinds in
-    let looked = ap message_count c.look.ensures.image in
-    let set = ap options_count c.look.ensures.image in
+    let kept = ap (λ (v : ChainValue _). v.image) c.put_back_hops.ensures ∙ c.look.ensures.image in
+    let looked = ap message_count kept in
+    let set = ap options_count kept in
     let places = ap place_count began in
     let messages = ap message_count began in
     let options = ap options_count began in
-    let given : c.looks-looks.result ≡ c.loop-place.self.run.given = c.looks-looks.ensures ∙ ap (λ (v : ChainValue _). v.run.given) c.self-3.view_is ∙ ap (λ (v : ChainValue _). v.run.given) c.in_default.ensures.still in
+    let given : c.looks-looks.result ≡ c.loop-place.self.run.given = c.looks-looks.ensures ∙ ap (λ (v : ChainValue _). v.run.given) c.self-3.view_is ∙ ap (λ (v : ChainValue _). v.run.given) c.put_back_hops.ensures ∙ ap (λ (v : ChainValue _). v.run.given) c.in_default.ensures.still in
     omega (arith, most, looked, set, places, messages, options, given)
 
 pub returns-then-is_broken-clause-moves : goal.returns-then-is_broken-clause-moves
@@ -101,19 +104,19 @@ pub returns-then-is_broken-clause-same : goal.returns-then-is_broken-clause-same
 returns-then-is_broken-clause-same g c = tt
 
 pub returns-clause-moves : goal.returns-clause-moves
-returns-clause-moves g c = rw (c.look.ensures.image, ← c.restart.ensures.image) c.loop-place.invariant.leads
+returns-clause-moves g c = rw (c.put_back_hops.ensures, c.look.ensures.image, ← c.restart.ensures.image, ← c.take_hops-hops.ensures.same) c.loop-place.invariant.leads
 
 pub returns-clause-same : goal.returns-clause-same
-returns-clause-same g c = rw (c.look.ensures.image, ← c.restart.ensures.image) c.loop-place.invariant.same
+returns-clause-same g c = rw (c.put_back_hops.ensures, c.look.ensures.image, ← c.restart.ensures.image, ← c.take_hops-hops.ensures.same) c.loop-place.invariant.same
 
 pub returns-clause-quiet : goal.returns-clause-quiet
-returns-clause-quiet g c = rw c.look.ensures.image c.in_default.ensures.quiet
+returns-clause-quiet g c = rw (c.put_back_hops.ensures, c.look.ensures.image) c.in_default.ensures.quiet
 
 pub returns-clause-none : goal.returns-clause-none
-returns-clause-none g c = c.in_default.ensures.none
+returns-clause-none g c = rw c.put_back_hops.ensures c.in_default.ensures.none
 
 pub returns-clause-whole : goal.returns-clause-whole
-returns-clause-whole g c = rw (← c.restart.ensures.image) c.loop-place.invariant.whole
+returns-clause-whole g c = rw (← c.restart.ensures.image, ← c.take_hops-hops.ensures.same) c.loop-place.invariant.whole
 
 pub returns-clause-refused : goal.returns-clause-refused
 returns-clause-refused g c = tt

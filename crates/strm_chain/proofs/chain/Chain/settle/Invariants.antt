@@ -1,4 +1,4 @@
-use Rattle.std.proofs.Common.{◌≡◌, ◌<◌, ◌≤◌, ◌+◌, ◌-◌, ◌*◌, ◌^◌, false, length}
+use Rattle.std.proofs.Common.{◌≡◌, ◌<◌, ◌≤◌, ◌+◌, ◌-◌, ◌*◌, ◌^◌, false, [], length}
 use Rattle.strm_ends.specs.Same.{SameModules}
 use Rattle.strm_ends.specs.Flow.{NoneMay}
 use Rattle.strm_module.specs.Calm.{IsCalm}
@@ -9,6 +9,7 @@ use Rattle.strm_chain.proofs.chain.Chain.settle.Given as goal
 
 abbrev pub invariant-loop-place : goal.invariant-loop-place
 invariant-loop-place g l = record {
+  empty : l.hops.items ≡ [];
   leads : Leads g.M.Kind.Kinds.means l.initial.self.image l.moves l.self.image;
   same : SameModules l.initial.self.image l.self.image;
   whole : l.initial.self.image.broken ≡ false;

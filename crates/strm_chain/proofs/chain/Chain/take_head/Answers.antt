@@ -13,6 +13,7 @@ invariant_of-self g c =
     take_head_differs old c.args.end new c.take_head-first.ensures.image in (
       c.wake.ensures.ready old c.len-before.ensures c.self.invariant.0 differs,
       c.wake.ensures.places (places_same old new c.self.inside.enabling.run.items (ways_of_same old new differs.same) c.self.invariant.1),
+      c.self.invariant.2,
     )
 
 pub returns-clause-first : goal.returns-clause-first

@@ -10,4 +10,5 @@ invariant_of-self g c =
     let is = ap (λ (v : EndsValue _). v.image) c.undo_ioctl.ensures in (
       ready_state old new c.args.end _ c.self.inside.enabling is c.self.invariant.0,
       places_state old new c.args.end _ c.self.inside.enabling.run.items is c.self.invariant.1,
+      c.self.invariant.2,
     )

@@ -6,7 +6,8 @@ use Rattle.strm_ends.specs.Path.{front_of}
 use Rattle.strm_ends.specs.Flow.{may, is_due}
 use Rattle.strm_chain.specs.Number.{number_of, place_number, place_of}
 use Rattle.strm_chain.specs.Enabled.{Enabled, Awaits}
-use Rattle.strm_chain.proofs.EnablingLemmas.{ready_moves, ready_empty, ready_waits, places_moves, places_rest}
+use Rattle.strm_ends.proofs.FitLemmas.{told_of, told_there, untold}
+use Rattle.strm_chain.proofs.EnablingLemmas.{ready_moves, ready_empty, ready_waits, places_moves}
 use Rattle.strm_chain.proofs.enabling.Enabling.look.Goals as goal
 
 pub returns-then-may-clause-ready : goal.returns-then-may-clause-ready
@@ -17,31 +18,6 @@ returns-then-may-clause-ready g c =
     let items : c.enable.new.self.run.items ≡ with_place rest (place_number (place_of n)) = c.enable.ensures.items ∙ ap (λ p. with_place rest (place_number p)) c.place_of-place.ensures in
     λ ready. ready_moves c.args.ends.now.image c.args.self.now c.enable.new.self n rest before items (c.enable.ensures.wanted ∙ ap (λ (v : Enabled). v.wanted) c.self.view_is) ready
 
-pub returns-then-holds-clause-ready : goal.returns-then-holds-clause-ready
-returns-then-holds-clause-ready g c =
-    let image = c.args.ends.now.image in
-    let n = c.in_ok-next.field-0 in
-    let rest = c.next.new.self.items in
-    let here = c.place_of-place.ensures in
-    let before : c.args.self.now.run.items ≡ n ∷ rest = sym (ap (λ (v : Enabled). v.run.items) c.self.view_is) ∙ c.in_ok-next.ensures.first.0 in
-    let was : c.self.inside.wanted ≡ c.args.self.now.wanted = ap (λ (v : Enabled). v.wanted) c.self.view_is in
-    let wanted : Awaits image (place_of n) c.args.self.now.wanted c.wait.new.self.wanted = rw (← was, ← here) c.wait.ensures.wanted in
-    let few : (q : NextQueue) → next_of image (place_of n) ≡ Some q → number_of q < length c.args.self.now.wanted = rw (← was, ← here) c.wait.ensures.few in
-    let holds : is_some (front_of image (place_of n)) ≡ true = rw (← here) (sym c.holds.ensures.value ∙ c.if-holds.true) in
-    let still : may image (place_of n) ≡ false = rw (← here) (sym c.may.ensures.value ∙ c.if-may.false) in
-    let rests : is_due image (place_of n) ≡ false = rw (← here) (c.may.ensures.rests c.if-may.false) in
-    λ ready. ready_waits image c.args.self.now c.wait.new.self n rest c.wait.ensures.ordinary few before (ap (λ r. r.items) c.wait.ensures.run) wanted holds still rests ready
-
-pub returns-else-holds-clause-ready : goal.returns-else-holds-clause-ready
-returns-else-holds-clause-ready g c =
-    let image = c.args.ends.now.image in
-    let n = c.in_ok-next.field-0 in
-    let rest = c.next.new.self.items in
-    let here = c.place_of-place.ensures in
-    let before : c.args.self.now.run.items ≡ n ∷ rest = sym (ap (λ (v : Enabled). v.run.items) c.self.view_is) ∙ c.in_ok-next.ensures.first.0 in
-    let empty : is_some (front_of image (place_of n)) ≡ false = rw (← here) (sym c.holds.ensures.value ∙ c.if-holds.false) in
-    λ ready. ready_empty image c.args.self.now (record { run = c.next.new.self; wanted = c.self.inside.wanted }) n rest before refl (ap (λ (v : Enabled). v.wanted) c.self.view_is) empty ready
-
 pub returns-then-may-clause-places : goal.returns-then-may-clause-places
 returns-then-may-clause-places g c =
     let n = c.in_ok-next.field-0 in
@@ -50,16 +26,28 @@ returns-then-may-clause-places g c =
     let items : c.enable.new.self.run.items ≡ with_place rest (place_number (place_of n)) = c.enable.ensures.items ∙ ap (λ p. with_place rest (place_number p)) c.place_of-place.ensures in
     λ all. places_moves c.args.ends.now.image n c.args.self.now.run.items rest c.enable.new.self.run.items before items all
 
-pub returns-then-holds-clause-places : goal.returns-then-holds-clause-places
-returns-then-holds-clause-places g c =
+pub returns-else-may-clause-ready : goal.returns-else-may-clause-ready
+returns-else-may-clause-ready g c =
+    let image = c.args.ends.now.image in
     let n = c.in_ok-next.field-0 in
     let rest = c.next.new.self.items in
+    let here = c.place_of-place.ensures in
     let before : c.args.self.now.run.items ≡ n ∷ rest = sym (ap (λ (v : Enabled). v.run.items) c.self.view_is) ∙ c.in_ok-next.ensures.first.0 in
-    λ all. rw (ap (λ r. r.items) c.wait.ensures.run) (places_rest c.args.ends.now.image n rest (rw (← before) all))
+    let was : c.self.inside.wanted ≡ c.args.self.now.wanted = ap (λ (v : Enabled). v.wanted) c.self.view_is in
+    let wanted : Awaits image (place_of n) c.args.self.now.wanted c.wait.new.self.wanted = rw (← was, ← here) c.wait.ensures.wanted in
+    let few : (q : NextQueue) → next_of image (place_of n) ≡ Some q → number_of q < length c.args.self.now.wanted = rw (← was, ← here) c.wait.ensures.few in
+    let told = sym c.in-Some.ensures.value ∙ ap Some c.if-may.false in
+    let holds : is_some (front_of image (place_of n)) ≡ true = rw (← here) (told_there _ _ false told) in
+    let still : may image (place_of n) ≡ false = rw (← here) (told_of _ _ told) in
+    let rests : is_due image (place_of n) ≡ false = rw (← here) (c.in-Some.ensures.rests (ap Some c.if-may.false)) in
+    λ ready. ready_waits image c.args.self.now c.wait.new.self n rest c.wait.ensures.ordinary few before (ap (λ r. r.items) c.wait.ensures.run) wanted holds still rests ready
 
-pub returns-else-holds-clause-places : goal.returns-else-holds-clause-places
-returns-else-holds-clause-places g c =
+pub returns-in_default-clause-ready : goal.returns-in_default-clause-ready
+returns-in_default-clause-ready g c =
+    let image = c.args.ends.now.image in
     let n = c.in_ok-next.field-0 in
     let rest = c.next.new.self.items in
+    let here = c.place_of-place.ensures in
     let before : c.args.self.now.run.items ≡ n ∷ rest = sym (ap (λ (v : Enabled). v.run.items) c.self.view_is) ∙ c.in_ok-next.ensures.first.0 in
-    λ all. places_rest c.args.ends.now.image n rest (rw (← before) all)
+    let empty : is_some (front_of image (place_of n)) ≡ false = rw (← here) (untold _ _ (sym c.in_default.ensures.value)) in
+    λ ready. ready_empty image c.args.self.now (record { run = c.next.new.self; wanted = c.self.inside.wanted }) n rest before refl (ap (λ (v : Enabled). v.wanted) c.self.view_is) empty ready

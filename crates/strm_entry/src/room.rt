@@ -60,12 +60,16 @@ pub fn room_for<M: ModuleOf>(
         looks: 0,
         out: Serials::none(),
     };
-    Ok(Room {
-        caller,
-        number,
-        entry: Box::new(alloc, entry)?,
-        serials,
-    })
+    // A `?` would move the entry once more, as it comes back where there is no box.
+    match Box::new(alloc, entry) {
+        Ok(entry) => Ok(Room {
+            caller,
+            number,
+            entry,
+            serials,
+        }),
+        Err(_) => Err(NoMem),
+    }
 }
 
 /// Room for the entry of a message that comes in: the entry, in its box, as it is if the stream breaks. Refused for want of
@@ -82,7 +86,10 @@ pub fn room_for_arrival<K: Drop>(alloc: Global, m: &Message) -> Result<Box<Entry
         looks: 0,
         out: Serials::none(),
     };
-    Ok(Box::new(alloc, entry)?)
+    match Box::new(alloc, entry) {
+        Ok(entry) => Ok(entry),
+        Err(_) => Err(NoMem),
+    }
 }
 
 /// The entry of a message that came in, which was taken. Takes no memory.

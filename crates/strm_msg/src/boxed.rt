@@ -69,8 +69,8 @@ impl BoxedMessage {
     pub fn new(alloc: Global, m: Message) -> Result<Self, NoMem>
         ensures { IfOk result (λ boxed. boxed ≡ m) }
     {
-        match BoxedMessage::try_new(alloc, m) {
-            Ok(boxed) => Ok(boxed),
+        match Box::new(alloc, m) {
+            Ok(m) => Ok(BoxedMessage { m }),
             Err(_) => Err(NoMem),
         }
     }

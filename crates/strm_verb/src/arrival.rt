@@ -1,5 +1,5 @@
 //! The messages of a feed.
-ghost use Rattle.std.specs.Prelude.{◌≡◌, true, map, IfOk, IsErrOf};
+ghost use Rattle.std.specs.Prelude.{◌≡◌, true, false, map, IfOk, IsErrOf};
 ghost use Rattle.strm_msg.specs.Kind.{is_from_line};
 ghost use Rattle.strm_verb.specs.Fault.{Gives, Tells};
 ghost use Rattle.strm_verb.specs.Arrival as arrivals;
@@ -213,6 +213,22 @@ fn error2(texts: &[&[u8]]) -> Result<Message, Cause>
     Ok(Message::of_error2(read, write))
 }
 
+/// The message that a word says with its fields, where none of them is a part.
+fn bare_at(word: MessageWord, texts: &[&[u8]]) -> Result<Message, Cause>
+    requires { arrivals.takes_memory word ≡ false }
+    ensures message { Tells (λ m. m) result (arrivals.message_at word (map (λ text. text.now) texts.now)) }
+    ensures line { IfOk result (λ m. is_from_line m.kind ≡ true) }
+{
+    match word {
+        MessageWord::Setopts => setopts(texts),
+        MessageWord::Flush => flush(texts),
+        MessageWord::Hangup => hangup(texts),
+        MessageWord::Error => error(texts),
+        MessageWord::Error2 => error2(texts),
+        _ => unreachable!(),
+    }
+}
+
 /// The message of a word with its fields. Refused where there are others than it has, and then for
 /// the first that does not say what it should, as a part of more bytes than a call may send; and for want
 /// of memory, where it has a part.
@@ -225,10 +241,6 @@ pub fn message_at(alloc: Global, word: MessageWord, texts: &[&[u8]]) -> Result<M
         MessageWord::Data => data(alloc, texts),
         MessageWord::Proto => proto(alloc, texts),
         MessageWord::Pcproto => pcproto(alloc, texts),
-        MessageWord::Setopts => Ok(setopts(texts)?),
-        MessageWord::Flush => Ok(flush(texts)?),
-        MessageWord::Hangup => Ok(hangup(texts)?),
-        MessageWord::Error => Ok(error(texts)?),
-        MessageWord::Error2 => Ok(error2(texts)?),
+        bare => Ok(bare_at(bare, texts)?),
     }
 }

@@ -1,5 +1,5 @@
 //! The calls of a script, read from their fields.
-ghost use Rattle.std.specs.Prelude.{◌≡◌, true, map, IsErrOf};
+ghost use Rattle.std.specs.Prelude.{◌≡◌, true, false, map, IsErrOf};
 ghost use Rattle.strm_verb.specs.Fault.{Gives, Tells};
 ghost use Rattle.strm_verb.specs.Table as table;
 
@@ -228,6 +228,32 @@ fn plain<M: ModuleOf>(
     }
 }
 
+/// What a call asks for that has no part and is no push.
+fn bare_at<M: ModuleOf>(verb: Verb, texts: &[&[u8]]) -> Result<Request<Boxed<M>>, Cause>
+    requires { table.takes_memory verb ≡ false }
+    ensures { Tells table.asked_of result (table.told_at verb (map (λ text. text.now) texts.now)) }
+{
+    match verb {
+        Verb::Getmsg => getmsg(texts),
+        Verb::Getpmsg => getpmsg(texts),
+        Verb::Read => read(texts),
+        Verb::Pop => plain(texts, Request::Pop),
+        Verb::Look => plain(texts, Request::Look),
+        Verb::List => plain(texts, Request::List),
+        Verb::Flush => flush(texts),
+        Verb::FlushBand => flush_band(texts),
+        Verb::Nread => plain(texts, Request::Nread),
+        Verb::Peek => peek(texts),
+        Verb::SetRead => set_read(texts),
+        Verb::GetRead => plain(texts, Request::GetRead),
+        Verb::Canput => canput(texts),
+        Verb::Ckband => ckband(texts),
+        Verb::Getband => plain(texts, Request::Getband),
+        Verb::Close => plain(texts, Request::Close),
+        _ => unreachable!(),
+    }
+}
+
 /// What a call asks for, by its fields behind NAME:END; the module of a push gets the serial.
 /// Refused where there are others than it has, and then for the first that does not say what it
 /// should; and for want of memory, where a field is a part or the call is a push.
@@ -245,25 +271,10 @@ where
     match verb {
         Verb::Putmsg => putmsg(alloc, texts),
         Verb::Putpmsg => putpmsg(alloc, texts),
-        Verb::Getmsg => Ok(getmsg(texts)?),
-        Verb::Getpmsg => Ok(getpmsg(texts)?),
-        Verb::Read => Ok(read(texts)?),
         Verb::Write => write(alloc, texts),
         Verb::Push => push(alloc, serial, texts),
-        Verb::Pop => Ok(plain(texts, Request::Pop)?),
-        Verb::Look => Ok(plain(texts, Request::Look)?),
-        Verb::List => Ok(plain(texts, Request::List)?),
         Verb::Find => find(alloc, texts),
         Verb::Str => str(alloc, texts),
-        Verb::Flush => Ok(flush(texts)?),
-        Verb::FlushBand => Ok(flush_band(texts)?),
-        Verb::Nread => Ok(plain(texts, Request::Nread)?),
-        Verb::Peek => Ok(peek(texts)?),
-        Verb::SetRead => Ok(set_read(texts)?),
-        Verb::GetRead => Ok(plain(texts, Request::GetRead)?),
-        Verb::Canput => Ok(canput(texts)?),
-        Verb::Ckband => Ok(ckband(texts)?),
-        Verb::Getband => Ok(plain(texts, Request::Getband)?),
-        Verb::Close => Ok(plain(texts, Request::Close)?),
+        bare => Ok(bare_at(bare, texts)?),
     }
 }

@@ -1,6 +1,8 @@
-//! Threads of a run: work that is done in threads of its own, beside what its caller does.
+//! Work in threads: in threads of its own, beside what its caller does, or shared out among a few.
 #![tactic(auto)]
 
+mod sharing;
 mod threads;
 
+pub use sharing::shared_out;
 pub use threads::beside;

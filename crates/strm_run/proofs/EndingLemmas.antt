@@ -1,9 +1,10 @@
 -- Streams of a run, as they end.
-use Rattle.std.proofs.Common.{◌≡◌, ℕ, zero, suc, ◌+◌, ◌<◌, ◌≤◌, not, Bool, true, false, Option, Some, None, Result, Ok, Err, List, [], ◌∷◌, ◌++◌, All, length, get_or, map, set, append-nil, IfOk, Vec, Global, refl, sym, ◌∙◌, ap, subst, arith, below_more}
+use Rattle.std.proofs.Common.{◌≡◌, ℕ, zero, suc, ◌+◌, ◌<◌, ◌≤◌, not, Bool, true, false, Option, Some, None, Result, Ok, Err, List, [], ◌∷◌, ◌++◌, All, length, get_or, map, set, IfErr, IfOk, Vec, Global, refl, sym, ◌∙◌, ap, subst, arith, below_more}
 use Rattle.std.specs.Prelude.{nat_lt, IfSome}
 use Rattle.std.proofs.lemmas.Bool.{eqb-true, ltb-true, ltb-false}
 use Rattle.std.proofs.Math.Seq.{get_or-append_seam}
-use Rattle.std.proofs.lemmas.List.{take_all, length-append, length-map, length-set, length_push, get_or-set_other, get_or_append_left}
+use Rattle.std.proofs.lemmas.List.Elements.{All-tail}
+use Rattle.std.proofs.lemmas.List.{map-append, take_all, length-append, length-map, length-set, length_push, get_or-set_other, get_or_append_left}
 use Rattle.strm_msg.specs.Message.{Msg}
 use Rattle.strm_module.specs.Kinds.{Meaning}
 use Rattle.strm_module.specs.Driver.{is_line}
@@ -31,7 +32,7 @@ use Rattle.strm_crew.specs.Transcript.{AreLogs, IsFed, IsLog}
 use Rattle.strm_feed.specs.Feeding.{IsPartOf}
 use Rattle.strm_crew.specs.Play.{ArePlayed, AreStreams, HasPlayed}
 use Rattle.strm_run.specs.Inside.Table.{IsTransposed}
-use Rattle.strm_run.specs.Inside.Ending.{AreLinesFed, AreParted, AreSeatsPlayed, IsOffered, IsStream, Leaves}
+use Rattle.strm_run.specs.Inside.Ending.{AreLinesFed, AreParted, AreSeatsPlayed, is_end_refused, IsDue, IsOffered, IsStream, Leaves}
 use Rattle.strm_run.proofs.TableLemmas.{row_there}
 
 -- past the last caller there is no script
@@ -134,13 +135,11 @@ parted_more {K} run seats more receipts longer seat mine is its has was =
           k (subst (λ n. k < n) long below)));
     }
 
--- the streams of a run that have ended, and the seats of the others
-pub record AreEnding {K : Type 0} (means : Meaning K) (run : RunValue K) (streams : List SharedValue) (at : ℕ) (seats : List (Vec SeatValue Global)) (logs : List (Option (StreamLog K))) : Type 0 where
+-- the streams of a run, and the seats of those that were not taken
+pub record AreLeft {K : Type 0} (run : RunValue K) (streams : List SharedValue) (at : ℕ) (seats : List (Vec SeatValue Global)) : Type 0 where
   pub streams_are : AreStreams run streams
   pub many : length seats ≡ length run.setups
   pub played : (k : ℕ) (d : Vec SeatValue Global) → at ≤ k → k < length run.setups → All (HasPlayed run k) (get_or seats k d).items
-  pub ended : length logs ≡ at
-  pub are_logs : (k : ℕ) (s : Setup) (d : Option (StreamLog K)) → k < at → IfSome (get_or logs k d) (λ log. IsLog means run k (get_or run.setups k s) log)
 
 -- the next stream of a run
 module _ {K : Type 0} (run : RunValue K) (streams so_far later : List SharedValue) (at : ℕ) (one : SharedValue) (are : AreStreams run streams) (is : streams ≡ so_far ++ one ∷ later) (place : at ≡ length so_far) where
@@ -157,7 +156,7 @@ module _ {K : Type 0} (run : RunValue K) (streams so_far later : List SharedValu
   number_is : one.number ≡ at
   number_is = ap (λ s. s.number) (here one.setup)
 
-  pub stream_next : IsStream run one
+  stream_next : IsStream run one
   stream_next = record {
     there = subst (λ n. n < length run.setups) (sym number_is) place_there;
     setup_is = λ s. ap (λ n. get_or run.setups n s) number_is ∙ sym (ap (λ l. l.setup) (here s));
@@ -165,27 +164,24 @@ module _ {K : Type 0} (run : RunValue K) (streams so_far later : List SharedValu
   }
 
   -- no feed is for it, unless it is a line
-  pub next_unfed : AreLinesFed run → is_line one.setup.driver ≡ false → feed_of run.feeds one.number ≡ []
+  next_unfed : AreLinesFed run → is_line one.setup.driver ≡ false → feed_of run.feeds one.number ≡ []
   next_unfed lines no_line =
       ap (λ n. feed_of run.feeds n) number_is ∙ lines at one.setup place_there (ap (λ l. is_line l.setup.driver) (sym (here one.setup)) ∙ no_line)
 
-  -- its seats, and what is left of it
-  module _ (means : Meaning K) (seats : List (Vec SeatValue Global)) (logs : List (Option (StreamLog K))) (was : AreEnding means run streams at seats logs) where
-    pub next_played : (mine found : Vec SeatValue Global) → mine ≡ found → found ≡ get_or seats at found → All (HasPlayed run one.number) mine.items
-    next_played mine found taken stood =
-        subst (λ n. All (HasPlayed run n) mine.items) (sym number_is) (subst (λ v. All (HasPlayed run at) v.items) (sym (taken ∙ stood)) (was.played at found (omega arith) place_there))
+  -- its seats, and those of the others
+  module _ (seats : List (Vec SeatValue Global)) (was : AreLeft run streams at seats) where
+    pub next_due : AreLinesFed run → (mine found : Vec SeatValue Global) → mine ≡ found → found ≡ get_or seats at found → IsDue run one mine.items
+    next_due lines mine found taken stood = record {
+      stream = stream_next;
+      played = subst (λ n. All (HasPlayed run n) mine.items) (sym number_is) (subst (λ v. All (HasPlayed run at) v.items) (sym (taken ∙ stood)) (was.played at found (omega arith) place_there));
+      unfed = next_unfed lines;
+    }
 
-    pub ended_more : (log : Option (StreamLog K)) (none : Vec SeatValue Global) (more : List (Option (StreamLog K))) → more ≡ logs ++ log ∷ [] → IfSome log (λ l. IsLog means run one.number one.setup l) → AreEnding means run streams (at + 1) (set seats at none) more
-    ended_more log none more pushed left = record {
+    pub left_next : (none : Vec SeatValue Global) → AreLeft run streams (at + 1) (set seats at none)
+    left_next none = record {
       streams_are = are;
       many = length-set seats at none ∙ was.many;
       played = λ k d above below. subst (λ v. All (HasPlayed run k) v.items) (sym (get_or-set_other seats at k none d (λ same. omega arith))) (was.played k d (omega arith) below);
-      ended = ap (λ l. length l) pushed ∙ length_push logs log ∙ ap (λ n. n + 1) was.ended;
-      are_logs = λ k s d below. subst (λ l. IfSome (get_or l k d) (λ x. IsLog means run k (get_or run.setups k s) x)) (sym pushed) (below_more (λ (n : ℕ). IfSome (get_or (logs ++ log ∷ []) n d) (λ x. IsLog means run n (get_or run.setups n s) x)) at
-          (λ n lower. subst (λ l. IfSome l (λ x. IsLog means run n (get_or run.setups n s) x)) (sym (get_or_append_left logs (log ∷ []) d n (subst (λ m. n < m) (sym was.ended) lower))) (was.are_logs n s d lower))
-          (subst (λ l. IfSome l (λ x. IsLog means run at (get_or run.setups at s) x)) (sym (ap (λ n. get_or (logs ++ log ∷ []) n d) (sym was.ended) ∙ get_or-append_seam logs log [] d))
-          (subst (λ (l : SharedValue). IfSome log (λ x. IsLog means run l.number l.setup x)) (here s) left))
-          k below);
     }
 
 -- the elements of a list, each as `Some`
@@ -194,14 +190,36 @@ get_some [] k d = refl
 get_some (x ∷ xs) zero d = refl
 get_some (x ∷ xs) (suc k) d = get_some xs k d
 
--- where none is left, all have ended
-pub ended_all : {K : Type 0} (means : Meaning K) (run : RunValue K) (so_far later : List SharedValue) (at : ℕ) (seats : List (Vec SeatValue Global)) (found : List (Option (StreamLog K))) (logs : List (StreamLog K)) → later ≡ [] → at ≡ length so_far → AreEnding means run (so_far ++ later) at seats found → map Some logs ≡ found → AreLogs means run logs
-ended_all means run so_far later at seats found logs none place was all_found =
-    let all : length so_far ≡ length run.setups = ap (λ l. length l) (sym (append-nil so_far) ∙ ap (λ l. so_far ++ l) (sym none)) ∙ was.streams_are.many in
+-- the others may be refused likewise
+pub refusals_rest : {A : Type 0} (all rest : List (Result A RunFault)) (one : Result A RunFault) → all ≡ one ∷ rest → All (λ r. IfErr r (λ fault. is_end_refused fault ≡ true)) all → All (λ r. IfErr r (λ fault. is_end_refused fault ≡ true)) rest
+refusals_rest {A} all rest one is refusals =
+    All-tail (λ (r : Result A RunFault). IfErr r (λ fault. is_end_refused fault ≡ true)) one rest (subst (λ (l : List (Result A RunFault)). All (λ r. IfErr r (λ fault. is_end_refused fault ≡ true)) l) is refusals)
+
+-- one stream more has ended
+pub found_more : {A E : Type 0} (all more : List A) (so_far : List (Result A E)) (one : Result A E) (found : A) → map Ok all ≡ so_far → more ≡ all ++ found ∷ [] → one ≡ Ok found → map Ok more ≡ so_far ++ one ∷ []
+found_more {A} {E} all more so_far one found was pushed is =
+    ap (λ (l : List A). map Ok l) pushed ∙ map-append (λ (x : A). Ok x) all (found ∷ []) ∙ ap (λ (l : List (Result A E)). l ++ Ok found ∷ []) was ∙ ap (λ o. so_far ++ o ∷ []) (sym is)
+
+get_ok : {A E : Type 0} (all : List A) (ended : List (Result A E)) (k : ℕ) (d : A) → map Ok all ≡ ended → get_or ended k (Ok d) ≡ Ok (get_or all k d)
+get_ok [] [] k d is = refl
+get_ok [] (one ∷ rest) k d is = absurd cc
+get_ok (x ∷ xs) [] k d is = absurd cc
+get_ok (x ∷ xs) (one ∷ rest) zero d is = cc
+get_ok (x ∷ xs) (one ∷ rest) (suc k) d is = get_ok xs rest k d cc
+
+-- what is left of each stream is its log, where each has left one
+pub logs_of : {K : Type 0} (means : Meaning K) (run : RunValue K) (due : List SharedValue) (ended : List (Result (Option (StreamLog K)) RunFault)) (found : List (Option (StreamLog K))) (logs : List (StreamLog K)) → AreStreams run due → length ended ≡ length due → ((k : ℕ) (d : Result (Option (StreamLog K)) RunFault) → k < length due → (one : SharedValue) × (one ≡ get_or due k one) × IfOk (get_or ended k d) (λ left. IfSome left (λ log. IsLog means run one.number one.setup log))) → map Ok found ≡ ended → map Some logs ≡ found → AreLogs means run logs
+logs_of {K} means run due ended found logs are long each all some =
+    let many : length logs ≡ length run.setups = sym (length-map logs Some) ∙ ap (λ l. length l) some ∙ sym (length-map found Ok) ∙ ap (λ l. length l) all ∙ long ∙ are.many in
     record {
-      many = sym (length-map logs Some) ∙ ap (λ l. length l) all_found ∙ was.ended ∙ place ∙ all;
+      many = many;
       each = λ k s d below.
-          subst (λ l. IfSome l (λ x. IsLog means run k (get_or run.setups k s) x)) (ap (λ l. get_or l k (Some d)) (sym all_found) ∙ get_some logs k d) (was.are_logs k s (Some d) (subst (λ n. k < n) (sym (place ∙ all)) below));
+          let there : k < length due = subst (λ n. k < n) (sym are.many) below in
+          let one = each k (Ok (Some d)) there in
+          let is : one.0 ≡ record { number = k; setup = get_or run.setups k s; seats = length run.scripts } = one.1 ∙ are.each k one.0 s there in
+          let stands : get_or ended k (Ok (Some d)) ≡ Ok (Some (get_or logs k d)) = get_ok found ended k (Some d) all ∙ ap (λ (l : List (Option (StreamLog K))). Ok (get_or l k (Some d))) (sym some) ∙ ap (λ o. Ok o) (get_some logs k d) in
+          subst (λ (v : SharedValue). IsLog means run v.number v.setup (get_or logs k d)) is
+          (subst (λ r. IfOk r (λ left. IfSome left (λ log. IsLog means run one.0.number one.0.setup log))) stands one.2);
     }
 
 -- the seats of callers that have played their scripts, by the streams

@@ -1,21 +1,21 @@
 //! The streams of a run, as they end.
-ghost use Rattle.std.specs.Prelude.{◌≡◌, true, false, [], length, map, option_map, All, IfErr, IfOk, IfSome, Some};
-ghost use Rattle.strm_module.specs.Driver.{is_line};
+ghost use Rattle.std.specs.Prelude.{◌≡◌, ◌<◌, true, length, map, option_map, All, IfErr, IfOk, IfSome, Some};
 ghost use Rattle.strm_crew.specs.Transcript.{AreLogs, IsLog};
-ghost use Rattle.strm_crew.specs.Play.{ArePlayed, HasPlayed};
-ghost use Rattle.strm_run.specs.Inside.Ending.{is_end_refused, overrun_of, AreLinesFed, AreParted, AreSeatsPlayed, IsLate, IsOffered, IsStream, Leaves};
-ghost use Rattle.strm_job.specs.Scripts.{feed_of};
+ghost use Rattle.strm_crew.specs.Play.{ArePlayed, AreStreams};
+ghost use Rattle.strm_run.specs.Inside.Ending.{is_end_refused, overrun_of, AreLinesFed, AreParted, AreSeatsPlayed, IsLate, IsOffered, Leaves};
 
+use crate::due::{Due, all_due};
 use crate::feeds::offered_on;
 use crate::table::transposed;
 use std::alloc::Global;
-use std::mem;
+use std::thread::Threads;
 use strm_crew::{Account, Of, Offered, Played, Plays, Streams, holds_all, log_of};
 use strm_history::{Receipt, SameKind, StreamLog, Transcript};
 use strm_job::RunFault;
 use strm_module::ModuleOf;
 use strm_msg::NoMem;
-use strm_shared::{EndFault, Ended, FeedEnd, Seat, Shared};
+use strm_shared::{EndFault, Ended, FeedEnd, Seat};
+use strm_threads::shared_out;
 
 /// What the feeder of a stream leaves, and how many of its messages came back; nothing where it has none.
 fn fed<K, N: Plays<K>>(offered: Option<Offered<K, N>>) -> (Option<FeedEnd<K, Of<N>>>, u64)
@@ -79,21 +79,36 @@ fn parted<K: Drop, N: Plays<K>>(
 /// Ends one stream of a run: what is left of it, or nothing, where a call has no receipt that its history holds.
 fn end_one<M: ModuleOf, N: Plays<M::Kind>>(
     alloc: Global,
-    shared: Shared<M, Of<N>>,
-    accounts: Vec<Account<M::Kind, N>>,
-    offered: Option<Offered<M::Kind, N>>,
+    due: Due<M, N>,
 ) -> Result<Option<StreamLog<M::Kind>>, RunFault>
 where
     M::Kind: SameKind,
-    requires stream { IsStream N.run shared }
-    requires seats { All (HasPlayed N.run shared.number) accounts.items }
-    requires unfed { is_line shared.setup.driver ≡ false → feed_of N.run.feeds shared.number ≡ [] }
-    ensures log { IfOk result (λ found. IfSome found (λ log. IsLog M.Kind.means N.run shared.number shared.setup log)) }
+    ensures log { IfOk result (λ found. IfSome found (λ log. IsLog M.Kind.means N.run due.number due.setup log)) }
     ensures refusal { IfErr result (λ fault. is_end_refused fault ≡ true) }
 {
+    let (shared, accounts, offered) = due.into_parts();
     let (feed, overrun) = fed(offered);
     let (seats, receipts) = parted(alloc, accounts)?;
     log_of_end(shared.end(seats, feed), receipts.as_slice(), overrun)
+}
+
+/// What was found of each stream, where each ended. The first that did not gives the fault; else want of memory may.
+fn all_found<K: Drop>(
+    alloc: Global,
+    ended: Vec<Result<Option<StreamLog<K>>, RunFault>>,
+) -> Result<Vec<Option<StreamLog<K>>>, RunFault>
+    requires refusals { All (λ one. IfErr one (λ fault. is_end_refused fault ≡ true)) ended.items }
+    ensures found { IfOk result (λ all. map Ok all.items ≡ ended.items) }
+    ensures refusal { IfErr result (λ fault. is_end_refused fault ≡ true) }
+{
+    let mut all = Vec::new(alloc);
+    for one in ended {
+        let found = one?;
+        let Ok(()) = all.push(found) else {
+            return Err(RunFault::NoMem);
+        };
+    }
+    Ok(all)
 }
 
 /// The logs, where each stream has left one. Refused for want of memory alone.
@@ -113,35 +128,33 @@ fn all_of<K: Drop>(
     Ok(Some(logs))
 }
 
-/// Ends the streams of a run, in order. The first that does not end gives the fault; else a stream with a call that has no
-/// receipt that its history holds does.
-pub(crate) fn end_all<M: ModuleOf, N: Plays<M::Kind>>(
+/// Ends the streams of a run, in at most so many threads. The first in order that does not end gives the fault; else a stream
+/// with a call that has no receipt that its history holds does.
+fn end_all<M: ModuleOf, N: Plays<M::Kind> + Send + Sync, R: Threads + Sync>(
+    rt: &R,
     alloc: Global,
-    streams: Streams<M, N>,
-    mut accounts: Vec<Vec<Account<M::Kind, N>>>,
-    mut offered: Vec<Option<Offered<M::Kind, N>>>,
+    due: Vec<Due<M, N>>,
+    threads: usize,
 ) -> Result<Vec<StreamLog<M::Kind>>, RunFault>
 where
-    M::Kind: SameKind,
-    requires seats { AreSeatsPlayed N.run accounts.items }
-    requires offered { length offered.items ≡ length N.run.setups }
-    requires lines { AreLinesFed N.run }
+    M::Kind: SameKind + Send + Sync,
+    requires threads { 0 < threads }
+    requires streams { AreStreams N.run due.items }
     ensures logs { IfOk result (λ logs. AreLogs M.Kind.means N.run logs.items) }
     ensures late { IfErr result (λ fault. IsLate fault) }
 {
-    let Ok(mut logs) = Vec::with_capacity(alloc, offered.len()) else {
-        return Err(RunFault::NoMem);
-    };
-    let mut at: usize = 0;
-    for shared in streams.into_all() {
-        let mine = mem::replace(&mut accounts[at], Vec::new(alloc));
-        let log = end_one(alloc, shared, mine, offered[at].take())?;
-        let Ok(()) = logs.push(log) else {
-            return Err(RunFault::NoMem);
-        };
-        at += 1;
-    }
-    match all_of(alloc, logs)? {
+    let ended = shared_out(
+        rt,
+        alloc,
+        due,
+        threads,
+        &|due: Due<M, N>| -> Result<Option<StreamLog<M::Kind>>, RunFault>
+            ensures log { IfOk result (λ found. IfSome found (λ log. IsLog M.Kind.means N.run due.number due.setup log)) }
+            ensures refusal { IfErr result (λ fault. is_end_refused fault ≡ true) }
+        { end_one(alloc, due) },
+    )?;
+    let found = all_found(alloc, ended)?;
+    match all_of(alloc, found)? {
         Some(logs) => Ok(logs),
         None => Err(RunFault::NoReceipt),
     }
@@ -179,16 +192,20 @@ fn by_stream<K: Drop, N: Plays<K>>(
     Ok((accounts, offered))
 }
 
-/// Ends a run: the transcript, where each stream ended, and its history holds each receipt.
-pub(crate) fn finish<M: ModuleOf, N: Plays<M::Kind>>(
+/// Ends a run: the transcript, where each stream ended, and its history holds each receipt. Streams are ended in at most so many
+/// threads.
+pub(crate) fn finish<M: ModuleOf, N: Plays<M::Kind> + Send + Sync, R: Threads + Sync>(
+    rt: &R,
     alloc: Global,
     streams: Streams<M, N>,
     played: Vec<Played<M::Kind, N>>,
     offered: Vec<Offered<M::Kind, N>>,
     many: usize,
+    threads: usize,
 ) -> Result<Transcript<M::Kind>, RunFault>
 where
-    M::Kind: SameKind,
+    M::Kind: SameKind + Send + Sync,
+    requires threads { 0 < threads }
     requires many { length N.run.setups ≡ many }
     requires lines { AreLinesFed N.run }
     ensures logs { IfOk result (λ transcript. AreLogs M.Kind.means N.run transcript.streams.items) }
@@ -198,6 +215,7 @@ where
         drop(streams);
         return Err(RunFault::NoMem);
     };
-    let logs = end_all(alloc, streams, accounts, offered)?;
+    let due = all_due(alloc, streams, accounts, offered)?;
+    let logs = end_all(rt, alloc, due, threads)?;
     Ok(Transcript { streams: logs })
 }

@@ -5,6 +5,7 @@
 //! sequential stream could have given, and has each caller's calls on it, in order.
 #![tactic(auto)]
 
+mod due;
 mod ending;
 mod feeds;
 mod opening;

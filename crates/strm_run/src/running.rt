@@ -59,7 +59,7 @@ where
     let crews = deal(alloc, seated(alloc, scripts, seats)?, workers)?;
     let streams = Streams::<M, N>::new(all);
     let (played, offered) = play_out(rt, alloc, &streams, crews, feedings, gate)?;
-    finish(alloc, streams, played, offered, many)
+    finish(rt, alloc, streams, played, offered, many, workers as usize)
 }
 
 /// Plays scripts on streams that all callers share, and gives what is left of each stream.

@@ -1,6 +1,5 @@
 -- Room for an entry, and what a receipt shows.
 use Rattle.std.specs.Prelude.{ℕ, Bool, false, List, []}
-use Rattle.arrayvec.specs.ArrayVec.{ArrayVec}
 use Rattle.strm_msg.specs.Message.{Msg}
 use Rattle.strm_msg.specs.declared.words.End.{End}
 use Rattle.strm_msg.specs.declared.words.End.TheVariants.{A}
@@ -32,9 +31,9 @@ may_take_out (Asked request) = changes_modules request
 may_take_out (Arrived m) = false
 
 -- the entry of a call, with what became of it (no public clause cites it)
-abbrev pub filled : {K : Type 0} → RoomValue K → Answer → List Place → ℕ → ArrayVec ℕ → Entry K
+abbrev pub filled : {K : Type 0} → RoomValue K → Answer → List Place → ℕ → List ℕ → Entry K
 filled room answer moves looks out =
-    record { who = Caller room.caller; end = room.end; event = room.event; answer = answer; moves = moves; looks = looks; out = out }
+    record { who = Caller room.caller; end = room.end; event = room.event; answer = answer; moves = moves; looks = looks; out = record { items = out } }
 
 -- the entry of a message that came in (no public clause cites it)
 abbrev pub arrival_entry : {K : Type 0} → Msg → Answer → List Place → ℕ → Entry K

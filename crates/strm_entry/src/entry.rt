@@ -1,12 +1,11 @@
 //! The entries of a history.
 ghost use Rattle.std.specs.Prelude.{◌≡◌};
-ghost use Rattle.strm_entry.specs.Entry.{is_caller, out_in};
+ghost use Rattle.strm_entry.specs.Entry.{is_caller};
 
-use crate::serials::{AllSerials, Serials};
-use arrayvec::ArrayVec;
+use crate::serials::Serials;
 use strm_call::{Answer, Event};
 use strm_chain::Moves;
-use strm_module::{Boxed, BoxedShape, MOST_MODULES, ModuleOf};
+use strm_module::BoxedShape;
 use strm_msg::End;
 
 /// Who made a step.
@@ -46,23 +45,4 @@ impl Who {
     {
         self == Who::Caller(caller)
     }
-}
-
-/// The serials of the modules that a call has taken out, topmost first; a refused one takes none.
-pub fn taken_out<M: ModuleOf>(
-    answer: &Answer,
-    back: &ArrayVec<Option<Boxed<M>>, MOST_MODULES>,
-) -> AllSerials
-    ensures { result.items ≡ out_in answer.now back.now.items }
-{
-    let mut out = ArrayVec::new();
-    if matches!(answer, Answer::Refused(_)) {
-        return out;
-    }
-    for module in back.as_slice() {
-        if let Some(module) = module {
-            out.push(module.shape().serial);
-        }
-    }
-    out
 }

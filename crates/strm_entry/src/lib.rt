@@ -12,9 +12,9 @@ mod serials;
 mod transcript;
 
 pub use call::{Called, Landed};
-pub use entry::{Entry, Who, taken_out};
+pub use entry::{Entry, Who};
 pub use kept::Kept;
 pub use receipt::Receipt;
 pub use room::{Room, room_for, room_for_arrival, taken};
-pub use serials::{AllSerials, Serials};
+pub use serials::Serials;
 pub use transcript::{StreamLog, Transcript};

@@ -3,17 +3,19 @@ ghost use Rattle.std.specs.Prelude.{◌≡◌, false, [], IfOk, IfSome, is_some}
 ghost use Rattle.strm_call.specs.declared.event.Event.TheVariants.{Asked};
 ghost use Rattle.strm_call.specs.declared.answer.Answer.TheVariants.{Broke, Done};
 ghost use Rattle.strm_call.specs.declared.answer.Reply.TheVariants as Replies;
+ghost use Rattle.strm_entry.specs.Entry.{out_in};
 ghost use Rattle.strm_entry.specs.Receipt.{arrival_entry, filled, may_take_out};
 
 use crate::entry::{Entry, Who};
 use crate::kept::Kept;
 use crate::receipt::Receipt;
 use crate::serials::{AllSerials, Serials, room_for_serials};
+use arrayvec::ArrayVec;
 use std::alloc::Global;
 use std::marker::Model;
 use strm_call::{Answer, Call, Event, Reply, copy_request};
 use strm_chain::Moves;
-use strm_module::{Boxed, ModuleOf};
+use strm_module::{Boxed, MOST_MODULES, ModuleOf};
 use strm_msg::{BoxedMessage, End, Message, NoMem};
 use strm_once::Cell;
 
@@ -103,19 +105,19 @@ pub fn taken<K: Drop>(mut entry: Box<Entry<K>>, moves: Moves, looks: u64) -> Kep
 }
 
 impl<K: Drop> Room<K> {
-    /// The entry of the call, of which this became: as the history has it, and as the receipt shows it. There is no receipt
-    /// where the cell did not take the entry. Takes no memory.
-    pub fn fill(
+    /// The entry of the call, of which this became and these modules came back: as the history has it, and as the receipt shows
+    /// it. There is no receipt where the cell did not take the entry. Takes no memory.
+    pub fn fill<M: ModuleOf>(
         self,
         cell: Cell<Entry<K>>,
         answer: Answer,
         moves: Moves,
         looks: u64,
-        out: AllSerials,
+        back: &ArrayVec<Option<Boxed<M>>, MOST_MODULES>,
     ) -> (Kept<K>, Option<Receipt<K>>)
-        requires { may_take_out self.event ≡ false → out.items ≡ [] }
-        ensures kept { result.0 ≡ filled self answer moves looks out }
-        ensures shown { IfSome result.1 (λ r. r ≡ record { caller = self.caller; number = self.number; entry = filled self answer moves looks out }) }
+        requires { may_take_out self.event ≡ false → out_in answer back.now.items ≡ [] }
+        ensures kept { result.0 ≡ filled self answer moves looks (out_in answer back.now.items) }
+        ensures shown { IfSome result.1 (λ r. r ≡ record { caller = self.caller; number = self.number; entry = filled self answer moves looks (out_in answer back.now.items) }) }
     {
         let Room {
             caller,
@@ -123,10 +125,10 @@ impl<K: Drop> Room<K> {
             mut entry,
             serials,
         } = self;
+        entry.out = Serials::of_taken_out(&answer, back, serials);
         entry.answer = answer;
         entry.moves = moves;
         entry.looks = looks;
-        entry.out = Serials::in_room(out, serials);
         match cell.set(entry) {
             Ok((kept, held)) => (
                 Kept::in_cell(kept),

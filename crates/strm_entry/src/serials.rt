@@ -1,16 +1,17 @@
 //! The serials of the modules that a call took out.
 ghost use Rattle.std.specs.Prelude.{◌≡◌, false, [], IfOk, is_some};
 ghost use Rattle.strm_call.specs.Calls.{changes_modules};
+ghost use Rattle.strm_entry.specs.Entry.{out_in};
 
 use arrayvec::ArrayVec;
 use std::alloc::Global;
 use std::marker::Model;
-use strm_call::Request;
-use strm_module::MOST_MODULES;
+use strm_call::{Answer, Request};
+use strm_module::{Boxed, MOST_MODULES, ModuleOf};
 use strm_msg::NoMem;
 
 /// Serials of as many modules as an end may have.
-pub type AllSerials = ArrayVec<u64, MOST_MODULES>;
+pub(crate) type AllSerials = ArrayVec<u64, MOST_MODULES>;
 
 /// The serials of modules, topmost first, of which contracts see the list: two words, and a box where there are any.
 #[derive(Drop)]
@@ -36,14 +37,19 @@ impl Serials {
         Serials { boxed: None }
     }
 
-    /// Serials, in room that was found for them before, unless there are none.
-    pub(crate) fn in_room(serials: AllSerials, room: Option<Box<AllSerials>>) -> Serials
-        requires { is_some room ≡ false → serials.items ≡ [] }
-        ensures { result ≡ serials }
+    /// The serials of the modules that a call has taken out (`taken_out`), in room that was found for them before, unless
+    /// there are none. Takes no memory.
+    pub(crate) fn of_taken_out<M: ModuleOf>(
+        answer: &Answer,
+        back: &ArrayVec<Option<Boxed<M>>, MOST_MODULES>,
+        room: Option<Box<AllSerials>>,
+    ) -> Serials
+        requires { is_some room ≡ false → out_in answer.now back.now.items ≡ [] }
+        ensures { result ≡ record { items = out_in answer.now back.now.items } }
     {
         match room {
             Some(mut boxed) => {
-                *boxed = serials;
+                *boxed = taken_out(answer, back);
                 Serials { boxed: Some(boxed) }
             }
             None => Serials::none(),
@@ -85,4 +91,23 @@ pub(crate) fn room_for_serials<P>(
         Ok(room) => Ok(Some(room)),
         Err(_) => Err(NoMem),
     }
+}
+
+/// The serials of the modules that a call has taken out, topmost first; a refused one takes none.
+fn taken_out<M: ModuleOf>(
+    answer: &Answer,
+    back: &ArrayVec<Option<Boxed<M>>, MOST_MODULES>,
+) -> AllSerials
+    ensures { result.items ≡ out_in answer.now back.now.items }
+{
+    let mut out = ArrayVec::new();
+    if matches!(answer, Answer::Refused(_)) {
+        return out;
+    }
+    for module in back.as_slice() {
+        if let Some(module) = module {
+            out.push(module.shape().serial);
+        }
+    }
+    out
 }

@@ -13,6 +13,7 @@ use Rattle.strm_call.specs.declared.request.Request.{Request}
 use Rattle.strm_call.specs.declared.request.Request.TheVariants.{Putmsg, Putpmsg, Getmsg, Getpmsg, Read, Write, Push, Nread, Peek, SetRead, GetRead, Canput, Ckband, Getband, Pop, Look, Find, Str, Flush, FlushBand, Close}
 use Rattle.strm_call.specs.declared.answer.Answer.{Answer}
 use Rattle.strm_call.specs.declared.answer.Answer.TheVariants.{Done, Refused, Broke}
+use Rattle.strm_call.specs.declared.event.Event.{Event}
 use Rattle.strm_call.specs.declared.event.Event.TheVariants.{Asked}
 use Rattle.strm_head.specs.Answered.{AnsweredCall, IsLooked, IsBounded}
 use Rattle.strm_call.specs.Calls.{changes_modules}
@@ -22,8 +23,7 @@ use Rattle.strm_entry.specs.declared.entry.Entry.{Entry}
 use Rattle.strm_entry.specs.Entry.{serial_of, out_in}
 use Rattle.strm_history.specs.Steps.{due_back, IsStep}
 use Rattle.strm_history.specs.History.{Legal}
-use Rattle.strm_entry.specs.Receipt.{arrival_entry}
-use Rattle.strm_entry.specs.Receipt.{filled, RoomValue}
+use Rattle.strm_entry.specs.Receipt.{arrival_entry, filled, may_take_out, RoomValue}
 
 -- for kinds of any meaning
 module _ {K : Type 0} (means : Meaning K) where
@@ -77,13 +77,13 @@ module _ {K : Type 0} (means : Meaning K) where
   none_out image e request (Done reply) same = ap serials_of (nothing_out image e request same)
   none_out image e request Broke same = ap serials_of (nothing_out image e request same)
 
-  -- a call that takes no module out leaves no serials
-  pub no_serials : (image : Image K) (e : End) (request : Request (Shape K)) (answer : Answer) (out : List ℕ) (back : List (Option (Shape K))) → changes_modules request ≡ false → out ≡ out_in answer back → back ≡ back_of means image e request answer → out ≡ []
-  no_serials image e request answer out back same o b =
-      o ∙ ap (λ l. out_in answer l) b ∙ out_back image e request answer ∙ none_out image e request answer same
+  -- of a call that takes no module out there are no serials
+  pub no_serials : (image : Image K) (e : End) (request : Request (Shape K)) (answer twin : Answer) (back : List (Option (Shape K))) (event : Event (Shape K)) → event ≡ Asked request → twin ≡ answer → back ≡ back_of means image e request answer → may_take_out event ≡ false → out_in twin back ≡ []
+  no_serials image e request answer twin back event asked same is none =
+      ap (λ a. out_in a back) same ∙ ap (λ l. out_in answer l) is ∙ out_back image e request answer ∙ none_out image e request answer (sym (ap (λ what. may_take_out what) asked) ∙ none)
 
   -- a call, with the serials of the modules that came back, and what was asked as its history has it
-  pub call_step : (image : Image K) (room : RoomValue K) (e : End) (request : Request (Shape K)) (made : AnsweredCall) (twin : Answer) (moves : List Place) (looks : ℕ) (out : List ℕ) (back : List (Option (Shape K))) (after : Image K) → room.end ≡ e → room.event ≡ Asked request → twin ≡ made.answer → moves ≡ made.moves → looks ≡ made.looks → out ≡ out_in made.answer back → back ≡ back_of means image e request made.answer → Step means image e (Asked request) made.answer made.moves (out_of means image e request made.answer) after → IsLooked made.answer made.moves made.looks → (IsCalm means → IsBounded (begun_of means image e request).image made.answer made.moves made.looks after) → IsStep means image (filled room twin moves looks (record { items = out })) after
+  pub call_step : (image : Image K) (room : RoomValue K) (e : End) (request : Request (Shape K)) (made : AnsweredCall) (twin : Answer) (moves : List Place) (looks : ℕ) (out : List ℕ) (back : List (Option (Shape K))) (after : Image K) → room.end ≡ e → room.event ≡ Asked request → twin ≡ made.answer → moves ≡ made.moves → looks ≡ made.looks → out ≡ out_in made.answer back → back ≡ back_of means image e request made.answer → Step means image e (Asked request) made.answer made.moves (out_of means image e request made.answer) after → IsLooked made.answer made.moves made.looks → (IsCalm means → IsBounded (begun_of means image e request).image made.answer made.moves made.looks after) → IsStep means image (filled room twin moves looks out) after
   call_step image room e request made twin moves looks out back after at same equal m l o b step looked bound =
       let taken : out ≡ out_of means image e request made.answer = o ∙ ap (λ l. out_in made.answer l) b ∙ out_back image e request made.answer in
       rw (at, same, equal, m, l, taken) (record { by = refl; step = step; looks = looked; bound = bound })

@@ -40,10 +40,10 @@ module _ {K : Type 0} (means : Meaning K) where
   }
 
   -- a call that was made stands in the history, as its receipt shows
-  pub called : (old new : LogValue K) (room : RoomValue K) (call : Call (Shape K)) (made : AnsweredCall) (answer twin : Answer) (moves : List Place) (looks : ℕ) (out : List ℕ) (back : List (Option (Shape K))) (receipt : Option (ReceiptValue K)) → room.end ≡ call.end → room.event ≡ Asked call.request → answer ≡ made.answer → twin ≡ made.answer → out ≡ out_in made.answer back → back ≡ back_of means old.image call.end call.request made.answer → IsStep means old.image (filled room twin moves looks (record { items = out })) new.image → new.history ≡ old.history ++ filled room twin moves looks (record { items = out }) ∷ [] → new.setup ≡ old.setup → IfSome receipt (λ r. r ≡ record { caller = room.caller; number = room.number; entry = filled room twin moves looks (record { items = out }) }) → IsCalled means old room.caller room.number call answer back receipt new
+  pub called : (old new : LogValue K) (room : RoomValue K) (call : Call (Shape K)) (made : AnsweredCall) (answer twin : Answer) (moves : List Place) (looks : ℕ) (out : List ℕ) (back : List (Option (Shape K))) (receipt : Option (ReceiptValue K)) → room.end ≡ call.end → room.event ≡ Asked call.request → answer ≡ made.answer → twin ≡ made.answer → out ≡ out_in made.answer back → back ≡ back_of means old.image call.end call.request made.answer → IsStep means old.image (filled room twin moves looks out) new.image → new.history ≡ old.history ++ filled room twin moves looks out ∷ [] → new.setup ≡ old.setup → IfSome receipt (λ r. r ≡ record { caller = room.caller; number = room.number; entry = filled room twin moves looks out }) → IsCalled means old room.caller room.number call answer back receipt new
   called old new room call made answer twin moves looks out back receipt at same a equal o b step history setup shown = record {
     enters = record {
-      entry = filled room twin moves looks (record { items = out });
+      entry = filled room twin moves looks out;
       by = refl;
       at = at;
       has = same;

@@ -12,7 +12,7 @@ use arrayvec::ArrayVec;
 use std::alloc::Global;
 use std::marker::Model;
 use strm_call::{Call, Setup};
-use strm_entry::{Called, Entry, Kept, Landed, Room, room_for, room_for_arrival, taken, taken_out};
+use strm_entry::{Called, Entry, Kept, Landed, Room, room_for, room_for_arrival, taken};
 use strm_head::{Arrived, NewFault, Stream};
 use strm_module::{Boxed, ModuleOf};
 use strm_msg::Message;
@@ -101,8 +101,7 @@ impl<M: ModuleOf> Log<M> {
         let Call { end, request } = call;
         let mut back = ArrayVec::new();
         let (answer, twin, settled) = self.stream.call(end, request, &mut back).into_parts();
-        let out = taken_out(&answer, &back);
-        let (kept, receipt) = room.fill(cell, twin, settled.moves, settled.looks, out);
+        let (kept, receipt) = room.fill(cell, twin, settled.moves, settled.looks, &back);
         self.history.push_reserved(kept);
         Called::Done {
             answer,

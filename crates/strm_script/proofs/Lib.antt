@@ -1,3 +1,4 @@
 pub mod LineLemmas
 pub mod ReadBackLemmas
+pub mod SharingLemmas
 pub mod TableLemmas

@@ -2,3 +2,4 @@ pub mod Fields
 pub mod Replies
 pub mod Lines
 pub mod ReadBack
+pub mod Sharing

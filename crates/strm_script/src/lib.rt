@@ -9,6 +9,7 @@ mod module;
 mod printing;
 mod reply;
 mod request;
+mod sharing;
 mod stream;
 
 pub use entry::{end_word, put_event};
@@ -16,6 +17,7 @@ pub use field::{fields_are_read_back, put_number, put_part, put_word};
 pub use module::PrintKind;
 pub use printing::print;
 pub use reply::put_answer;
+pub use sharing::print_shared_out;
 pub use stream::{put_end, put_far_end, put_feed, put_heading};
 pub use strm_plan::{
     Cause, LoadFault, Name, Names, Plan, PlayModule, ProcessDecl, ReadKind, ScriptFault, load,

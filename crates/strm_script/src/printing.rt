@@ -11,7 +11,7 @@ use strm_history::{StreamLog, Transcript};
 use strm_plan::Names;
 
 /// Writes the lines of the stream of this number; nothing where no stream has it.
-fn put_numbered<W: Write, K: PrintKind + Drop>(
+pub(crate) fn put_numbered<W: Write, K: PrintKind + Drop>(
     w: &mut W,
     names: &Names,
     number: usize,

@@ -1,6 +1,9 @@
 //! A script is played, and its transcript or chart printed.
-ghost use Rattle.std.specs.Prelude.{if◌then◌else◌, IfOk, OnOk};
+ghost use Rattle.std.specs.Prelude.{◌≡◌, ◌≢◌, ◌<◌, if◌then◌else◌, IfOk, OnOk};
 ghost use Rattle.std.specs.Io.KnownBytes.{Appends};
+ghost use Rattle.std.specs.IoError.{error_kind};
+ghost use Rattle.std.specs.declared.io.ErrorKind.TheVariants.{OutOfMemory};
+ghost use Rattle.strm_job.specs.declared.fault.RunFault.TheVariants as RunFaults;
 ghost use Rattle.strm_plan.specs.Plan.{names_view, plan_view};
 ghost use Rattle.strm_plan.specs.Sound.{IsSound};
 ghost use Rattle.strm_script.specs.Fields.{builtin_spelling};
@@ -9,7 +12,7 @@ ghost use Rattle.strm_chart.specs.Chart.{chart_text};
 
 use std::alloc::Global;
 use std::fs;
-use std::io::{self, BufWriter, Write};
+use std::io::{self, BufWriter, ErrorKind, Write};
 use std::rt::Files;
 use std::sync::Wait;
 use std::thread::Threads;
@@ -17,7 +20,7 @@ use strm_chart::chart;
 use strm_module::Plain;
 use strm_plan::{Plan, parse};
 use strm_play::{Outcome, play_plan};
-use strm_script::{LoadFault, load, print};
+use strm_script::{LoadFault, load, print_shared_out};
 use strsh_options::{Fault, Options};
 
 /// How much is printed at once, in bytes.
@@ -36,42 +39,82 @@ fn plan_at<R: Files>(rt: &R, alloc: Global, path: &str) -> Result<Plan, Fault>
     Ok(parse::<Plain>(alloc, bytes.as_slice())?)
 }
 
-/// Writes what is left of a script that was played: as a chart where one is asked for, and else as a transcript.
-fn put_text<W: Write>(outcome: &Outcome, as_chart: bool, w: &mut W) -> io::Result<()>
+/// Writes what is left of a script that was played: as a chart where one is asked for, and else as a transcript, whose lines at most
+/// so many threads make.
+fn put_text<R: Threads + Sync, W: Write>(
+    rt: &R,
+    alloc: Global,
+    outcome: Outcome,
+    as_chart: bool,
+    threads: usize,
+    w: &mut W,
+) -> io::Result<()>
+    requires { 0 < threads }
     ensures { OnOk result (Appends (W.contents w.old) (W.contents w.new)
-        (if as_chart then chart_text builtin_spelling (names_view outcome.now.names) outcome.now.transcript.streams.items
-        else transcript_text builtin_spelling (names_view outcome.now.names) outcome.now.transcript.streams.items)) }
+        (if as_chart then chart_text builtin_spelling (names_view outcome.names) outcome.transcript.streams.items
+        else transcript_text builtin_spelling (names_view outcome.names) outcome.transcript.streams.items)) }
 {
+    let Outcome { names, transcript } = outcome;
     if as_chart {
-        chart(&outcome.transcript, &outcome.names, w)
+        chart(&transcript, &names, w)
     } else {
-        print(&outcome.transcript, &outcome.names, w)
+        print_shared_out(rt, alloc, transcript, &names, threads, w)
     }
 }
 
 /// Writes what is left of a script that was played, as a chart or as a transcript, to the last byte.
 ///
-/// Refused where the writer is, and with its error.
-pub fn put<W: Write>(outcome: &Outcome, as_chart: bool, w: &mut W) -> io::Result<()>
+/// Refused for want of memory, with an error of kind `OutOfMemory`, and where the writer is, with its error.
+pub fn put<R: Threads + Sync, W: Write>(
+    rt: &R,
+    alloc: Global,
+    outcome: Outcome,
+    as_chart: bool,
+    threads: usize,
+    w: &mut W,
+) -> io::Result<()>
+    requires threads { 0 < threads }
     ensures text { OnOk result (Appends (W.contents w.old) (W.contents w.new)
-        (if as_chart then chart_text builtin_spelling (names_view outcome.now.names) outcome.now.transcript.streams.items
-        else transcript_text builtin_spelling (names_view outcome.now.names) outcome.now.transcript.streams.items)) }
+        (if as_chart then chart_text builtin_spelling (names_view outcome.names) outcome.transcript.streams.items
+        else transcript_text builtin_spelling (names_view outcome.names) outcome.transcript.streams.items)) }
 {
-    put_text(outcome, as_chart, w)?;
+    put_text(rt, alloc, outcome, as_chart, threads, w)?;
     w.flush()
 }
 
+/// What keeps a script's outcome from being printed.
+fn not_put(error: io::Error) -> Fault
+    ensures memory { error_kind error ≡ OutOfMemory → result ≡ Fault.Run RunFaults.NoMem }
+    ensures write { error_kind error ≢ OutOfMemory → result ≡ Fault.Write }
+{
+    if error.kind() == ErrorKind::OutOfMemory {
+        Fault::no_memory()
+    } else {
+        Fault::Write
+    }
+}
+
 /// Prints what is left of a script that was played.
-fn put_out<R: Print>(
+fn put_out<R: Print + Threads + Sync>(
     rt: &R,
     alloc: Global,
-    outcome: &Outcome,
-    as_chart: bool,
-) -> Result<(), Fault> {
+    outcome: Outcome,
+    options: &Options,
+) -> Result<(), Fault>
+    requires { 0 < options.now.workers }
+{
     let Ok(mut out) = BufWriter::with_capacity(alloc, BUFFER, io::writer(rt)) else {
         return Err(Fault::no_memory());
     };
-    put(outcome, as_chart, &mut out).map_err(|_| Fault::Write)
+    put(
+        rt,
+        alloc,
+        outcome,
+        options.chart,
+        options.workers as usize,
+        &mut out,
+    )
+    .map_err(not_put)
 }
 
 /// Plays the script that a command line names, and prints its transcript, or its chart where that is asked for.
@@ -86,5 +129,5 @@ pub fn serve<R: Files + Print + Threads + Wait + AllocGlobal + Sync>(
     let options = Options::read(alloc, words)?;
     let plan = plan_at(rt, alloc, options.path)?;
     let outcome = play_plan::<Plain, R>(rt, alloc, plan, options.workers)?;
-    put_out(rt, alloc, &outcome, options.chart)
+    put_out(rt, alloc, outcome, &options)
 }

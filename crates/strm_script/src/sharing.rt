@@ -1,0 +1,140 @@
+//! What a run leaves, as text that several threads make.
+ghost use Rattle.std.specs.Prelude.{◌≡◌, ◌<◌, IfOk, OnOk, map};
+ghost use Rattle.std.specs.Io.KnownBytes.{Appends};
+ghost use Rattle.std.specs.IoError.{error_kind};
+ghost use Rattle.std.specs.declared.io.ErrorKind.TheVariants.{OutOfMemory};
+ghost use Rattle.strm_plan.specs.Plan.{names_view};
+ghost use Rattle.strm_script.specs.Lines.{numbered_text, transcript_text};
+ghost use Rattle.strm_script.specs.Sharing.{AreLines, AreNumbered, joined};
+
+use crate::module::PrintKind;
+use crate::printing::{print, put_numbered};
+use std::alloc::Global;
+use std::io::{self, BufWriter, ErrorKind, Write};
+use std::thread::Threads;
+use strm_history::{StreamLog, Transcript};
+use strm_msg::NoMem;
+use strm_plan::Names;
+use strm_threads::shared_out;
+
+/// How much of a stream's lines is gathered before it is put with the others of that stream, in bytes.
+const GATHERED: usize = 65_536;
+
+/// The lines of the stream of this number; none where no stream has it. Its log is dropped. Refused for want of memory alone.
+fn lines<K: PrintKind + Drop>(
+    alloc: Global,
+    names: &Names,
+    number: usize,
+    log: StreamLog<K>,
+) -> Result<Vec<u8>, NoMem>
+    ensures { IfOk result (λ text. text.items ≡ numbered_text K.spelling (names_view names.now) number log) }
+{
+    let Ok(mut out) = BufWriter::with_capacity(alloc, GATHERED, Vec::new(alloc)) else {
+        return Err(NoMem);
+    };
+    let Ok(()) = put_numbered(&mut out, names, number, &log) else {
+        return Err(NoMem);
+    };
+    match out.into_inner() {
+        Ok(text) => Ok(text),
+        Err(_) => Err(NoMem),
+    }
+}
+
+/// Logs, each with the number of its stream. Refused for want of memory alone.
+fn numbered<K: Drop>(
+    alloc: Global,
+    logs: Vec<StreamLog<K>>,
+) -> Result<Vec<(usize, StreamLog<K>)>, NoMem>
+    ensures { IfOk result (λ all. AreNumbered logs.items all.items) }
+{
+    let mut all = Vec::new(alloc);
+    let mut number: usize = 0;
+    for log in logs {
+        all.push((number, log))?;
+        number += 1;
+    }
+    Ok(all)
+}
+
+/// All of these, unless memory was wanting for one.
+fn all_made<T: Drop>(alloc: Global, made: Vec<Result<T, NoMem>>) -> Result<Vec<T>, NoMem>
+    ensures { IfOk result (λ all. map Ok all.items ≡ made.items) }
+{
+    let mut all = Vec::new(alloc);
+    for one in made {
+        all.push(one?)?;
+    }
+    Ok(all)
+}
+
+/// The lines of each stream, made in at most so many threads, each of which drops the logs whose lines it made. Refused for want of
+/// memory alone.
+fn all_lines<R: Threads + Sync, K: PrintKind + Drop + Send + Sync>(
+    rt: &R,
+    alloc: Global,
+    names: &Names,
+    logs: Vec<StreamLog<K>>,
+    threads: usize,
+) -> Result<Vec<Vec<u8>>, NoMem>
+    requires { 0 < threads }
+    ensures { IfOk result (λ all. AreLines K.spelling (names_view names.now) logs.items all.items) }
+{
+    let jobs = numbered(alloc, logs)?;
+    let made = shared_out(
+        rt,
+        alloc,
+        jobs,
+        threads,
+        &|job: (usize, StreamLog<K>)| -> Result<Vec<u8>, NoMem>
+            ensures { IfOk result (λ text. text.items ≡ numbered_text K.spelling (names_view names.entry.now) job.0 job.1) }
+        { lines(alloc, names, job.0, job.1) },
+    )?;
+    all_made(alloc, made)
+}
+
+/// Writes texts, one after another.
+#[tactic(auto, using(strm_text::proofs::WriteLemmas::appends_then))]
+fn put_texts<W: Write>(w: &mut W, texts: &[Vec<u8>]) -> io::Result<()>
+    ensures { OnOk result (Appends (W.contents w.old) (W.contents w.new) (joined texts.now)) }
+{
+    for text in texts {
+        w.write_all(text.as_slice())?;
+    }
+    Ok(())
+}
+
+/// Want of memory, as what prints says it.
+fn no_memory() -> io::Error
+    ensures { error_kind result ≡ OutOfMemory }
+{
+    io::Error::from(ErrorKind::OutOfMemory)
+}
+
+/// Prints a transcript to a writer as `print` does, with the lines of its streams made in at most so many threads, of which the
+/// caller's is one. What was printed is dropped in the threads too.
+///
+/// With one thread, and of a single stream, the lines are written as they are made. Else those of all streams are made before
+/// the first is written, and take memory.
+///
+/// Refused for want of memory, with an error of kind `OutOfMemory`, and then nothing was written; and where the writer is, with its
+/// error, after what could be written.
+pub fn print_shared_out<R: Threads + Sync, W: Write, K: PrintKind + Drop + Send + Sync>(
+    rt: &R,
+    alloc: Global,
+    transcript: Transcript<K>,
+    names: &Names,
+    threads: usize,
+    w: &mut W,
+) -> io::Result<()>
+    requires threads { 0 < threads }
+    ensures text { OnOk result (Appends (W.contents w.old) (W.contents w.new) (transcript_text K.spelling (names_view names.now) transcript.streams.items)) }
+{
+    if threads == 1 || transcript.streams.len() < 2 {
+        return print(&transcript, names, w);
+    }
+    let Ok(all) = all_lines(rt, alloc, names, transcript.streams, threads) else {
+        return Err(no_memory());
+    };
+    put_texts(w, all.as_slice())
+}

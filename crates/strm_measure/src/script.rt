@@ -1,4 +1,6 @@
 //! What a script costs to read, to play and to print, and what its transcript does not tell.
+ghost use Rattle.std.specs.Prelude.{◌<◌};
+
 use std::alloc::Global;
 use std::fs;
 use std::rt::{Clock, Files};
@@ -9,7 +11,7 @@ use strm_history::Transcript;
 use strm_module::{Kind, Plain};
 use strm_plan::{LoadFault, load, parse};
 use strm_play::{Outcome, play};
-use strm_script::print;
+use strm_script::print_shared_out;
 
 /// The bytes of the script at a path.
 pub fn script<R: Files>(rt: &R, alloc: Global, path: &str) -> Result<Vec<u8>, LoadFault> {
@@ -25,15 +27,23 @@ fn time_to_read(rt: &impl Clock, alloc: Global, bytes: &[u8]) -> anyhow::Result<
     Ok(read?.as_millis())
 }
 
-/// How many milliseconds it takes to print a transcript.
-fn time_to_print(rt: &impl Clock, alloc: Global, outcome: &Outcome) -> anyhow::Result<u128> {
+/// How many milliseconds it takes to print a transcript, in as many threads as there were workers, and to drop it.
+fn time_to_print<R: Clock + Threads + Sync>(
+    rt: &R,
+    alloc: Global,
+    outcome: Outcome,
+    workers: u32,
+) -> anyhow::Result<u128>
+    requires { 0 < workers }
+{
+    let Outcome { names, transcript } = outcome;
     let start = Instant::now(rt)?;
     let mut text = Vec::new(alloc);
-    print(&outcome.transcript, &outcome.names, &mut text)?;
+    print_shared_out(rt, alloc, transcript, &names, workers as usize, &mut text)?;
     Ok(start.elapsed(rt)?.as_millis())
 }
 
-/// How many milliseconds it takes to play a script, and then to print its transcript.
+/// How many milliseconds it takes to play a script, and then to print its transcript and to drop it.
 fn time_to_play<R: Clock + Threads + Wait + Sync>(
     rt: &R,
     alloc: Global,
@@ -43,9 +53,8 @@ fn time_to_play<R: Clock + Threads + Wait + Sync>(
     let start = Instant::now(rt)?;
     let outcome = play::<Plain, R>(rt, alloc, bytes, workers)?;
     let played = start.elapsed(rt);
-    let printed = time_to_print(rt, alloc, &outcome);
-    drop(outcome);
-    Ok((played?.as_millis(), printed?))
+    let printed = time_to_print(rt, alloc, outcome, workers)?;
+    Ok((played?.as_millis(), printed))
 }
 
 /// Reads, plays and prints a script, and prints how long each took, in milliseconds.

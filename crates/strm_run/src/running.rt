@@ -68,7 +68,8 @@ where
 /// is played by worker `i` modulo `workers`, and the callers of a worker one after another. Worker 0 is the
 /// thread that calls; each other that has a caller is a thread of its own. Each feed has a thread of its own
 /// too, which is started with the workers and offers each message once. Round each call the gate is called.
-/// What comes back from a call is dropped after it, outside of the lock.
+/// What comes back from a call is dropped after it, outside of the lock. When all have played, the streams are ended in at most
+/// as many threads as there are workers.
 ///
 /// To be called with setups of which each can be made (`are_setups`), with messages that come from lines
 /// (`are_from_line`), with fewer than 2^32 of streams and of scripts, and with modules and kinds of which

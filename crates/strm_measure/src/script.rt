@@ -36,10 +36,21 @@ fn time_to_print<R: Clock + Threads + Sync>(
 ) -> anyhow::Result<u128>
     requires { 0 < workers }
 {
-    let Outcome { names, transcript } = outcome;
+    let Outcome {
+        names,
+        mut transcript,
+    } = outcome;
     let start = Instant::now(rt)?;
     let mut text = Vec::new(alloc);
-    print_shared_out(rt, alloc, transcript, &names, workers as usize, &mut text)?;
+    print_shared_out(
+        rt,
+        alloc,
+        &mut transcript,
+        &names,
+        workers as usize,
+        &mut text,
+    )?;
+    drop(transcript);
     Ok(start.elapsed(rt)?.as_millis())
 }
 

@@ -1,5 +1,5 @@
 //! What a run leaves, as text that several threads make.
-ghost use Rattle.std.specs.Prelude.{◌≡◌, ◌<◌, IfOk, OnOk, map};
+ghost use Rattle.std.specs.Prelude.{◌≡◌, ◌<◌, [], IfOk, OnOk, length, map};
 ghost use Rattle.std.specs.Io.KnownBytes.{Appends};
 ghost use Rattle.std.specs.IoError.{error_kind};
 ghost use Rattle.std.specs.declared.io.ErrorKind.TheVariants.{OutOfMemory};
@@ -11,6 +11,7 @@ use crate::module::PrintKind;
 use crate::printing::{print, put_numbered};
 use std::alloc::Global;
 use std::io::{self, BufWriter, ErrorKind, Write};
+use std::mem;
 use std::thread::Threads;
 use strm_history::{StreamLog, Transcript};
 use strm_msg::NoMem;
@@ -112,28 +113,33 @@ fn no_memory() -> io::Error
 }
 
 /// Prints a transcript to a writer as `print` does, with the lines of its streams made in at most so many threads, of which the
-/// caller's is one. What was printed is dropped in the threads too.
+/// caller's is one.
 ///
-/// With one thread, and of a single stream, the lines are written as they are made. Else those of all streams are made before
-/// the first is written, and take memory.
+/// With one thread, and of a single stream, the lines are written as they are made, and the transcript is as it was. Else those of
+/// all streams are made before the first is written, and take memory; each log is dropped by the thread that made its lines, and
+/// the transcript has none then.
 ///
 /// Refused for want of memory, with an error of kind `OutOfMemory`, and then nothing was written; and where the writer is, with its
 /// error, after what could be written.
 pub fn print_shared_out<R: Threads + Sync, W: Write, K: PrintKind + Drop + Send + Sync>(
     rt: &R,
     alloc: Global,
-    transcript: Transcript<K>,
+    transcript: &mut Transcript<K>,
     names: &Names,
     threads: usize,
     w: &mut W,
 ) -> io::Result<()>
     requires threads { 0 < threads }
-    ensures text { OnOk result (Appends (W.contents w.old) (W.contents w.new) (transcript_text K.spelling (names_view names.now) transcript.streams.items)) }
+    ensures text { OnOk result (Appends (W.contents w.old) (W.contents w.new) (transcript_text K.spelling (names_view names.now) transcript.old.streams.items)) }
+    ensures one { threads ≡ 1 → transcript.new ≡ transcript.old }
+    ensures single { length transcript.old.streams.items < 2 → transcript.new ≡ transcript.old }
+    ensures dropped { 1 < threads → 1 < length transcript.old.streams.items → transcript.new.streams.items ≡ [] }
 {
     if threads == 1 || transcript.streams.len() < 2 {
-        return print(&transcript, names, w);
+        return print(transcript, names, w);
     }
-    let Ok(all) = all_lines(rt, alloc, names, transcript.streams, threads) else {
+    let logs = mem::replace(&mut transcript.streams, Vec::new(alloc));
+    let Ok(all) = all_lines(rt, alloc, names, logs, threads) else {
         return Err(no_memory());
     };
     put_texts(w, all.as_slice())

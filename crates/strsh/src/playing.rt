@@ -44,39 +44,40 @@ fn plan_at<R: Files>(rt: &R, alloc: Global, path: &str) -> Result<Plan, Fault>
 fn put_text<R: Threads + Sync, W: Write>(
     rt: &R,
     alloc: Global,
-    outcome: Outcome,
+    outcome: &mut Outcome,
     as_chart: bool,
     threads: usize,
     w: &mut W,
 ) -> io::Result<()>
     requires { 0 < threads }
     ensures { OnOk result (Appends (W.contents w.old) (W.contents w.new)
-        (if as_chart then chart_text builtin_spelling (names_view outcome.names) outcome.transcript.streams.items
-        else transcript_text builtin_spelling (names_view outcome.names) outcome.transcript.streams.items)) }
+        (if as_chart then chart_text builtin_spelling (names_view outcome.old.names) outcome.old.transcript.streams.items
+        else transcript_text builtin_spelling (names_view outcome.old.names) outcome.old.transcript.streams.items)) }
 {
     let Outcome { names, transcript } = outcome;
     if as_chart {
-        chart(&transcript, &names, w)
+        chart(transcript, names, w)
     } else {
-        print_shared_out(rt, alloc, transcript, &names, threads, w)
+        print_shared_out(rt, alloc, transcript, names, threads, w)
     }
 }
 
-/// Writes what is left of a script that was played, as a chart or as a transcript, to the last byte.
+/// Writes what is left of a script that was played, as a chart or as a transcript, to the last byte. Logs whose lines several threads
+/// made are dropped.
 ///
 /// Refused for want of memory, with an error of kind `OutOfMemory`, and where the writer is, with its error.
 pub fn put<R: Threads + Sync, W: Write>(
     rt: &R,
     alloc: Global,
-    outcome: Outcome,
+    outcome: &mut Outcome,
     as_chart: bool,
     threads: usize,
     w: &mut W,
 ) -> io::Result<()>
     requires threads { 0 < threads }
     ensures text { OnOk result (Appends (W.contents w.old) (W.contents w.new)
-        (if as_chart then chart_text builtin_spelling (names_view outcome.names) outcome.transcript.streams.items
-        else transcript_text builtin_spelling (names_view outcome.names) outcome.transcript.streams.items)) }
+        (if as_chart then chart_text builtin_spelling (names_view outcome.old.names) outcome.old.transcript.streams.items
+        else transcript_text builtin_spelling (names_view outcome.old.names) outcome.old.transcript.streams.items)) }
 {
     put_text(rt, alloc, outcome, as_chart, threads, w)?;
     w.flush()
@@ -98,7 +99,7 @@ fn not_put(error: io::Error) -> Fault
 fn put_out<R: Print + Threads + Sync>(
     rt: &R,
     alloc: Global,
-    outcome: Outcome,
+    outcome: &mut Outcome,
     options: &Options,
 ) -> Result<(), Fault>
     requires { 0 < options.now.workers }
@@ -128,6 +129,6 @@ pub fn serve<R: Files + Print + Threads + Wait + AllocGlobal + Sync>(
     let alloc = rt.alloc();
     let options = Options::read(alloc, words)?;
     let plan = plan_at(rt, alloc, options.path)?;
-    let outcome = play_plan::<Plain, R>(rt, alloc, plan, options.workers)?;
-    put_out(rt, alloc, outcome, &options)
+    let mut outcome = play_plan::<Plain, R>(rt, alloc, plan, options.workers)?;
+    put_out(rt, alloc, &mut outcome, &options)
 }

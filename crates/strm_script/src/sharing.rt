@@ -21,19 +21,19 @@ use strm_threads::shared_out;
 /// How much of a stream's lines is gathered before it is put with the others of that stream, in bytes.
 const GATHERED: usize = 65_536;
 
-/// The lines of the stream of this number; none where no stream has it. Its log is dropped. Refused for want of memory alone.
+/// The lines of the stream of this number; none where no stream has it. Refused for want of memory alone.
 fn lines<K: PrintKind + Drop>(
     alloc: Global,
     names: &Names,
     number: usize,
-    log: StreamLog<K>,
+    log: &StreamLog<K>,
 ) -> Result<Vec<u8>, NoMem>
-    ensures { IfOk result (λ text. text.items ≡ numbered_text K.spelling (names_view names.now) number log) }
+    ensures { IfOk result (λ text. text.items ≡ numbered_text K.spelling (names_view names.now) number log.now) }
 {
     let Ok(mut out) = BufWriter::with_capacity(alloc, GATHERED, Vec::new(alloc)) else {
         return Err(NoMem);
     };
-    let Ok(()) = put_numbered(&mut out, names, number, &log) else {
+    let Ok(()) = put_numbered(&mut out, names, number, log) else {
         return Err(NoMem);
     };
     match out.into_inner() {
@@ -58,28 +58,35 @@ fn numbered<K: Drop>(
     Ok(all)
 }
 
-/// All of these, unless memory was wanting for one.
-fn all_made<T: Drop>(alloc: Global, made: Vec<Result<T, NoMem>>) -> Result<Vec<T>, NoMem>
-    ensures { IfOk result (λ all. map Ok all.items ≡ made.items) }
+/// What was made of each, and each again, unless memory was wanting for one.
+fn all_made<T: Drop, L: Drop>(
+    alloc: Global,
+    made: Vec<(Result<T, NoMem>, L)>,
+) -> Result<(Vec<T>, Vec<L>), NoMem>
+    ensures made { IfOk result (λ all. map Ok all.0.items ≡ map (λ one. one.0) made.items) }
+    ensures again { IfOk result (λ all. all.1.items ≡ map (λ one. one.1) made.items) }
 {
     let mut all = Vec::new(alloc);
-    for one in made {
+    let mut again = Vec::new(alloc);
+    for (one, other) in made {
         all.push(one?)?;
+        again.push(other)?;
     }
-    Ok(all)
+    Ok((all, again))
 }
 
-/// The lines of each stream, made in at most so many threads, each of which drops the logs whose lines it made. Refused for want of
-/// memory alone.
+/// The lines of each stream, made in at most so many threads, and the logs again. Refused for want of memory alone, and then the
+/// logs are dropped.
 fn all_lines<R: Threads + Sync, K: PrintKind + Drop + Send + Sync>(
     rt: &R,
     alloc: Global,
     names: &Names,
     logs: Vec<StreamLog<K>>,
     threads: usize,
-) -> Result<Vec<Vec<u8>>, NoMem>
+) -> Result<(Vec<Vec<u8>>, Vec<StreamLog<K>>), NoMem>
     requires { 0 < threads }
-    ensures { IfOk result (λ all. AreLines K.spelling (names_view names.now) logs.items all.items) }
+    ensures lines { IfOk result (λ all. AreLines K.spelling (names_view names.now) logs.items all.0.items) }
+    ensures logs { IfOk result (λ all. all.1.items ≡ logs.items) }
 {
     let jobs = numbered(alloc, logs)?;
     let made = shared_out(
@@ -87,9 +94,10 @@ fn all_lines<R: Threads + Sync, K: PrintKind + Drop + Send + Sync>(
         alloc,
         jobs,
         threads,
-        &|job: (usize, StreamLog<K>)| -> Result<Vec<u8>, NoMem>
-            ensures { IfOk result (λ text. text.items ≡ numbered_text K.spelling (names_view names.entry.now) job.0 job.1) }
-        { lines(alloc, names, job.0, job.1) },
+        &|job: (usize, StreamLog<K>)| -> (Result<Vec<u8>, NoMem>, StreamLog<K>)
+            ensures text { IfOk result.0 (λ text. text.items ≡ numbered_text K.spelling (names_view names.entry.now) job.0 job.1) }
+            ensures log { result.1 ≡ job.1 }
+        { (lines(alloc, names, job.0, &job.1), job.1) },
     )?;
     all_made(alloc, made)
 }
@@ -115,12 +123,11 @@ fn no_memory() -> io::Error
 /// Prints a transcript to a writer as `print` does, with the lines of its streams made in at most so many threads, of which the
 /// caller's is one.
 ///
-/// With one thread, and of a single stream, the lines are written as they are made, and the transcript is as it was. Else those of
-/// all streams are made before the first is written, and take memory; each log is dropped by the thread that made its lines, and
-/// the transcript has none then.
+/// With one thread, and of a single stream, the lines are written as they are made, and no memory is taken. Else those of all streams
+/// are made before the first is written. The transcript is as it was.
 ///
-/// Refused for want of memory, with an error of kind `OutOfMemory`, and then nothing was written; and where the writer is, with its
-/// error, after what could be written.
+/// Refused for want of memory, with an error of kind `OutOfMemory`, and then nothing was written, and the transcript has no streams any
+/// more; and where the writer is, with its error, after what could be written.
 pub fn print_shared_out<R: Threads + Sync, W: Write, K: PrintKind + Drop + Send + Sync>(
     rt: &R,
     alloc: Global,
@@ -131,16 +138,17 @@ pub fn print_shared_out<R: Threads + Sync, W: Write, K: PrintKind + Drop + Send 
 ) -> io::Result<()>
     requires threads { 0 < threads }
     ensures text { OnOk result (Appends (W.contents w.old) (W.contents w.new) (transcript_text K.spelling (names_view names.now) transcript.old.streams.items)) }
+    ensures kept { OnOk result (transcript.new.streams.items ≡ transcript.old.streams.items) }
     ensures one { threads ≡ 1 → transcript.new ≡ transcript.old }
     ensures single { length transcript.old.streams.items < 2 → transcript.new ≡ transcript.old }
-    ensures dropped { 1 < threads → 1 < length transcript.old.streams.items → transcript.new.streams.items ≡ [] }
 {
     if threads == 1 || transcript.streams.len() < 2 {
         return print(transcript, names, w);
     }
     let logs = mem::replace(&mut transcript.streams, Vec::new(alloc));
-    let Ok(all) = all_lines(rt, alloc, names, logs, threads) else {
+    let Ok((texts, logs)) = all_lines(rt, alloc, names, logs, threads) else {
         return Err(no_memory());
     };
-    put_texts(w, all.as_slice())
+    transcript.streams = logs;
+    put_texts(w, texts.as_slice())
 }

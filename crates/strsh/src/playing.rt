@@ -11,11 +11,11 @@ ghost use Rattle.strm_script.specs.Lines.{transcript_text};
 ghost use Rattle.strm_chart.specs.Chart.{chart_text};
 
 use std::alloc::Global;
-use std::fs;
 use std::io::{self, BufWriter, ErrorKind, Write};
 use std::rt::Files;
 use std::sync::Wait;
 use std::thread::Threads;
+use std::{fs, mem};
 use strm_chart::chart;
 use strm_module::Plain;
 use strm_plan::{Plan, parse};
@@ -62,8 +62,7 @@ fn put_text<R: Threads + Sync, W: Write>(
     }
 }
 
-/// Writes what is left of a script that was played, as a chart or as a transcript, to the last byte. Logs whose lines several threads
-/// made are dropped.
+/// Writes what is left of a script that was played, as a chart or as a transcript, to the last byte.
 ///
 /// Refused for want of memory, with an error of kind `OutOfMemory`, and where the writer is, with its error.
 pub fn put<R: Threads + Sync, W: Write>(
@@ -130,5 +129,8 @@ pub fn serve<R: Files + Print + Threads + Wait + AllocGlobal + Sync>(
     let options = Options::read(alloc, words)?;
     let plan = plan_at(rt, alloc, options.path)?;
     let mut outcome = play_plan::<Plain, R>(rt, alloc, plan, options.workers)?;
-    put_out(rt, alloc, &mut outcome, &options)
+    let put = put_out(rt, alloc, &mut outcome, &options);
+    // The program ends: to drop what is left, entry by entry, would cost up to a tenth of its time.
+    mem::forget(outcome);
+    put
 }

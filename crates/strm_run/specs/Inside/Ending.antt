@@ -37,7 +37,7 @@ pub record IsStream {K : Type 0} (run : RunValue K) (shared : SharedValue) : Typ
   pub setup_is : (s : Setup) → get_or run.setups shared.number s ≡ shared.setup
   pub callers : shared.seats ≡ length run.scripts
 
--- a stream of a run whose callers have played, with their seats on it; nothing is for it, unless it is a line
+-- a stream of a run whose callers have played, with their seats on it; no feed is for it, unless it is a line
 pub record IsDue {K : Type 0} (run : RunValue K) (shared : SharedValue) (seats : List SeatValue) : Type 0 where
   pub stream : IsStream run shared
   pub played : All (HasPlayed run shared.number) seats

@@ -7,5 +7,6 @@ abbrev pub invariant-loop-one : goal.invariant-loop-one
 invariant-loop-one g l = record {
   left : into_iter_len l.one-iterator ≡ length (into_iter_items l.one-iterator);
   rest : l.yielded ++ into_iter_items l.one-iterator ≡ l.fn.made.items;
-  made : map Ok l.all.items ≡ l.yielded;
+  made : map Ok l.all.items ≡ map (λ one. one.0) l.yielded;
+  again : l.again.items ≡ map (λ one. one.1) l.yielded;
 }

@@ -1,5 +1,5 @@
 //! What a script costs to read, to play and to print, and what its transcript does not tell.
-ghost use Rattle.std.specs.Prelude.{◌<◌};
+ghost use Rattle.std.specs.Prelude.{◌<◌, IfOk};
 
 use std::alloc::Global;
 use std::fs;
@@ -9,7 +9,7 @@ use std::thread::Threads;
 use std::time::Instant;
 use strm_history::Transcript;
 use strm_module::{Kind, Plain};
-use strm_plan::{LoadFault, load, parse};
+use strm_plan::{LoadFault, load, parse_shared_out};
 use strm_play::{Outcome, play};
 use strm_script::print_shared_out;
 
@@ -18,10 +18,17 @@ pub fn script<R: Files>(rt: &R, alloc: Global, path: &str) -> Result<Vec<u8>, Lo
     load(alloc, fs::open(rt, path)?)
 }
 
-/// How many milliseconds it takes to read a script.
-fn time_to_read(rt: &impl Clock, alloc: Global, bytes: &[u8]) -> anyhow::Result<u128> {
+/// How many milliseconds it takes to read a script, in as many threads as there are workers.
+fn time_to_read<R: Clock + Threads + Sync>(
+    rt: &R,
+    alloc: Global,
+    bytes: &[u8],
+    workers: u32,
+) -> anyhow::Result<u128>
+    requires { 0 < workers }
+{
     let start = Instant::now(rt)?;
-    let plan = parse::<Plain>(alloc, bytes)?;
+    let plan = parse_shared_out::<Plain, R>(rt, alloc, bytes, workers as usize)?;
     let read = start.elapsed(rt);
     drop(plan);
     Ok(read?.as_millis())
@@ -60,7 +67,9 @@ fn time_to_play<R: Clock + Threads + Wait + Sync>(
     alloc: Global,
     bytes: &[u8],
     workers: u32,
-) -> anyhow::Result<(u128, u128)> {
+) -> anyhow::Result<(u128, u128)>
+    ensures { IfOk result (λ _. 0 < workers) }
+{
     let start = Instant::now(rt)?;
     let outcome = play::<Plain, R>(rt, alloc, bytes, workers)?;
     let played = start.elapsed(rt);
@@ -76,8 +85,8 @@ pub fn measure<R: Files + Print + Clock + Threads + Wait + AllocGlobal + Sync>(
 ) -> anyhow::Result<()> {
     let alloc: Global = rt.alloc();
     let bytes = script(rt, alloc, path)?;
-    let read = time_to_read(rt, alloc, bytes.as_slice())?;
     let (played, printed) = time_to_play(rt, alloc, bytes.as_slice(), workers)?;
+    let read = time_to_read(rt, alloc, bytes.as_slice(), workers)?;
     let played = played.saturating_sub(read);
     println!(rt; "{path}, {} bytes, {workers} workers:", bytes.len())?;
     println!(rt; "read {read} ms, played {played} ms, printed {printed} ms")?;

@@ -2,6 +2,8 @@ pub mod FieldLemmas
 pub mod HandingLemmas
 pub mod LineLemmas
 pub mod MoreLemmas
+pub mod ReadLemmas
+pub mod SectionLemmas
 pub mod SoundLemmas
 pub mod StepLemmas
 pub mod StreamLemmas

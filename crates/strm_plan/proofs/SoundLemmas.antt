@@ -1,14 +1,12 @@
 -- Each line keeps what a run asks of a plan.
-use Rattle.std.proofs.Common.{◌≡◌, ◌≤◌, ℕ, ◌+◌, ◌==◌, nat_lt, ◌&&◌, not, Bool, true, false, cond, List, [], ◌∷◌, ◌++◌, length, slice_index, slice_get, codes, Some, Result, Ok, Err, refl, arith}
-use Rattle.std.specs.List.{All, list_all}
+use Rattle.std.proofs.Common.{◌≡◌, ◌≤◌, ℕ, ◌+◌, ◌==◌, nat_lt, ◌&&◌, not, Bool, true, false, cond, List, [], ◌∷◌, ◌++◌, length, slice_get, codes, Some, Result, Ok, Err, refl, sym, ap, subst, ◌∙◌, arith}
+use Rattle.std.specs.List.{All}
 use Rattle.std.specs.Str.{bytes_eq}
 use Rattle.std.proofs.lemmas.Bool.{ltb-true}
-use Rattle.std.proofs.lemmas.List.{length-append}
+use Rattle.std.proofs.lemmas.List.{append-nil, length-append}
 use Rattle.std.proofs.lemmas.List.Elements.{All-nil, All-push}
 use Rattle.strm_msg.specs.Message.{Msg}
 use Rattle.strm_msg.specs.Kind.{is_from_line}
-use Rattle.strm_text.specs.Bytes.{is_allowed}
-use Rattle.strm_text.specs.Text.{fields_of}
 use Rattle.strm_module.specs.declared.driver.Driver.{Driver}
 use Rattle.strm_module.specs.Driver.{is_line}
 use Rattle.strm_call.specs.Setup.{is_fit, is_ring}
@@ -21,47 +19,26 @@ use Rattle.strm_verb.specs.declared.arrival.MessageWord.{MessageWord}
 use Rattle.strm_verb.specs.declared.fault.Cause.{Cause}
 use Rattle.strm_verb.specs.declared.fault.Cause.TheVariants as causes
 use Rattle.strm_verb.specs.declared.verb.Verb.{Verb}
-use Rattle.strm_plan.specs.Plan.{Call, Process, Fed, Partial, Place, Nowhere, In_process, In_feed}
-use Rattle.strm_plan.specs.Reading.{ended, ended_at, plan_of, fresh_name, driver_at, setup_arity, setup_at, setup_onto, declared_at, has_room, with_stream, stream_onto, process_name, with_process, process_onto, has_feed, with_feed, feed_onto, call_at, with_call, call_onto, with_message, message_onto, inner_onto, outside, word_onto, fields_onto, line_onto, modules_after, nothing_yet}
+use Rattle.strm_plan.specs.Plan.{Call, Process, Fed, Streams, Partial, Whole, Place, Nowhere, In_process, In_feed}
+use Rattle.strm_plan.specs.Reading.{ended, ended_at, plan_of, fresh_name, driver_at, setup_arity, setup_at, setup_onto, declared_at, has_room, with_stream, stream_onto, process_name, with_process, process_onto, has_feed, with_feed, feed_onto, call_at, with_call, call_onto, with_message, message_onto, inner_onto, outside, word_onto, fields_in, fields_onto, line_onto, modules_after, nothing_yet, FaultAt, lines_onto, then_lines}
 use Rattle.strm_plan.specs.Targets.{stream_names, stream_at}
-use Rattle.strm_plan.specs.Sound.{AreSetups, AreFromLine, end_is_there, line_is_there, AreCallsThere, AreProcessesThere, AreLinesThere, AreOnce, IsSound}
-use Rattle.strm_plan.specs.declared.draft.TheConstants.{MOST_STREAMS, MOST_PROCESSES, MOST_CALLS, MOST_MESSAGES, LONGEST_LINE}
+use Rattle.strm_plan.specs.Sound.{end_is_there, line_is_there, AreCallsThere, IsSound}
+use Rattle.strm_plan.specs.declared.draft.TheConstants.{MOST_STREAMS, MOST_PROCESSES, MOST_CALLS, MOST_MESSAGES}
+use Rattle.strm_plan.specs.Section.{IsMore}
+use Rattle.strm_plan.specs.Kept.{IsKept}
 use Rattle.strm_plan.proofs.StepLemmas.{through, passed, either, same, found_in}
 use Rattle.strm_plan.proofs.FieldLemmas.{setup_fits, message_from_line}
-use Rattle.strm_plan.proofs.ThereLemmas.{IsPlaceThere, call_there, stream_found, line_there, processes_more, lines_more, place_more, unfed, both_of, once_more}
-
--- a process that goes on is one more than those that ended
-abbrev going : {K : Type 0} → Place K → ℕ
-going Nowhere = 0
-going (In_process process) = 1
-going (In_feed feed) = 0
-
--- the messages of the feed that goes on come from a line
-abbrev AreGoing : {K : Type 0} → Place K → Type 0
-AreGoing Nowhere = Unit {0}
-AreGoing (In_process process) = Unit {0}
-AreGoing (In_feed feed) = All (λ m. is_from_line m.kind ≡ true) feed.messages
-
--- all is there that a plan names so far, and no line has two feeds
-pub record AreThere {K : Type 0} (d : Partial K) : Type 0 where
-  pub calls : AreProcessesThere d.streams d.processes
-  pub lines : AreLinesThere d.streams d.feeds
-  pub once : AreOnce d.feeds
-  pub going_on : IsPlaceThere d.streams d.feeds d.place
-
--- a plan of which a run can be made when it ends here
-pub record IsKept {K : Type 0} (d : Partial K) : Type 0 where
-  pub setups : AreSetups d.streams
-  pub few_streams : length d.streams ≤ MOST_STREAMS
-  pub few_processes : length d.processes + going d.place ≤ MOST_PROCESSES
-  pub messages : AreFromLine d.feeds
-  pub going_on : AreGoing d.place
-  pub there : AreThere d
+use Rattle.strm_plan.proofs.ThereLemmas.{call_there, stream_found, line_there, processes_more, lines_more, place_more, unfed, both_of, once_more}
 
 -- what a line keeps, which declares one module at most
 pub record Keeps {K : Type 0} (d e : Partial K) : Type 0 where
   pub kept : IsKept e
   pub modules : e.modules ≤ d.modules + 1
+  pub streams : IsMore d.streams e.streams
+
+-- nothing was declared
+none_more : (streams : Streams) → IsMore streams streams
+none_more streams = ([], sym (append-nil streams))
 
 -- ---- what goes on ends
 
@@ -102,6 +79,11 @@ ended_modules : {K : Type 0} (d : Partial K) (place : Place K) → (ended_at d p
 ended_modules d Nowhere = refl
 ended_modules d (In_process process) = refl
 ended_modules d (In_feed feed) = refl
+
+ended_streams : {K : Type 0} (d : Partial K) (place : Place K) → (ended_at d place).streams ≡ d.streams
+ended_streams d Nowhere = refl
+ended_streams d (In_process process) = refl
+ended_streams d (In_feed feed) = refl
 
 ended_place : {K : Type 0} (d : Partial K) (place : Place K) → (ended_at d place).place ≡ Nowhere
 ended_place d Nowhere = refl
@@ -160,6 +142,7 @@ with_stream_keeps d e name setup fits is k =
         };
       };
       modules = omega arith;
+      streams = (named name setup ∷ [], refl);
     }))
 
 setup_keeps : {K : Type 0} (d e : Partial K) (driver : Driver) (name : List ℕ) (texts : List (List ℕ)) → setup_onto d driver name texts ≡ Ok e → IsKept d → Keeps d e
@@ -200,6 +183,7 @@ with_process_keeps {K} d e name is k =
         };
       };
       modules = omega arith;
+      streams = none_more d.streams;
     }))
 
 process_keeps : {K : Type 0} (d e : Partial K) (texts : List (List ℕ)) → process_onto d texts ≡ Ok e → IsKept d → Keeps d e
@@ -235,6 +219,7 @@ with_feed_keeps d e text found named is k =
         };
       };
       modules = omega arith;
+      streams = none_more d.streams;
     }))
 
 feed_keeps : {K : Type 0} (d e : Partial K) (texts : List (List ℕ)) → feed_onto d texts ≡ Ok e → IsKept d → Keeps d e
@@ -272,6 +257,7 @@ call_keeps {K} words d e process verb texts is k =
         };
       };
       modules = one_module verb d.modules (is_push verb);
+      streams = none_more d.streams;
     })))
 
 -- ---- a message of a feed
@@ -294,6 +280,7 @@ message_keeps d e feed word texts is k =
         there = record { calls = k.there.calls; lines = k.there.lines; once = k.there.once; going_on = k.there.going_on };
       };
       modules = omega arith;
+      streams = none_more d.streams;
     })))
 
 -- ---- a line
@@ -305,7 +292,11 @@ inner_keeps words d e (In_feed feed) word texts is k = through (or_fault (outsid
 
 -- what a line keeps of what has ended, it keeps
 since_ended : {K : Type 0} (d e : Partial K) → Keeps (ended d) e → Keeps d e
-since_ended d e keeps = record { kept = keeps.kept; modules = omega (arith, keeps.modules, ended_modules d d.place) }
+since_ended d e keeps = record {
+  kept = keeps.kept;
+  modules = omega (arith, keeps.modules, ended_modules d d.place);
+  streams = (keeps.streams.0, keeps.streams.1 ∙ ap (λ (s : Streams). s ++ keeps.streams.0) (ended_streams d d.place));
+}
 
 word_keeps : {K : Type 0} (words : KindWords K) (d e : Partial K) (word : List ℕ) (texts : List (List ℕ)) → word_onto words d word texts ≡ Ok e → IsKept d → Keeps d e
 unfolding word_onto
@@ -317,20 +308,25 @@ word_keeps words d e word texts is k =
     inner_keeps words d e d.place word texts is k)))
 
 unchanged : {K : Type 0} (d e : Partial K) → ◌≡◌ {A = Result (Partial K) Cause} (Ok d) (Ok e) → IsKept d → Keeps d e
-unchanged d e is k = same (Keeps d) d e is (record { kept = k; modules = omega arith })
+unchanged d e is k = same (Keeps d) d e is (record { kept = k; modules = omega arith; streams = none_more d.streams })
 
 fields_keep : {K : Type 0} (words : KindWords K) (d e : Partial K) (texts : List (List ℕ)) → fields_onto words d texts ≡ Ok e → IsKept d → Keeps d e
 fields_keep words d e [] is k = unchanged d e is k
 fields_keep words d e (word ∷ texts) is k = word_keeps words d e word texts is k
 
--- a line that is short enough and no comment
-abbrev judged : {K : Type 0} → KindWords K → Partial K → List ℕ → Result (Partial K) Cause
-judged words d line = cond (list_all is_allowed line) (fields_onto words d (fields_of line)) (Err causes.Byte)
-
 -- a line keeps a plan of which a run can be made
 pub line_keeps : {K : Type 0} (words : KindWords K) (d e : Partial K) (line : List ℕ) → line_onto words d line ≡ Ok e → IsKept d → Keeps d e
 unfolding line_onto
-line_keeps words d e line is k =
-    either (nat_lt LONGEST_LINE (length line)) (Err causes.TooLong) (cond (slice_index line 0 == 35) (Ok d) (judged words d line)) e is (λ is. absurd cc) (λ is.
-    either (slice_index line 0 == 35) (Ok d) (judged words d line) e is (λ is. unchanged d e is k) (λ is.
-    passed (list_all is_allowed line) (fields_onto words d (fields_of line)) e causes.Byte is (λ _ is. fields_keep words d e (fields_of line) is k)))
+line_keeps words d e line is k = through (fields_in line) (λ texts. fields_onto words d texts) e is (λ texts _ is. fields_keep words d e texts is k)
+
+-- the others follow a line that was added
+after_line : {K : Type 0} (n : ℕ) (read : Result (Partial K) Cause) (others : Partial K → Result (Whole K) FaultAt) (whole : Whole K) → then_lines n read others ≡ Ok whole → ((e : Partial K) → read ≡ Ok e → others e ≡ Ok whole → IsSound whole) → IsSound whole
+after_line n (Ok e) others whole is goes = goes e refl is
+after_line n (Err cause) others whole is goes = absurd cc
+
+-- what lines spell is sound
+pub lines_sound : {K : Type 0} (words : KindWords K) (all : List (List ℕ)) (n : ℕ) (d : Partial K) (whole : Whole K) → lines_onto words n d all ≡ Ok whole → IsKept d → IsSound whole
+unfolding lines_onto
+lines_sound {K} words [] n d whole is k = let one : plan_of d ≡ whole = cc in subst (λ (w : Whole K). IsSound w) one (kept_sound d k)
+lines_sound {K} words (line ∷ all) n d whole is k =
+    after_line (n + 1) (line_onto words d line) (λ e. lines_onto words (n + 1) e all) whole is (λ e read is. lines_sound words all (n + 1) e whole is (line_keeps words d e line read k).kept)

@@ -1,7 +1,6 @@
 -- Each line keeps that all is there which processes and feeds name, and that no line has two feeds.
 use Rattle.std.proofs.Common.{◌≡◌, ℕ, zero, suc, ◌==◌, ◌&&◌, ◌||◌, not, Bool, true, false, List, [], ◌∷◌, ◌++◌, length, position, slice_get, get_or, Some, Ok, refl, ap, ◌∙◌, codes}
 use Rattle.std.specs.Str.{bytes_eq}
-use Rattle.std.specs.List.{All}
 use Rattle.std.proofs.lemmas.Bool.{eqb-false}
 use Rattle.std.proofs.lemmas.List.Elements.{All-nil, All-cons}
 use Rattle.std.proofs.lemmas.List.Quantifiers.{all_pairs_push}
@@ -21,6 +20,7 @@ use Rattle.strm_plan.specs.Plan.{Call, Process, Fed, Streams, Place, Nowhere, In
 use Rattle.strm_plan.specs.Reading.{call_at, placed_call, has_feed}
 use Rattle.strm_plan.specs.Targets.{stream_names, stream_at, stream_of, target_of, end_of, end_a}
 use Rattle.strm_plan.specs.declared.plan.TheConstants.{LONGEST}
+use Rattle.strm_plan.specs.Kept.{IsUnfed, IsPlaceThere}
 use Rattle.strm_plan.specs.Sound.{end_is_there, line_is_there, AreCallsThere, AreProcessesThere, AreLinesThere, AreOnce}
 use Rattle.strm_plan.proofs.StepLemmas.{through, passed, on, under, same, same_found, found_in}
 
@@ -107,16 +107,6 @@ pub lines_more : (streams : Streams) (stream : List ℕ × Setup) (feeds : List 
 lines_more streams stream feeds all = λ k d within. line_more streams stream (get_or feeds k d).stream (all k d within)
 
 -- ---- what goes on
-
--- no feed is for this stream
-abbrev pub IsUnfed : List Fed → ℕ → Type 0
-IsUnfed feeds number = All (λ other. other.stream ≡ number → ⊥) feeds
-
--- what goes on names what is there, and a feed that goes on is the first of its line
-abbrev pub IsPlaceThere : {K : Type 0} → Streams → List Fed → Place K → Type 0
-IsPlaceThere streams feeds Nowhere = Unit {0}
-IsPlaceThere streams feeds (In_process process) = AreCallsThere streams process.calls
-IsPlaceThere streams feeds (In_feed feed) = (line_is_there (slice_get streams feed.stream) ≡ true) × IsUnfed feeds feed.stream
 
 pub place_more : {K : Type 0} (streams : Streams) (stream : List ℕ × Setup) (feeds : List Fed) (place : Place K) → IsPlaceThere streams feeds place → IsPlaceThere (streams ++ stream ∷ []) feeds place
 place_more streams stream feeds Nowhere there = tt

@@ -3,6 +3,8 @@ pub mod Targets
 pub mod Reading
 pub mod Spelling
 pub mod Sound
+pub mod Kept
+pub mod Section
 pub mod Handing
 pub mod Fault
 pub mod Load

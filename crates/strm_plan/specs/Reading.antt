@@ -200,12 +200,15 @@ abbrev pub fields_onto : {K : Type 0} → KindWords K → Partial K → List (Li
 fields_onto words d [] = Ok d
 fields_onto words d (word ∷ texts) = word_onto words d word texts
 
--- a line without its LF and the CR before it: its length is judged first, and a comment for nothing else
-unfoldable pub line_onto : {K : Type 0} → KindWords K → Partial K → List ℕ → Result (Partial K) Cause
-line_onto words d line =
+-- the fields of a line without its LF and the CR before it: its length is judged first, and a comment, which has none, for nothing else
+abbrev pub fields_in : List ℕ → Result (List (List ℕ)) Cause
+fields_in line =
     if nat_lt LONGEST_LINE (length line) then Err causes.TooLong
-    else (if slice_index line 0 == 35 then Ok d
-    else (if list_all is_allowed line then fields_onto words d (fields_of line) else Err causes.Byte))
+    else (if slice_index line 0 == 35 then Ok [] else (if list_all is_allowed line then Ok (fields_of line) else Err causes.Byte))
+
+-- a line
+unfoldable pub line_onto : {K : Type 0} → KindWords K → Partial K → List ℕ → Result (Partial K) Cause
+line_onto words d line = fields_in line >>= λ texts. fields_onto words d texts
 
 -- ---- all lines
 

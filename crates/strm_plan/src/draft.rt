@@ -1,8 +1,9 @@
 //! A plan while it is read, and how it grows line by line.
-ghost use Rattle.std.specs.Prelude.{◌≡◌, ◌≤◌, ◌<◌, ◌^◌, Ok, length, map};
-ghost use Rattle.strm_plan.specs.Plan.{draft_view, feed_view, plan_view, process_view, streams_view};
+ghost use Rattle.std.specs.Prelude.{◌≡◌, ◌≤◌, ◌<◌, ◌^◌, true, Ok, length, map};
+ghost use Rattle.strm_plan.specs.Plan.{call_view, draft_view, feed_view, plan_view, process_view, streams_view};
 ghost use Rattle.strm_plan.specs.Plan.{In_feed, In_process};
 ghost use Rattle.strm_plan.specs.Reading as reading;
+ghost use Rattle.strm_plan.specs.Section.{takes, with_calls};
 ghost use Rattle.strm_verb.specs.Fault.{Gives};
 
 use crate::call_line::{call_at, modules_after};
@@ -14,7 +15,7 @@ use indexmap::IndexMap;
 use std::alloc::Global;
 use std::mem;
 use strm_call::Setup;
-use strm_job::Feed;
+use strm_job::{Feed, ScriptCall};
 use strm_module::{Boxed, Driver};
 use strm_text::{cut_fields, is_allowed};
 use strm_verb::{Cause, MessageWord, PlayModule, ReadError, ReadKind, Verb, message_at, named};
@@ -72,6 +73,24 @@ fn has_feed(feeds: &[Feed], number: u32) -> bool
     ensures { result ≡ reading.has_feed (map feed_view feeds.now) number }
 {
     feeds.iter().any(|feed| feed.stream == number)
+}
+
+/// The fields of a line, in a list that is for them. Its length is judged first, and a comment, which begins with `#` and has none,
+/// for nothing else.
+pub(crate) fn fields_in<'a>(line: &'a [u8], texts: &mut Vec<&'a [u8]>) -> Result<(), ReadError>
+    ensures { Gives (λ _. map (λ text. text.now) texts.new.items) result (reading.fields_in line.now) }
+{
+    if line.len() > LONGEST_LINE {
+        return Err(ReadError::Fault(Cause::TooLong));
+    }
+    if line.first() == Some(&b'#') {
+        texts.clear();
+        return Ok(());
+    }
+    if !is_allowed(line) {
+        return Err(ReadError::Fault(Cause::Byte));
+    }
+    Ok(cut_fields(line, texts)?)
 }
 
 /// What is wrong with a word that cannot stand there.
@@ -302,8 +321,7 @@ where
         }
     }
 
-    /// What a line says is added. Its length is judged first, and a comment, which begins with `#`, for
-    /// nothing else. The list is for the line's fields, so that not each line takes memory for them.
+    /// What a line says is added. The list is for the line's fields, so that not each line takes memory for them.
     #[tactic(auto, unfolding(crate::specs::Reading::line_onto))]
     pub(crate) fn line<'a>(
         &mut self,
@@ -315,17 +333,35 @@ where
         requires modules { self.old.modules < 2 ^ 63 }
         ensures { Gives (λ _. draft_view self.new) result (reading.line_onto M.Kind.words (draft_view self.old) line.now) }
     {
-        if line.len() > LONGEST_LINE {
-            return Err(ReadError::Fault(Cause::TooLong));
-        }
-        if line.first() == Some(&b'#') {
-            return Ok(());
-        }
-        if !is_allowed(line) {
-            return Err(ReadError::Fault(Cause::Byte));
-        }
-        cut_fields(line, texts)?;
+        fields_in(line, texts)?;
         self.fields_line(alloc, texts.as_slice())
+    }
+
+    /// Whether a process goes on that has no call yet, and may have so many.
+    pub(crate) fn takes(&self, many: usize) -> bool
+        ensures { result ≡ takes (draft_view self.now).place many }
+    {
+        match &self.current {
+            Current::Process(process) => process.calls.is_empty() && many <= MOST_CALLS,
+            Current::Nowhere | Current::Feed(_) => false,
+        }
+    }
+
+    /// Gives the process that goes on its calls.
+    pub(crate) fn set_calls(&mut self, calls: Vec<ScriptCall<Boxed<M>>>)
+        requires { takes (draft_view self.old).place (length calls.items) ≡ true }
+        ensures { draft_view self.new ≡ with_calls (draft_view self.old) (map call_view calls.items) }
+    {
+        if let Current::Process(process) = &mut self.current {
+            process.calls = calls;
+        }
+    }
+
+    /// How each stream is made that was declared so far, by its name.
+    pub(crate) fn streams(&self) -> &IndexMap<Name, Setup>
+        ensures { streams_view result.now.entries ≡ (draft_view self.now).streams }
+    {
+        &self.streams
     }
 
     /// The plan that the lines make. Refused for want of memory alone.

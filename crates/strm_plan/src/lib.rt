@@ -10,12 +10,13 @@ mod loading;
 mod names;
 mod parsing;
 mod plan;
+mod section;
 mod setup;
 mod target;
 
 pub use fault::{PlayFault, ScriptFault};
 pub use handing::{Handed, hand_over};
 pub use loading::{LoadFault, MOST_READ, load};
-pub use parsing::{LONGEST_SCRIPT, parse};
+pub use parsing::{LONGEST_SCRIPT, parse, parse_shared_out};
 pub use plan::{Name, Names, Plan, ProcessDecl};
 pub use strm_verb::{Cause, PlayModule, ReadKind};

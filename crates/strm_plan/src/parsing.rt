@@ -1,21 +1,29 @@
 //! A script, read from left to right.
-ghost use Rattle.std.specs.Prelude.{◌≤◌, length, IfOk};
+ghost use Rattle.std.specs.Prelude.{◌≡◌, ◌+◌, ◌<◌, ◌≤◌, All, length, take, IfErr, IfOk, Ok};
+ghost use Rattle.std.specs.List.{flat_map};
 ghost use Rattle.std.specs.Str.Lines.{lines};
-ghost use Rattle.strm_plan.specs.Plan.{plan_view};
+ghost use Rattle.strm_plan.specs.Kept.{IsAt};
+ghost use Rattle.strm_plan.specs.Plan.{draft_view, plan_view};
 ghost use Rattle.strm_plan.specs.Reading as reading;
+ghost use Rattle.strm_plan.specs.Section.{AreRead, IsFaultOfLine, IsFaultOfLines, IsSection};
 ghost use Rattle.strm_plan.specs.Sound.{IsSound};
 ghost use Rattle.strm_plan.specs.Spelling.{IsNoMemory, Spells};
 
 use crate::draft::Draft;
 use crate::fault::ScriptFault;
 use crate::plan::Plan;
+use crate::section::{Section, cut, read_sections};
 use std::alloc::Global;
+use std::thread::Threads;
 use strm_module::Boxed;
 use strm_text::first_line;
 use strm_verb::{Cause, PlayModule, ReadError, ReadKind};
 
 /// The longest script, in bytes.
 pub const LONGEST_SCRIPT: usize = 1_048_576;
+
+/// How long a script is, in bytes, whose lines one thread reads.
+const SHORT: usize = 32_768;
 
 /// The plan that a script spells, whose modules are of type `M`, and of the kinds that its vocabulary has words for: what
 /// a run asks of streams, processes and feeds holds of it.
@@ -30,12 +38,41 @@ where
     ensures sound { IfOk result (λ plan. IsSound (plan_view plan)) }
 {
     if bytes.len() > LONGEST_SCRIPT {
-        return Err(ScriptFault {
-            line: 0,
-            cause: Cause::TooLong,
-        });
+        return Err(too_long());
     }
     parse_lines(alloc, bytes)
+}
+
+/// The plan that a script spells, as `parse` reads it, with its processes read in at most so many threads, of which the caller's is one.
+///
+/// A long script is cut before each line that begins with `process`. The calls behind such a line are read by themselves, onto the
+/// streams that are declared before the first of these lines; where something else stands there, or streams were declared meanwhile,
+/// they are read once more, line after line. One process has its calls read by one thread.
+pub fn parse_shared_out<M: PlayModule, R: Threads + Sync>(
+    rt: &R,
+    alloc: Global,
+    bytes: &[u8],
+    threads: usize,
+) -> Result<Plan<Boxed<M>>, ScriptFault>
+where
+    M::Kind: ReadKind + Send + Sync,
+    requires threads { 0 < threads }
+    ensures spells { Spells result (reading.spelt M.Kind.words bytes.now) }
+    ensures sound { IfOk result (λ plan. IsSound (plan_view plan)) }
+{
+    if bytes.len() > LONGEST_SCRIPT {
+        return Err(too_long());
+    }
+    if threads == 1 || bytes.len() <= SHORT {
+        return parse_lines(alloc, bytes);
+    }
+    let (head, rest) = cut(bytes);
+    let mut draft = Draft::new(alloc);
+    let before = read_lines(alloc, &mut draft, 0, head)?;
+    let Ok(sections) = read_sections(rt, alloc, draft.streams(), rest, threads) else {
+        return Err(no_memory());
+    };
+    add_sections(alloc, draft, before, sections)
 }
 
 /// The plan that lines spell, or their first fault.
@@ -43,30 +80,135 @@ fn parse_lines<M: PlayModule>(alloc: Global, bytes: &[u8]) -> Result<Plan<Boxed<
 where
     M::Kind: ReadKind,
     requires { length bytes.now ≤ LONGEST_SCRIPT }
-    ensures spells { Spells result (reading.lines_onto M.Kind.words 0 reading.nothing_yet (lines bytes.now)) }
-    ensures sound { IfOk result (λ plan. IsSound (plan_view plan)) }
+    ensures { Spells result (reading.lines_onto M.Kind.words 0 reading.nothing_yet (lines bytes.now)) }
 {
-    let mut draft = Draft::<Boxed<M>>::new(alloc);
+    let mut draft = Draft::new(alloc);
+    read_lines(alloc, &mut draft, 0, bytes)?;
+    finished(draft)
+}
+
+/// Reads a line behind so many others.
+fn read_line<'a, M: PlayModule>(
+    alloc: Global,
+    draft: &mut Draft<Boxed<M>>,
+    before: u64,
+    line: &'a [u8],
+    texts: &mut Vec<&'a [u8]>,
+) -> Result<(), ScriptFault>
+where
+    M::Kind: ReadKind,
+    requires few { before < LONGEST_SCRIPT }
+    requires at { IsAt before (draft_view draft.old) }
+    ensures read { IfOk result (λ _. reading.line_onto M.Kind.words (draft_view draft.old) line.now ≡ Ok (draft_view draft.new)) }
+    ensures fault { IfErr result (λ fault. IsFaultOfLine M.Kind.words before (draft_view draft.old) line.now fault) }
+{
+    match draft.line(alloc, line, texts) {
+        Ok(()) => Ok(()),
+        Err(ReadError::Memory) => Err(no_memory()),
+        Err(ReadError::Fault(cause)) => Err(ScriptFault {
+            line: before + 1,
+            cause,
+        }),
+    }
+}
+
+/// Reads lines behind so many others: how many there are then.
+fn read_lines<M: PlayModule>(
+    alloc: Global,
+    draft: &mut Draft<Boxed<M>>,
+    before: u64,
+    text: &[u8],
+) -> Result<u64, ScriptFault>
+where
+    M::Kind: ReadKind,
+    requires few { before + length text.now ≤ LONGEST_SCRIPT }
+    requires at { IsAt before (draft_view draft.old) }
+    ensures read { IfOk result (λ after. AreRead M.Kind.words before (draft_view draft.old) text.now after (draft_view draft.new)) }
+    ensures fault { IfErr result (λ fault. IsFaultOfLines M.Kind.words before (draft_view draft.old) text.now fault) }
+{
     let mut texts = Vec::new(alloc);
-    let mut rest = bytes;
-    let mut number = 0;
+    let mut rest = text;
+    let mut many = before;
     while !rest.is_empty() {
         let (line, after) = first_line(rest);
-        number += 1;
-        match draft.line(alloc, line, &mut texts) {
-            Ok(()) => rest = after,
-            Err(ReadError::Memory) => return Err(no_memory()),
-            Err(ReadError::Fault(cause)) => {
-                return Err(ScriptFault {
-                    line: number,
-                    cause,
-                });
-            }
+        read_line(alloc, draft, many, line, &mut texts)?;
+        many += 1;
+        rest = after;
+    }
+    Ok(many)
+}
+
+/// Adds what a section says behind so many lines: how many there are then. It was read onto so many of the streams, the first.
+fn add_section<M: PlayModule>(
+    alloc: Global,
+    draft: &mut Draft<Boxed<M>>,
+    before: u64,
+    streams: usize,
+    section: Section<Boxed<M>>,
+) -> Result<u64, ScriptFault>
+where
+    M::Kind: ReadKind,
+    requires few { before + length section.text.now ≤ LONGEST_SCRIPT }
+    requires at { IsAt before (draft_view draft.old) }
+    requires declared { streams ≤ length (draft_view draft.old).streams }
+    requires section { IsSection M.Kind.words (take streams (draft_view draft.old).streams) section }
+    ensures read { IfOk result (λ after. AreRead M.Kind.words before (draft_view draft.old) section.entry.text.now after (draft_view draft.new)) }
+    ensures fault { IfErr result (λ fault. IsFaultOfLines M.Kind.words before (draft_view draft.old) section.entry.text.now fault) }
+{
+    let Section { text, calls } = section;
+    let mut texts = Vec::new(alloc);
+    let (line, rest) = first_line(text);
+    read_line(alloc, draft, before, line, &mut texts)?;
+    if let Some(calls) = calls {
+        if draft.streams().len() == streams && draft.takes(calls.calls.len()) {
+            draft.set_calls(calls.calls);
+            return Ok(before + 1 + calls.lines);
         }
     }
+    read_lines(alloc, draft, before + 1, rest)
+}
+
+/// The plan that sections make behind what so many lines made. They were read onto the streams that these declare.
+fn add_sections<M: PlayModule>(
+    alloc: Global,
+    mut draft: Draft<Boxed<M>>,
+    before: u64,
+    sections: Vec<Section<Boxed<M>>>,
+) -> Result<Plan<Boxed<M>>, ScriptFault>
+where
+    M::Kind: ReadKind,
+    requires few { before + length (flat_map (λ section. section.text.now) sections.items) ≤ LONGEST_SCRIPT }
+    requires at { IsAt before (draft_view draft) }
+    requires sections { All (IsSection M.Kind.words (draft_view draft).streams) sections.items }
+    ensures { Spells result (reading.lines_onto M.Kind.words before (draft_view draft) (flat_map (λ section. lines section.text.now) sections.entry.items)) }
+{
+    let streams = draft.streams().len();
+    let mut many = before;
+    for section in sections {
+        many = add_section(alloc, &mut draft, many, streams, section)?;
+    }
+    finished(draft)
+}
+
+/// The plan that lines made. Refused for want of memory alone.
+fn finished<M: PlayModule>(draft: Draft<Boxed<M>>) -> Result<Plan<Boxed<M>>, ScriptFault>
+where
+    M::Kind: ReadKind,
+    ensures { Spells result (Ok (reading.plan_of (draft_view draft))) }
+{
     match draft.finish() {
         Ok(plan) => Ok(plan),
         Err(_) => Err(no_memory()),
+    }
+}
+
+/// Too long a script.
+fn too_long() -> ScriptFault
+    ensures { result ≡ record { line = 0; cause = Cause.TooLong } }
+{
+    ScriptFault {
+        line: 0,
+        cause: Cause::TooLong,
     }
 }
 

@@ -1,5 +1,5 @@
 //! A script is read and run.
-ghost use Rattle.std.specs.Prelude.{◌≡◌, true, IfOk, IfErr};
+ghost use Rattle.std.specs.Prelude.{◌≡◌, ◌<◌, true, IfOk, IfErr};
 ghost use Rattle.strm_crew.specs.Run.{CallsFit};
 ghost use Rattle.strm_job.specs.There.{is_crew};
 ghost use Rattle.strm_plan.specs.Plan.{plan_view};
@@ -10,8 +10,11 @@ use std::alloc::Global;
 use std::sync::Wait;
 use std::thread::Threads;
 use strm_history::SameKind;
+use strm_job::is_crew;
 use strm_module::{Boxed, Kind, ModuleOf};
-use strm_plan::{Handed, Names, Plan, PlayFault, PlayModule, ReadKind, hand_over, parse};
+use strm_plan::{
+    Handed, Names, Plan, PlayFault, PlayModule, ReadKind, hand_over, parse_shared_out,
+};
 use strm_run::{Gate, RunFault, Transcript, run};
 
 /// What is left of a script that was played.
@@ -60,6 +63,17 @@ where
     Ok(Outcome { names, transcript })
 }
 
+/// In how many threads a script is read: in as many as there are to be workers, where a run may have so many, and else in one.
+fn readers(workers: u32) -> usize
+    ensures { 0 < result }
+{
+    if is_crew(workers) {
+        workers as usize
+    } else {
+        1
+    }
+}
+
 /// Plays a script with as many workers as are asked for, 1 to `MOST_WORKERS`: its streams are made, the
 /// calls of its processes are made on them, and its feeds come in beside. It returns when all threads have ended.
 ///
@@ -82,6 +96,6 @@ where
     ensures workers { IfOk result (λ _. is_crew workers ≡ true) }
     ensures fault { IfErr result (λ fault. IsFaultOf M.Kind.words bytes.now workers fault) }
 {
-    let plan = parse::<M>(alloc, bytes)?;
+    let plan = parse_shared_out::<M, R>(rt, alloc, bytes, readers(workers))?;
     Ok(play_plan::<M, R>(rt, alloc, plan, workers)?)
 }

@@ -18,7 +18,7 @@ use std::thread::Threads;
 use std::{fs, mem};
 use strm_chart::chart;
 use strm_module::Plain;
-use strm_plan::{Plan, parse};
+use strm_plan::{Plan, parse_shared_out};
 use strm_play::{Outcome, play_plan};
 use strm_script::{LoadFault, load, print_shared_out};
 use strsh_options::{Fault, Options};
@@ -31,12 +31,18 @@ fn script<R: Files>(rt: &R, alloc: Global, path: &str) -> Result<Vec<u8>, LoadFa
     load(alloc, fs::open(rt, path)?)
 }
 
-/// The plan that the script at a path spells. Its text is dropped before the plan is played.
-fn plan_at<R: Files>(rt: &R, alloc: Global, path: &str) -> Result<Plan, Fault>
+/// The plan that the script at a path spells, read in at most so many threads. Its text is dropped before the plan is played.
+fn plan_at<R: Files + Threads + Sync>(
+    rt: &R,
+    alloc: Global,
+    path: &str,
+    threads: usize,
+) -> Result<Plan, Fault>
+    requires { 0 < threads }
     ensures { IfOk result (λ plan. IsSound (plan_view plan)) }
 {
     let bytes = script(rt, alloc, path)?;
-    Ok(parse::<Plain>(alloc, bytes.as_slice())?)
+    Ok(parse_shared_out::<Plain, R>(rt, alloc, bytes.as_slice(), threads)?)
 }
 
 /// Writes what is left of a script that was played: as a chart where one is asked for, and else as a transcript, whose lines at most
@@ -127,10 +133,10 @@ pub fn serve<R: Files + Print + Threads + Wait + AllocGlobal + Sync>(
 ) -> Result<(), Fault> {
     let alloc = rt.alloc();
     let options = Options::read(alloc, words)?;
-    let plan = plan_at(rt, alloc, options.path)?;
+    let plan = plan_at(rt, alloc, options.path, options.workers as usize)?;
     let mut outcome = play_plan::<Plain, R>(rt, alloc, plan, options.workers)?;
-    let put = put_out(rt, alloc, &mut outcome, &options);
+    put_out(rt, alloc, &mut outcome, &options)?;
     // The program ends: to drop what is left, entry by entry, would cost up to a tenth of its time.
     mem::forget(outcome);
-    put
+    Ok(())
 }

@@ -1,0 +1,18 @@
+use Rattle.std.proofs.Common.{◌≡◌, ℕ, ◌+◌, ◌≤◌, List, ◌++◌, length, map}
+use Rattle.std.specs.Str.Lines.{lines}
+use Rattle.strm_plan.specs.Plan.{Partial, call_view, streams_view}
+use Rattle.strm_plan.specs.Reading.{lines_onto}
+use Rattle.strm_plan.specs.Section.{HasRoom, with_calls}
+use Rattle.strm_plan.specs.Sound.{AreCallsThere}
+use Rattle.strm_plan.proofs.section.calls_in.Given as goal
+
+-- the lines so far say these calls, behind which those of the others go
+abbrev pub invariant-loop-rest : goal.invariant-loop-rest
+invariant-loop-rest g l = record {
+  onto : (n : ℕ) (d : Partial g.row.M-Kind.Denot) (others : List (List ℕ)) → d.streams ≡ streams_view l.streams.entries → HasRoom d.place (length (map call_view l.calls.items)) → lines_onto g.M.Kind.ReadKind.words n d (lines l.text ++ others) ≡ lines_onto g.M.Kind.ReadKind.words (n + l.lines) (with_calls d (map call_view l.calls.items)) (lines l.rest ++ others);
+  there : AreCallsThere (streams_view l.streams.entries) (map call_view l.calls.items);
+  few : l.lines + length l.rest ≤ length l.text;
+}
+
+abbrev pub decreases-loop-rest : goal.decreases-loop-rest
+decreases-loop-rest g l = length l.rest

@@ -17,7 +17,7 @@ use std::mem;
 use strm_call::Setup;
 use strm_job::{Feed, ScriptCall};
 use strm_module::{Boxed, Driver};
-use strm_text::{cut_fields, is_allowed};
+use strm_text::cut_fields;
 use strm_verb::{Cause, MessageWord, PlayModule, ReadError, ReadKind, Verb, message_at, named};
 
 /// The most streams of a plan.
@@ -87,10 +87,10 @@ pub(crate) fn fields_in<'a>(line: &'a [u8], texts: &mut Vec<&'a [u8]>) -> Result
         texts.clear();
         return Ok(());
     }
-    if !is_allowed(line) {
+    if !cut_fields(line, texts)? {
         return Err(ReadError::Fault(Cause::Byte));
     }
-    Ok(cut_fields(line, texts)?)
+    Ok(())
 }
 
 /// What is wrong with a word that cannot stand there.

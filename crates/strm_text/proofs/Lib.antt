@@ -1,3 +1,4 @@
+pub mod FieldLemmas
 pub mod LineLemmas
 pub mod ReadBackLemmas
 pub mod RunLemmas

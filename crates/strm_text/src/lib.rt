@@ -7,7 +7,7 @@ mod runs;
 mod spelling;
 mod words;
 
-pub use lines::{cut_fields, first_line, is_allowed, split_once};
+pub use lines::{cut_fields, first_line, split_once};
 pub use parts::part;
 pub use spelling::{parts_are_read_back, write_part};
 pub use words::{name, number};

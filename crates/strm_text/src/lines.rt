@@ -1,5 +1,5 @@
 //! Lines and their fields.
-ghost use Rattle.std.specs.Prelude.{◌≡◌, ◌<◌, ◌∷◌, length, map, OnOk, IfSome};
+ghost use Rattle.std.specs.Prelude.{◌≡◌, ◌<◌, ◌∷◌, ◌++◌, [], filter, length, map, nat_lt, IfOk, OnOk, IfSome};
 ghost use Rattle.std.specs.Option.{option_map};
 ghost use Rattle.std.specs.List.{list_all};
 ghost use Rattle.std.specs.Str.Lines.{lines, strip_carriage_return};
@@ -13,20 +13,6 @@ fn is_blank(byte: u8) -> bool
     ensures { result ≡ bytes.is_blank byte }
 {
     byte == b' ' || byte == b'\t'
-}
-
-/// Whether a byte may stand in a line.
-fn is_allowed_byte(byte: u8) -> bool
-    ensures { result ≡ bytes.is_allowed byte }
-{
-    byte == b'\t' || (b' '..=b'~').contains(&byte)
-}
-
-/// Whether a line has tabs and the bytes 0x20 to 0x7e alone, as each has that is no comment.
-pub fn is_allowed(line: &[u8]) -> bool
-    ensures { result ≡ list_all bytes.is_allowed line.now }
-{
-    line.iter().all(|byte| is_allowed_byte(*byte))
 }
 
 /// What stands before the first of a byte, and what behind it; nothing where it is not there.
@@ -60,14 +46,44 @@ pub fn first_line(text: &[u8]) -> (&[u8], &[u8])
     }
 }
 
-/// Cuts a line into its fields, which spaces and tabs part: the list holds them, and nothing of what it held before. Refused for
-/// want of memory alone.
-pub fn cut_fields<'a>(line: &'a [u8], fields: &mut Vec<&'a [u8]>) -> Result<(), AllocError>
-    ensures { OnOk result (map (λ field. field.now) fields.new.items ≡ fields_of line.now) }
+/// Whether a byte stands in a field: it may stand in a line, and is no blank.
+fn is_of_field(byte: u8) -> bool
+    ensures { result ≡ bytes.is_within 33 126 byte }
+{
+    byte.is_ascii_graphic()
+}
+
+/// A field that has a byte goes last. Refused for want of memory alone.
+#[inline]
+fn add_field<'a>(fields: &mut Vec<&'a [u8]>, field: &'a [u8]) -> Result<(), AllocError>
+    ensures { OnOk result (map (λ field. field.now) fields.new.items ≡ map (λ field. field.now) fields.old.items ++ filter (λ field. nat_lt 0 (length field)) (field.now ∷ [])) }
+{
+    if !field.is_empty() {
+        fields.push(field)?;
+    }
+    Ok(())
+}
+
+/// Cuts a line into its fields, which spaces and tabs part, and tells whether the line has tabs and the bytes 0x20 to 0x7e alone, as
+/// each has that is no comment: the list holds the fields, and nothing of what it held before. Refused for want of memory alone.
+pub fn cut_fields<'a>(line: &'a [u8], fields: &mut Vec<&'a [u8]>) -> Result<bool, AllocError>
+    ensures fields { OnOk result (map (λ field. field.now) fields.new.items ≡ fields_of line.now) }
+    ensures allowed { IfOk result (λ allowed. allowed ≡ list_all bytes.is_allowed line.now) }
 {
     fields.clear();
-    fields.extend(
-        line.split(|byte| is_blank(*byte))
-            .filter(|field| !field.is_empty()),
-    )
+    let mut allowed = true;
+    let mut start = 0;
+    for (at, byte) in line.iter().enumerate() {
+        if is_of_field(*byte) {
+            continue;
+        }
+        if is_blank(*byte) {
+            add_field(fields, &line[start..at])?;
+            start = at + 1;
+        } else {
+            allowed = false;
+        }
+    }
+    add_field(fields, &line[start..])?;
+    Ok(allowed)
 }

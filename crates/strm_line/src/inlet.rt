@@ -84,8 +84,8 @@ impl<K, N: Runs<K>> Inlet<K, N> {
         ensures none { IfNone result (self.new ≡ self.old) }
         ensures empty { self.new.held ≡ None }
     {
-        if let Some(m) = self.held.take() {
-            return Some(m);
+        if self.held.is_some() {
+            return self.held.take();
         }
         match &mut self.ring {
             Some(ring) => ring.pop().ok(),

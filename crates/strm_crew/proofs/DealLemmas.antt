@@ -7,7 +7,6 @@ use Rattle.std.proofs.lemmas.List.{length-set, get_or-set_same, get_or-set_other
 use Rattle.strm_module.specs.declared.shape.Shape.{Shape}
 use Rattle.strm_shared.specs.Seat.{SeatValue}
 use Rattle.strm_job.specs.declared.script.ScriptCall.{ScriptCall}
-use Rattle.strm_job.specs.declared.script.Script.{Script}
 use Rattle.strm_job.specs.Scripts.{calls_on, script_of}
 use Rattle.strm_feed.specs.About.{RunValue}
 use Rattle.strm_crew.specs.Play.{IsPlayer, IsSeated}
@@ -42,7 +41,7 @@ module _ (callers : List ℕ) (caller workers : ℕ) (crews : List (Vec ℕ Glob
   }
 
 -- the script of a caller, by the scripts before it
-script_at : {P : Type 0} (before after : List (Script P)) (script : Script P) → script_of (before ++ script ∷ after) (length before) ≡ script.calls.items
+script_at : {P : Type 0} (before after : List (List (ScriptCall P))) (script : List (ScriptCall P)) → script_of (before ++ script ∷ after) (length before) ≡ script
 script_at [] after script = refl
 script_at (first ∷ before) after script = script_at before after script
 
@@ -75,9 +74,9 @@ player_before run caller calls seats now mine sits seated within script there be
     })
 
 -- the script that a loop over them has reached
-pub script_reached : {P : Type 0} (all before after : List (Script P)) (script : Script P) (caller : ℕ) → before ++ script ∷ after ≡ all → caller ≡ length before → script_of all caller ≡ script.calls.items
+pub script_reached : {P : Type 0} (all before after : List (List (ScriptCall P))) (script : List (ScriptCall P)) (caller : ℕ) → before ++ script ∷ after ≡ all → caller ≡ length before → script_of all caller ≡ script
 script_reached all before after script caller is place =
-    ap (λ (l : List (Script _)). script_of l caller) (sym is) ∙ ap (λ (n : ℕ). script_of (before ++ script ∷ after) n) place ∙ script_at before after script
+    ap (λ (l : List (List (ScriptCall _))). script_of l caller) (sym is) ∙ ap (λ (n : ℕ). script_of (before ++ script ∷ after) n) place ∙ script_at before after script
 
 -- one caller more
 pub caller_more : (callers : List ℕ) (caller : ℕ) → callers ≡ callers_of caller → callers ++ caller ∷ [] ≡ callers_of (caller + 1)

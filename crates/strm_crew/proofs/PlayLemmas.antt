@@ -1,13 +1,14 @@
 -- A player, call by call.
-use Rattle.std.proofs.Common.{◌≡◌, ℕ, zero, suc, ◌+◌, ◌<◌, ◌==◌, Bool, true, false, Some, List, [], ◌∷◌, All, drop, get_or, length, set, slice_get, if◌then◌else◌, refl, sym, ◌∙◌, ap, subst, arith}
-use Rattle.std.proofs.lemmas.List.{length-set, get_or-set_same, get_or-set_other}
+use Rattle.std.proofs.Common.{◌≡◌, ℕ, zero, suc, ◌+◌, ◌<◌, ◌==◌, Bool, true, false, Some, List, [], ◌∷◌, ◌++◌, append-nil, append_assoc, Vec, Global, All, drop, get_or, length, set, slice_get, if◌then◌else◌, refl, sym, ◌∙◌, ap, subst, arith}
+use Rattle.std.specs.List.{flat_map}
+use Rattle.std.proofs.lemmas.List.{length-set, get_or-set_same, get_or-set_other, nil_from_length}
 use Rattle.std.proofs.lemmas.Bool.{eqb-true, eqb-false, eq-eqb}
 use Rattle.strm_module.specs.declared.shape.Shape.{Shape}
 use Rattle.strm_call.specs.declared.event.Event.TheVariants.{Asked}
 use Rattle.strm_shared.specs.Seat.{SeatValue}
 use Rattle.strm_shared.specs.Ending.{SharedValue}
 use Rattle.strm_job.specs.declared.script.ScriptCall.{ScriptCall}
-use Rattle.strm_job.specs.Scripts.{calls_on, script_of}
+use Rattle.strm_job.specs.Scripts.{calls_on, in_blocks, script_of}
 use Rattle.strm_feed.specs.About.{RunValue}
 use Rattle.strm_crew.specs.Play.{ArePlayed, AreStreams, IsPlayer, IsSeated}
 
@@ -116,3 +117,22 @@ all_played run caller left seats none was = record {
         calls = (let n : (get_or seats k d).calls ≡ (get_or seats k d).calls + 0 = omega arith in n) ∙ sits.many ∙ ap (λ c. length (calls_on k (script_of run.scripts c))) (sym sits.caller_is);
       };
 }
+
+-- ---- calls in blocks
+
+-- an iterator that has nothing left
+pub none_left : {X : Type 0} (left : List X) (n : ℕ) → n ≡ length left → n ≡ 0 → left ≡ []
+none_left left n many none = nil_from_length left (sym many ∙ none)
+
+abbrev Block : Type 0 → Type 0
+Block K = Vec (ScriptCall (Shape K)) Global
+
+module _ {K : Type 0} (run : RunValue K) (caller : ℕ) where
+  -- the first block has the next calls
+  pub next_block : (left rest : List (Block K)) (block : Block K) (last : List (ScriptCall (Shape K))) (seats : List SeatValue) → left ≡ block ∷ rest → IsPlayer run caller (in_blocks left last) seats → IsPlayer run caller (block.items ++ in_blocks rest last) seats
+  next_block left rest block last seats is was =
+      subst (λ calls. IsPlayer run caller calls seats) (ap (λ l. in_blocks l last) is ∙ append_assoc block.items (flat_map (λ (b : Block K). b.items) rest) last) was
+
+  -- behind the blocks are the last calls, and none behind those
+  pub last_calls : (left : List (Block K)) (last : List (ScriptCall (Shape K))) (seats : List SeatValue) → left ≡ [] → IsPlayer run caller (in_blocks left last) seats → IsPlayer run caller (last ++ []) seats
+  last_calls left last seats none was = subst (λ calls. IsPlayer run caller calls seats) (ap (λ l. in_blocks l last) none ∙ sym (append-nil last)) was

@@ -1,5 +1,5 @@
 -- What the streams and callers of a run have to do with it, while it goes on.
-use Rattle.std.specs.Prelude.{◌≡◌, ℕ, ◌+◌, ◌<◌, ◌^◌, List, All, drop, get_or, length}
+use Rattle.std.specs.Prelude.{◌≡◌, ℕ, ◌+◌, ◌<◌, ◌^◌, List, ◌++◌, All, drop, get_or, length}
 use prog.Memory.{size}
 use mir.Syntax.{Ty}
 use denote.RattleType.{RattleType}
@@ -50,3 +50,11 @@ pub record HasPlayed {K : Type 0} (run : RunValue K) (k : ℕ) (seat : SeatValue
 pub record ArePlayed {K : Type 0} (run : RunValue K) (seats : List SeatValue) : Type 0 where
   pub many : length seats ≡ length run.setups
   pub each : (k : ℕ) (d : SeatValue) → k < length seats → HasPlayed run k (get_or seats k d)
+
+-- these calls are the next of a caller, which has others behind them
+abbrev pub HasNext : {K : Type 0} → RunValue K → ℕ → List (ScriptCall (Shape K)) → List SeatValue → Type 0
+HasNext {K} run caller calls seats = (others : List (ScriptCall (Shape K))) × IsPlayer run caller (calls ++ others) seats
+
+-- of a caller that had these calls, and others behind them, those calls are left now, and the same others
+abbrev pub LeavesOthers : {K : Type 0} → RunValue K → ℕ → List (ScriptCall (Shape K)) → List SeatValue → List (ScriptCall (Shape K)) → List SeatValue → Type 0
+LeavesOthers {K} run caller calls seats left now = (others : List (ScriptCall (Shape K))) → IsPlayer run caller (calls ++ others) seats → IsPlayer run caller (left ++ others) now

@@ -20,7 +20,7 @@ pub fn seated<M: ModuleOf, N: Plays<M::Kind>>(
 ) -> Result<Vec<Player<M, N>>, NoMem>
     requires scripts { N.run.scripts ≡ scripts.items }
     requires few { length scripts.items < 2 ^ 32 }
-    requires there { All (λ script. All (λ one. one.stream < length N.run.setups) script.calls.items) scripts.items }
+    requires there { All (λ script. All (λ one. one.stream < length N.run.setups) script) scripts.items }
     requires seats { AreSeated N.run seats.items }
     ensures { IfOk result (λ players. players.items ≡ callers_of (length scripts.items)) }
 {
@@ -29,7 +29,7 @@ pub fn seated<M: ModuleOf, N: Plays<M::Kind>>(
     for script in scripts {
         let mine = mem::replace(&mut seats[caller as usize], Vec::new(alloc));
         let accounts = accounts_of(alloc, mine)?;
-        all.push(Player::new(caller, script.calls, accounts))?;
+        all.push(Player::new(caller, script, accounts))?;
         caller += 1;
     }
     Ok(all)

@@ -1,6 +1,6 @@
 //! A caller that plays its script.
-ghost use Rattle.std.specs.Prelude.{◌≡◌, IfOk};
-ghost use Rattle.strm_crew.specs.Play.{ArePlayed, CallsDoFit, IsPlayer};
+ghost use Rattle.std.specs.Prelude.{◌≡◌, [], IfOk, OnOk};
+ghost use Rattle.strm_crew.specs.Play.{ArePlayed, CallsDoFit, HasNext, IsPlayer, LeavesOthers};
 
 use crate::account::{Account, call_on};
 use crate::gate::Gate;
@@ -9,7 +9,7 @@ use std::alloc::Global;
 use std::marker::Model;
 use std::sync::Wait;
 use strm_feed::Plays;
-use strm_job::ScriptCall;
+use strm_job::{Script, ScriptCall};
 use strm_module::{Boxed, ModuleOf};
 use strm_msg::NoMem;
 
@@ -17,7 +17,7 @@ use strm_msg::NoMem;
 #[derive(Drop)]
 pub struct Player<M: ModuleOf, N: Plays<M::Kind>> {
     caller: u32,
-    calls: Vec<ScriptCall<Boxed<M>>>,
+    script: Script<Boxed<M>>,
     accounts: Vec<Account<M::Kind, N>>,
 }
 
@@ -29,7 +29,7 @@ impl<M: ModuleOf, N: Plays<M::Kind>> Model for Player<M, N> {
 
     ghost view = { λ p. p.caller };
 
-    ghost invariant = { λ p. IsPlayer N.run p.caller p.calls.items p.accounts.items };
+    ghost invariant = { λ p. IsPlayer N.run p.caller p.script p.accounts.items };
 }
 
 /// What a caller leaves that has played its script: a seat on each stream, with its receipts.
@@ -50,19 +50,47 @@ impl<K, N: Plays<K>> Model for Played<K, N> {
     ghost invariant = { λ p. ArePlayed N.run p.accounts.items };
 }
 
+/// Plays the next calls of a caller that has made so many, in order, or until memory is wanting, and tells how many it has made
+/// then.
+fn play_block<M: ModuleOf, N: Plays<M::Kind>, R: Wait, G: Gate>(
+    rt: &R,
+    streams: &Streams<M, N>,
+    gate: &G,
+    caller: u32,
+    before: u64,
+    block: Vec<ScriptCall<Boxed<M>>>,
+    accounts: &mut Vec<Account<M::Kind, N>>,
+) -> Result<u64, NoMem>
+    requires fits { CallsDoFit M.row M.Kind.row M.Kind.Kinds }
+    requires next { HasNext N.run caller block.items accounts.old.items }
+    ensures { OnOk result (LeavesOthers N.run caller block.items accounts.old.items [] accounts.new.items) }
+{
+    let mut number = before;
+    for one in block {
+        let ScriptCall { stream, call } = one;
+        let at = stream as usize;
+        number = number.saturating_add(1);
+        gate.before(caller, number);
+        let kept = call_on(rt, streams.at(stream), &mut accounts[at], call);
+        gate.after(caller, number);
+        kept?;
+    }
+    Ok(number)
+}
+
 impl<M: ModuleOf, N: Plays<M::Kind>> Player<M, N> {
     /// A caller that has its whole script left.
     pub fn new(
         caller: u32,
-        calls: Vec<ScriptCall<Boxed<M>>>,
+        script: Script<Boxed<M>>,
         accounts: Vec<Account<M::Kind, N>>,
     ) -> Player<M, N>
-        requires { IsPlayer N.run caller calls.items accounts.items }
+        requires { IsPlayer N.run caller script accounts.items }
         ensures { result ≡ caller }
     {
         Player {
             caller,
-            calls,
+            script,
             accounts,
         }
     }
@@ -86,19 +114,15 @@ impl<M: ModuleOf, N: Plays<M::Kind>> Player<M, N> {
     {
         let Player {
             caller,
-            calls,
+            script,
             mut accounts,
         } = self;
+        let (blocks, last) = script.into_blocks();
         let mut number: u64 = 0;
-        for one in calls {
-            let ScriptCall { stream, call } = one;
-            let at = stream as usize;
-            number = number.saturating_add(1);
-            gate.before(caller, number);
-            let kept = call_on(rt, streams.at(stream), &mut accounts[at], call);
-            gate.after(caller, number);
-            kept?;
+        for block in blocks {
+            number = play_block(rt, streams, gate, caller, number, block, &mut accounts)?;
         }
+        play_block(rt, streams, gate, caller, number, last, &mut accounts)?;
         Ok(Played { caller, accounts })
     }
 }

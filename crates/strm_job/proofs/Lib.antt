@@ -1,3 +1,4 @@
 pub mod EachLemmas
 pub mod OnceLemmas
 pub mod LoopLemmas
+pub mod BlockLemmas

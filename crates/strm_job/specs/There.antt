@@ -6,7 +6,6 @@ use Rattle.strm_module.specs.Driver.{has_end, is_line}
 use Rattle.strm_call.specs.declared.setup.Setup.{Setup}
 use Rattle.strm_call.specs.Setup.{is_fit, is_ring}
 use Rattle.strm_job.specs.declared.script.ScriptCall.{ScriptCall}
-use Rattle.strm_job.specs.declared.script.Script.{Script}
 use Rattle.strm_job.specs.declared.script.Feed.{Feed}
 use Rattle.strm_job.specs.declared.judge.TheConstants.{MOST_WORKERS}
 
@@ -25,8 +24,8 @@ abbrev pub AreCallsThere : {P : Type 0} → List Setup → List (ScriptCall P) �
 AreCallsThere setups calls = All (λ one. end_is_there (slice_get setups one.stream) one.call.end ≡ true) calls
 
 -- so are those of each script, each feed is for a line, and no two are for the same
-pub record AreThere {P : Type 0} (setups : List Setup) (scripts : List (Script P)) (feeds : List Feed) : Type 0 where
-  pub calls : All (λ script. AreCallsThere setups script.calls.items) scripts
+pub record AreThere {P : Type 0} (setups : List Setup) (scripts : List (List (ScriptCall P))) (feeds : List Feed) : Type 0 where
+  pub calls : All (λ script. AreCallsThere setups script) scripts
   pub lines : All (λ feed. line_is_there (slice_get setups feed.stream) ≡ true) feeds
   pub once : AllPairs (λ one other. one.stream ≡ other.stream → ⊥) feeds
 

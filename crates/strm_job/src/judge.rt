@@ -63,7 +63,7 @@ fn line_is_there(setups: &[Setup], stream: u32) -> bool
     }
 }
 
-/// Whether the stream and the end of each call are there.
+/// Whether the stream and the end of each of these calls are there.
 fn are_calls_there<P>(setups: &[Setup], calls: &[ScriptCall<P>]) -> bool
     ensures { result ≡ true ↔ AreCallsThere setups.now calls.now }
 {
@@ -75,12 +75,32 @@ fn are_calls_there<P>(setups: &[Setup], calls: &[ScriptCall<P>]) -> bool
     true
 }
 
+/// Whether the stream and the end of each call of these blocks are there.
+fn are_blocks_there<P>(setups: &[Setup], blocks: &[Vec<ScriptCall<P>>]) -> bool
+    ensures { result ≡ true ↔ All (λ block. AreCallsThere setups.now block.items) blocks.now }
+{
+    for block in blocks {
+        if !are_calls_there(setups, block.as_slice()) {
+            return false;
+        }
+    }
+    true
+}
+
+/// Whether the stream and the end of each call of a script are there.
+fn is_script_there<P>(setups: &[Setup], script: &Script<P>) -> bool
+    ensures { result ≡ true ↔ AreCallsThere setups.now script.now }
+{
+    let (blocks, last) = script.blocks();
+    are_blocks_there(setups, blocks) && are_calls_there(setups, last)
+}
+
 /// Whether the stream and the end of each call of each script are there.
 fn are_scripts_there<P>(setups: &[Setup], scripts: &[Script<P>]) -> bool
-    ensures { result ≡ true ↔ All (λ script. AreCallsThere setups.now script.calls.items) scripts.now }
+    ensures { result ≡ true ↔ All (λ script. AreCallsThere setups.now script) scripts.now }
 {
     for script in scripts {
-        if !are_calls_there(setups, script.calls.as_slice()) {
+        if !is_script_there(setups, script) {
             return false;
         }
     }

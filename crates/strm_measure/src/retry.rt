@@ -306,12 +306,21 @@ fn handed(alloc: Global, bytes: &[u8]) -> anyhow::Result<Handed<Boxed<Plain>>> {
 }
 
 /// The calls of the last process of a script; none where it has no process.
-fn calls_of(alloc: Global, scripts: Vec<Script<Boxed<Plain>>>) -> Vec<ScriptCall<Boxed<Plain>>> {
+fn calls_of(
+    alloc: Global,
+    scripts: Vec<Script<Boxed<Plain>>>,
+) -> anyhow::Result<Vec<ScriptCall<Boxed<Plain>>>> {
     let mut scripts = scripts;
-    match scripts.pop() {
-        Some(Script { calls }) => calls,
-        None => Vec::new(alloc),
+    let Some(script) = scripts.pop() else {
+        return Ok(Vec::new(alloc));
+    };
+    let (blocks, last) = script.into_blocks();
+    let mut calls = Vec::new(alloc);
+    for block in blocks {
+        calls.extend(block)?;
     }
+    calls.extend(last)?;
+    Ok(calls)
 }
 
 /// The messages of the last feed of a script; none where it has no feed.
@@ -338,7 +347,7 @@ fn calls(alloc: Global, bytes: &[u8]) -> anyhow::Result<Vec<ScriptCall<Boxed<Pla
     } = handed(alloc, bytes)?;
     drop(names);
     drop(feeds);
-    Ok(calls_of(alloc, scripts))
+    calls_of(alloc, scripts)
 }
 
 /// What is left of a stream that is made so, on which that is done.
@@ -385,7 +394,7 @@ fn play_out<R: Print + Wait>(
     } = handed;
     let has_process = !scripts.is_empty();
     let work = Work {
-        calls: calls_of(alloc, scripts),
+        calls: calls_of(alloc, scripts)?,
         same,
         messages: messages_of(alloc, feeds),
         offers,

@@ -11,7 +11,6 @@ use Rattle.strm_module.specs.declared.shape.Shape.{Shape}
 use Rattle.strm_call.specs.Setup.{is_fit, is_ring}
 use Rattle.strm_call.specs.declared.setup.Setup.{Setup}
 use Rattle.strm_job.specs.declared.script.Feed.{Feed}
-use Rattle.strm_job.specs.declared.script.Script.{Script}
 use Rattle.strm_job.specs.declared.script.ScriptCall.{ScriptCall}
 use Rattle.strm_job.specs.Scripts as jobs
 use Rattle.strm_job.specs.There as runs
@@ -19,7 +18,7 @@ use Rattle.strm_plan.specs.Plan.{streams_view, feed_view, process_view, call_vie
 use Rattle.strm_plan.specs.Sound as plans
 use Rattle.strm_plan.specs.Sound.{AreSetups, AreFromLine, AreProcessesThere, AreLinesThere, AreOnce}
 use Rattle.strm_plan.specs.declared.plan.ProcessDecl.{ProcessDecl}
-use Rattle.strm_plan.specs.Handing.{calls_of_processes, calls_of_scripts}
+use Rattle.strm_plan.specs.Handing.{calls_of_processes}
 
 -- what holds of what is made of each element
 unmapped : {X Y : Type 0} (P : Y → Type 0) (f : X → Y) (xs : List X) → All P (map f xs) → All (λ x. P (f x)) xs
@@ -50,16 +49,15 @@ few_setups n setups entries are many under =
     omega (arith, as_many, viewed, many, under)
 
 -- and fewer processes
-pub few_scripts : {K : Type 0} (n : ℕ) (scripts : List (Script (Shape K))) (processes : List (ProcessDecl (Shape K))) → calls_of_scripts scripts ≡ calls_of_processes processes → length (map process_view processes) ≤ n → n < 4294967296 → length scripts < 4294967296
+pub few_scripts : {K : Type 0} (n : ℕ) (scripts : List (List (ScriptCall (Shape K)))) (processes : List (ProcessDecl (Shape K))) → scripts ≡ calls_of_processes processes → length (map process_view processes) ≤ n → n < 4294967296 → length scripts < 4294967296
 few_scripts n scripts processes are many under =
-    let made : length (calls_of_scripts scripts) ≡ length scripts = length-map scripts (λ script. script.calls.items) in
-    let of_plan : length (calls_of_processes processes) ≡ length processes = length-map processes (λ process. process.calls.items) in
-    let same : length (calls_of_scripts scripts) ≡ length (calls_of_processes processes) = ap (λ l. length l) are in
+    let of_plan : length (calls_of_processes processes) ≡ length processes = length-map processes (λ process. process.calls) in
+    let same : length scripts ≡ length (calls_of_processes processes) = ap (λ l. length l) are in
     let viewed : length (map process_view processes) ≡ length processes = length-map processes process_view in
-    omega (arith, made, of_plan, same, viewed, many, under)
+    omega (arith, of_plan, same, viewed, many, under)
 
--- the calls of a caller, by the lists of calls
-pub script_calls : {K : Type 0} (scripts : List (Script (Shape K))) (caller : ℕ) → jobs.script_of scripts caller ≡ get_or (calls_of_scripts scripts) caller []
+-- the calls of a caller are its script
+pub script_calls : {K : Type 0} (scripts : List (List (ScriptCall (Shape K)))) (caller : ℕ) → jobs.script_of scripts caller ≡ get_or scripts caller []
 script_calls [] caller = refl
 script_calls (script ∷ scripts) zero = refl
 script_calls (script ∷ scripts) (suc caller) = script_calls scripts caller
@@ -90,13 +88,12 @@ process_there {K} entries calls there =
     (λ k d under. let one = get_or calls k d in sym (same_end entries one.stream one.call.end) ∙ each k d under)
 
 -- those of all processes, by the lists of calls
-scripts_there : {K : Type 0} (entries : Entries) (scripts : List (Script (Shape K))) (processes : List (ProcessDecl (Shape K))) → calls_of_scripts scripts ≡ calls_of_processes processes → AreProcessesThere (streams_view entries) (map process_view processes) → All (λ script. runs.AreCallsThere (setups_in entries) script.calls.items) scripts
+scripts_there : {K : Type 0} (entries : Entries) (scripts : List (List (ScriptCall (Shape K)))) (processes : List (ProcessDecl (Shape K))) → scripts ≡ calls_of_processes processes → AreProcessesThere (streams_view entries) (map process_view processes) → All (λ script. runs.AreCallsThere (setups_in entries) script) scripts
 scripts_there {K} entries scripts processes same there =
     let each = unmapped (λ process. plans.AreCallsThere (streams_view entries) process.calls) process_view processes there in
     let lists : All (λ (calls : List (ScriptCall (Shape K))). runs.AreCallsThere (setups_in entries) calls) (calls_of_processes processes) =
-    All-map (λ (calls : List (ScriptCall (Shape K))). runs.AreCallsThere (setups_in entries) calls) (λ (process : ProcessDecl (Shape K)). process.calls.items) processes (λ k d under. process_there entries (get_or processes k d).calls.items (each k d under)) in
-    unmapped (λ (calls : List (ScriptCall (Shape K))). runs.AreCallsThere (setups_in entries) calls) (λ (script : Script (Shape K)). script.calls.items) scripts
-    (subst (All (λ (calls : List (ScriptCall (Shape K))). runs.AreCallsThere (setups_in entries) calls)) (sym same) lists)
+    All-map (λ (calls : List (ScriptCall (Shape K))). runs.AreCallsThere (setups_in entries) calls) (λ (process : ProcessDecl (Shape K)). process.calls) processes (λ k d under. process_there entries (get_or processes k d).calls (each k d under)) in
+    subst (All (λ (calls : List (ScriptCall (Shape K))). runs.AreCallsThere (setups_in entries) calls)) (sym same) lists
 
 -- the feeds of lines, by the numbers of their streams
 feeds_there : (entries : Entries) (feeds : List Feed) → AreLinesThere (streams_view entries) (map feed_view feeds) → All (λ feed. runs.line_is_there (slice_get (setups_in entries) feed.stream) ≡ true) feeds
@@ -118,7 +115,7 @@ pairs_unmapped R f xs all i j d before under =
     (subst (λ y. R (get_or (map f xs) i (f d)) y) (at_map f xs j d under) (all i j (f d) before (omega (arith, many, under))))
 
 -- so all is there that the run of a plan names
-pub all_there : {K : Type 0} (entries : Entries) (scripts : List (Script (Shape K))) (processes : List (ProcessDecl (Shape K))) (feeds : List Feed) → calls_of_scripts scripts ≡ calls_of_processes processes → AreProcessesThere (streams_view entries) (map process_view processes) → AreLinesThere (streams_view entries) (map feed_view feeds) → AreOnce (map feed_view feeds) → runs.AreThere (setups_in entries) scripts feeds
+pub all_there : {K : Type 0} (entries : Entries) (scripts : List (List (ScriptCall (Shape K)))) (processes : List (ProcessDecl (Shape K))) (feeds : List Feed) → scripts ≡ calls_of_processes processes → AreProcessesThere (streams_view entries) (map process_view processes) → AreLinesThere (streams_view entries) (map feed_view feeds) → AreOnce (map feed_view feeds) → runs.AreThere (setups_in entries) scripts feeds
 all_there entries scripts processes feeds same calls lines once = record {
   calls = scripts_there entries scripts processes same calls;
   lines = feeds_there entries feeds lines;

@@ -3,7 +3,6 @@ use Rattle.std.specs.Prelude.{ℕ, List, map}
 use Rattle.arrayvec.specs.ArrayVec.{ArrayVec}
 use Rattle.strm_call.specs.declared.setup.Setup.{Setup}
 use Rattle.strm_job.specs.declared.script.ScriptCall.{ScriptCall}
-use Rattle.strm_job.specs.declared.script.Script.{Script}
 use Rattle.strm_plan.specs.declared.plan.ProcessDecl.{ProcessDecl}
 use Rattle.strm_plan.specs.declared.plan.Plan.{Plan}
 
@@ -13,10 +12,7 @@ setups_of plan = map (λ entry. entry.1) plan.streams.entries
 
 -- the calls of each process, in order
 abbrev pub calls_of_processes : {P : Type 0} → List (ProcessDecl P) → List (List (ScriptCall P))
-calls_of_processes processes = map (λ process. process.calls.items) processes
-
-abbrev pub calls_of_scripts : {P : Type 0} → List (Script P) → List (List (ScriptCall P))
-calls_of_scripts scripts = map (λ script. script.calls.items) scripts
+calls_of_processes processes = map (λ process. process.calls) processes
 
 -- the names of the processes, in order
 abbrev pub names_of : {P : Type 0} → List (ProcessDecl P) → List (ArrayVec ℕ)

@@ -67,7 +67,7 @@ call_view line = record { stream = line.stream; end = line.call.end; asked = ask
 
 -- a process, its calls without their places in memory
 abbrev pub process_view : {K : Type 0} → ProcessDecl (Shape K) → Process K
-process_view process = record { name = process.name.items; calls = map call_view process.calls.items }
+process_view process = record { name = process.name.items; calls = map call_view process.calls }
 
 -- what a line is fed with
 abbrev pub feed_view : Feed → Fed

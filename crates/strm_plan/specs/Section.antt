@@ -60,12 +60,12 @@ module _ {K : Type 0} (words : KindWords K) where
 
   -- the calls of a text
   pub record AreCalls (streams : Streams) (text : List ℕ) (calls : Calls (Shape K)) : Type 0 where
-    pub add : AddCalls streams (lines text) (map call_view calls.calls.items) calls.lines
+    pub add : AddCalls streams (lines text) (map call_view calls.calls) calls.lines
     pub few : calls.lines ≤ length text
 
   -- the calls of a section, in the lines behind its first
   pub record AreCallsBehind (streams : Streams) (text : List ℕ) (calls : Calls (Shape K)) : Type 0 where
-    pub add : (line : List ℕ) (others : List (List ℕ)) → lines text ≡ line ∷ others → AddCalls streams others (map call_view calls.calls.items) calls.lines
+    pub add : (line : List ℕ) (others : List (List ℕ)) → lines text ≡ line ∷ others → AddCalls streams others (map call_view calls.calls) calls.lines
     pub few : calls.lines < length text
 
   pub record IsSection (streams : Streams) (section : Section (Shape K)) : Type 0 where

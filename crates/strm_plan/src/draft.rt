@@ -15,7 +15,7 @@ use indexmap::IndexMap;
 use std::alloc::Global;
 use std::mem;
 use strm_call::Setup;
-use strm_job::{Feed, ScriptCall};
+use strm_job::{Feed, Script};
 use strm_module::{Boxed, Driver};
 use strm_text::cut_fields;
 use strm_verb::{Cause, MessageWord, PlayModule, ReadError, ReadKind, Verb, message_at, named};
@@ -171,7 +171,7 @@ where
         if self.processes.len() >= MOST_PROCESSES {
             return Err(ReadError::Fault(Cause::TooMany));
         }
-        let calls = Vec::new(alloc);
+        let calls = Script::new(alloc);
         self.current = Current::Process(ProcessDecl { name, calls });
         Ok(())
     }
@@ -213,7 +213,7 @@ where
         if process.calls.len() >= MOST_CALLS {
             return Err(ReadError::Fault(Cause::TooMany));
         }
-        process.calls.push(call)?;
+        process.calls.push(alloc, call)?;
         self.modules = modules_after(verb, self.modules);
         self.current = Current::Process(process);
         Ok(())
@@ -348,9 +348,9 @@ where
     }
 
     /// Gives the process that goes on its calls.
-    pub(crate) fn set_calls(&mut self, calls: Vec<ScriptCall<Boxed<M>>>)
-        requires { takes (draft_view self.old).place (length calls.items) ≡ true }
-        ensures { draft_view self.new ≡ with_calls (draft_view self.old) (map call_view calls.items) }
+    pub(crate) fn set_calls(&mut self, calls: Script<Boxed<M>>)
+        requires { takes (draft_view self.old).place (length calls) ≡ true }
+        ensures { draft_view self.new ≡ with_calls (draft_view self.old) (map call_view calls) }
     {
         if let Current::Process(process) = &mut self.current {
             process.calls = calls;

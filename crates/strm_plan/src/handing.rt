@@ -1,6 +1,6 @@
 //! What a run is given of a plan.
 ghost use Rattle.std.specs.Prelude.{◌≡◌, map, IfOk};
-ghost use Rattle.strm_plan.specs.Handing.{setups_of, calls_of_processes, calls_of_scripts, names_of};
+ghost use Rattle.strm_plan.specs.Handing.{setups_of, calls_of_processes, names_of};
 
 use crate::plan::{Name, Names, Plan, ProcessDecl};
 use indexmap::IndexMap;
@@ -36,14 +36,14 @@ fn scripts<P: Drop>(
     processes: Vec<ProcessDecl<P>>,
 ) -> Result<(Vec<Name>, Vec<Script<P>>), NoMem>
     ensures names { IfOk result (λ both. both.0.items ≡ names_of processes.items) }
-    ensures calls { IfOk result (λ both. calls_of_scripts both.1.items ≡ calls_of_processes processes.items) }
+    ensures calls { IfOk result (λ both. both.1.items ≡ calls_of_processes processes.items) }
 {
     let mut names = Vec::with_capacity(alloc, processes.len())?;
     let mut scripts = Vec::with_capacity(alloc, processes.len())?;
     for process in processes {
         let ProcessDecl { name, calls } = process;
         names.push(name)?;
-        scripts.push(Script { calls })?;
+        scripts.push(calls)?;
     }
     Ok((names, scripts))
 }
@@ -56,7 +56,7 @@ pub fn hand_over<P: Drop>(alloc: Global, plan: Plan<P>) -> Result<Handed<P>, NoM
     ensures streams { IfOk result (λ handed. handed.names.streams ≡ plan.streams) }
     ensures names { IfOk result (λ handed. handed.names.processes.items ≡ names_of plan.processes.items) }
     ensures setups { IfOk result (λ handed. handed.setups.items ≡ setups_of plan) }
-    ensures scripts { IfOk result (λ handed. calls_of_scripts handed.scripts.items ≡ calls_of_processes plan.processes.items) }
+    ensures scripts { IfOk result (λ handed. handed.scripts.items ≡ calls_of_processes plan.processes.items) }
     ensures feeds { IfOk result (λ handed. handed.feeds.items ≡ plan.feeds.items) }
 {
     let Plan {

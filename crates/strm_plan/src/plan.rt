@@ -2,7 +2,7 @@
 use arrayvec::ArrayVec;
 use indexmap::IndexMap;
 use strm_call::Setup;
-use strm_job::{Feed, ScriptCall};
+use strm_job::{Feed, Script};
 use strm_module::{Boxed, Plain};
 
 /// The longest name of a stream or a process, in bytes.
@@ -17,7 +17,7 @@ pub struct ProcessDecl<P = Boxed<Plain>> {
     /// Its name, which no other process has.
     pub name: Name,
     /// Its calls, in order, each on a stream by its number in the order of the plan. A push has its module.
-    pub calls: Vec<ScriptCall<P>>,
+    pub calls: Script<P>,
 }
 
 /// What a script says, whose pushes carry `P`: modules of the built-in kinds, or of kinds of a program's own.

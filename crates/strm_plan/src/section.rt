@@ -16,7 +16,7 @@ use memchr::memmem;
 use std::alloc::Global;
 use std::thread::Threads;
 use strm_call::Setup;
-use strm_job::ScriptCall;
+use strm_job::{Script, ScriptCall};
 use strm_module::Boxed;
 use strm_msg::NoMem;
 use strm_text::first_line;
@@ -41,7 +41,7 @@ enum Said<P> {
 #[derive(Drop)]
 pub(crate) struct Calls<P> {
     /// The calls, in order.
-    pub(crate) calls: Vec<ScriptCall<P>>,
+    pub(crate) calls: Script<P>,
     /// How many lines there are.
     pub(crate) lines: u64,
 }
@@ -162,7 +162,7 @@ where
     requires { length streams.now.entries ≤ MOST_STREAMS }
     ensures { IfOk result (λ found. IfSome found (λ calls. AreCalls M.Kind.words (streams_view streams.now.entries) text.now calls)) }
 {
-    let mut calls = Vec::new(alloc);
+    let mut calls = Script::new(alloc);
     let mut texts = Vec::new(alloc);
     let mut rest = text;
     let mut lines = 0;
@@ -170,7 +170,7 @@ where
         let (line, after) = first_line(rest);
         match line_said(alloc, streams, line, &mut texts)? {
             Said::Nothing => {}
-            Said::Call(call) => calls.push(call)?,
+            Said::Call(call) => calls.push(alloc, call)?,
             Said::Other => return Ok(None),
         }
         lines += 1;

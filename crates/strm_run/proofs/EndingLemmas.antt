@@ -23,7 +23,7 @@ use Rattle.strm_shared.specs.Turns.{AreFirstOf}
 use Rattle.strm_line.specs.Feed.{FeedValue, accepted_of}
 use Rattle.strm_shared.specs.Ending.{SharedValue, AreSeats, CountsAgree, is_fed}
 use Rattle.strm_job.specs.declared.fault.RunFault.{RunFault}
-use Rattle.strm_job.specs.declared.script.Script.{Script}
+use Rattle.strm_job.specs.declared.script.ScriptCall.{ScriptCall}
 use Rattle.strm_entry.specs.declared.transcript.StreamLog.{StreamLog}
 use Rattle.strm_job.specs.Scripts.{calls_on, script_of, feed_of}
 use Rattle.strm_crew.specs.Account.{HasReceipts}
@@ -36,7 +36,7 @@ use Rattle.strm_run.specs.Inside.Ending.{AreLinesFed, AreParted, AreSeatsPlayed,
 use Rattle.strm_run.proofs.TableLemmas.{row_there}
 
 -- past the last caller there is no script
-script_past : {P : Type 0} (scripts : List (Script P)) (caller : ℕ) → length scripts ≤ caller → script_of scripts caller ≡ []
+script_past : {P : Type 0} (scripts : List (List (ScriptCall P))) (caller : ℕ) → length scripts ≤ caller → script_of scripts caller ≡ []
 script_past [] caller past = refl
 script_past (script ∷ rest) zero past = absurd (omega arith)
 script_past (script ∷ rest) (suc caller) past = script_past rest caller (omega arith)

@@ -122,7 +122,7 @@ fn more<M: ModuleOf>(
             .push(script_call(*stream, *end, request))
             .expect(rt, "no memory");
     }
-    Script { calls }
+    Script::of(alloc, calls)
 }
 
 /// A script for each caller.

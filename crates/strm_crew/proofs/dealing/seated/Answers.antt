@@ -1,7 +1,7 @@
-use Rattle.std.proofs.Common.{◌≡◌, ◌+◌, ◌<◌, ◌∷◌, ◌++◌, append_assoc, length, All, ap, subst, sym, ◌∙◌}
+use Rattle.std.proofs.Common.{◌≡◌, List, ◌+◌, ◌<◌, ◌∷◌, ◌++◌, append_assoc, length, All, ap, subst, sym, ◌∙◌}
 use Rattle.std.proofs.lemmas.List.{length-set, length_push}
 use Rattle.std.specs.Vec.Iter.{into_iter_items}
-use Rattle.strm_job.specs.declared.script.Script.{Script}
+use Rattle.strm_job.specs.declared.script.ScriptCall.{ScriptCall}
 use Rattle.strm_job.proofs.LoopLemmas.{rest_shorter}
 use Rattle.strm_crew.proofs.ReachedLemmas.{behind_more, reached_is, reached_there}
 use Rattle.strm_crew.proofs.DealLemmas.{caller_more, none_called, player_before, script_reached}
@@ -13,11 +13,11 @@ new-requires-in-loop-script-after_bounds g c κs within =
     let is : c.loop-script.yielded ++ c.in-Some.script ∷ into_iter_items c.next.new.self ≡ g.N.Plays.run.scripts =
     sym (ap (λ l. c.loop-script.yielded ++ l) c.in-Some.ensures.steps.0) ∙ was.rest ∙ sym c.requires.scripts in
     let there = reached_there g.N.Plays.run.scripts c.loop-script.yielded _ c.in-Some.script c.loop-script.caller is was.place in
-    let on_streams : All (λ (script : Script _). All (λ one. one.stream < length g.N.Plays.run.setups) script.calls.items) g.N.Plays.run.scripts =
+    let on_streams : All (λ (script : List (ScriptCall _)). All (λ one. one.stream < length g.N.Plays.run.setups) script) g.N.Plays.run.scripts =
     rw c.requires.scripts c.requires.there in
-    player_before g.N.Plays.run c.loop-script.caller c.in-Some.script.calls.items c.args.seats.items c.loop-script.seats.items c.replace-mine.result c.in_ok-accounts.accounts.items c.requires.seats there
+    player_before g.N.Plays.run c.loop-script.caller c.in-Some.script c.args.seats.items c.loop-script.seats.items c.replace-mine.result c.in_ok-accounts.accounts.items c.requires.seats there
     (script_reached g.N.Plays.run.scripts c.loop-script.yielded _ c.in-Some.script c.loop-script.caller is was.place)
-    (subst (λ (script : Script _). All (λ one. one.stream < length g.N.Plays.run.setups) script.calls.items) (reached_is g.N.Plays.run.scripts c.loop-script.yielded _ c.in-Some.script c.in-Some.script c.loop-script.caller is was.place) (on_streams c.loop-script.caller c.in-Some.script there))
+    (subst (λ (script : List (ScriptCall _)). All (λ one. one.stream < length g.N.Plays.run.setups) script) (reached_is g.N.Plays.run.scripts c.loop-script.yielded _ c.in-Some.script c.in-Some.script c.loop-script.caller is was.place) (on_streams c.loop-script.caller c.in-Some.script there))
     was.behind
     (rw c.replace-mine.ensures.value c.index_mut.ensures.value)
     c.in_ok-accounts.ensures

@@ -1,5 +1,4 @@
-use Rattle.std.proofs.Common.{append_assoc, ◌∙◌, refl}
-use Rattle.std.proofs.lemmas.List.{map-append}
+use Rattle.std.proofs.Common.{append_assoc, refl}
 use Rattle.strm_job.proofs.LoopLemmas.{rest_shorter}
 use Rattle.strm_plan.proofs.MoreLemmas.{one_more}
 use Rattle.strm_plan.proofs.handing.scripts.Goals as goal
@@ -12,5 +11,5 @@ loop-process-preserved g c =
       left = rest_shorter _ _ _ _ _ was.left next c.in-Some.ensures.steps.1;
       rest = rw (append_assoc, ← next) was.rest;
       names = rw c.in_ok-push.ensures.items (one_more (λ process. process.name) c.loop-process.names.items c.loop-process.yielded _ c.in-Some.process was.names refl);
-      calls = rw c.in_ok-push-2.ensures.items (map-append (λ script. script.calls.items) c.loop-process.scripts.items _ ∙ one_more (λ process. process.calls.items) _ c.loop-process.yielded _ c.in-Some.process was.calls refl);
+      calls = rw c.in_ok-push-2.ensures.items (one_more (λ process. process.calls) c.loop-process.scripts.items c.loop-process.yielded _ c.in-Some.process was.calls refl);
     }

@@ -18,12 +18,12 @@ returns-then-takes-clause-read g c =
     let words = g.M.Kind.ReadKind.words in
     let d = draft_view c.args.draft.now in
     let e = draft_view c.read_line.new.draft in
-    let calls = map call_view c.in-Some.calls.calls.items in
+    let calls = map call_view c.in-Some.calls.calls in
     let streams = take c.args.streams d.streams in
     let its = subst (λ found. IfSome found (λ calls. AreCallsBehind words streams c.args.section.text.now calls)) c.in-Some.is c.requires.section.calls in
     let many : length e.streams ≡ c.args.streams = ap (λ l. length l) (sym c.streams.ensures) ∙ length-map c.streams.result.now.entries _ ∙ sym c.len.ensures.len ∙ c.if-len-streams.true in
-    let some : length c.in-Some.calls.calls.items ≡ c.len-then-len-streams.result = search rules in
-    let room = ap (λ n. takes e.place n) (length-map c.in-Some.calls.calls.items call_view ∙ some) ∙ sym c.if-takes.ensures in
+    let some : length c.in-Some.calls.calls ≡ c.len-then-len-streams.result = search rules in
+    let room = ap (λ n. takes e.place n) (length-map c.in-Some.calls.calls call_view ∙ some) ∙ sym c.if-takes.ensures in
     let read = section_read words c.args.before d c.args.section.text.now c.first_line.result.0.now c.first_line.result.1.now c.first_line.ensures.first e c.args.streams calls c.in-Some.calls.lines c.requires.at c.in_ok-read_line.ensures.read c.requires.declared many room (its.add c.first_line.result.0.now (lines c.first_line.result.1.now) c.first_line.ensures.first) its.few in
     subst (λ f. AreRead words c.args.before d c.args.section.text.now (c.args.before + 1 + c.in-Some.calls.lines) f) (sym c.set_calls.ensures) read
 

@@ -9,8 +9,9 @@ use Rattle.strm_plan.proofs.section.calls_in.Given as goal
 -- the lines so far say these calls, behind which those of the others go
 abbrev pub invariant-loop-rest : goal.invariant-loop-rest
 invariant-loop-rest g l = record {
-  onto : (n : ℕ) (d : Partial g.row.M-Kind.Denot) (others : List (List ℕ)) → d.streams ≡ streams_view l.streams.entries → HasRoom d.place (length (map call_view l.calls.items)) → lines_onto g.M.Kind.ReadKind.words n d (lines l.text ++ others) ≡ lines_onto g.M.Kind.ReadKind.words (n + l.lines) (with_calls d (map call_view l.calls.items)) (lines l.rest ++ others);
-  there : AreCallsThere (streams_view l.streams.entries) (map call_view l.calls.items);
+  onto : (n : ℕ) (d : Partial g.row.M-Kind.Denot) (others : List (List ℕ)) → d.streams ≡ streams_view l.streams.entries → HasRoom d.place (length (map call_view l.calls)) → lines_onto g.M.Kind.ReadKind.words n d (lines l.text ++ others) ≡ lines_onto g.M.Kind.ReadKind.words (n + l.lines) (with_calls d (map call_view l.calls)) (lines l.rest ++ others);
+  there : AreCallsThere (streams_view l.streams.entries) (map call_view l.calls);
+  some : length l.calls ≤ l.lines;
   few : l.lines + length l.rest ≤ length l.text;
 }
 

@@ -8,9 +8,9 @@ use crate::parts::is_itself;
 /// How many bytes are looked at together.
 const BLOCK: usize = 32;
 
-/// Whether all bytes stand for themselves. None is left out once one does not, so that many can be looked at
+/// Whether all bytes stand for themselves in a part. None is left out once one does not, so that many can be looked at
 /// by one instruction.
-fn are_plain(bytes: &[u8]) -> bool
+pub fn are_plain(bytes: &[u8]) -> bool
     ensures { result ≡ list_all is_itself bytes.now }
 {
     let mut plain = true;

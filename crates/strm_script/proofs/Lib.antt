@@ -1,3 +1,4 @@
+pub mod GatheredLemmas
 pub mod LineLemmas
 pub mod ReadBackLemmas
 pub mod SharingLemmas

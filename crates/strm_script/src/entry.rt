@@ -3,13 +3,15 @@ ghost use Rattle.std.specs.Prelude.{◌≡◌, ◌∷◌, ◌++◌, [], OnOk, ma
 ghost use Rattle.std.specs.Io.KnownBytes.{Appends};
 ghost use Rattle.strm_verb.specs.Field.{Word};
 ghost use Rattle.strm_script.specs.Fields.{spaced};
+ghost use Rattle.strm_script.specs.Gathered.{Puts};
 ghost use Rattle.strm_script.specs.Lines as text;
 
-use crate::field::put_word;
-use crate::message::put_message;
+use crate::field::add_word;
+use crate::gathered::Gathered;
+use crate::message::add_message;
 use crate::module::PrintKind;
-use crate::reply::put_answer;
-use crate::request::{put_fields, verb_of};
+use crate::reply::add_answer;
+use crate::request::{add_fields, verb_of};
 use std::io::{self, Write};
 use strm_call::Request;
 use strm_head::Event;
@@ -39,40 +41,56 @@ fn name_at(processes: &[Name], number: u32) -> &[u8]
     }
 }
 
-/// Writes who made a step: the name of a process, or `line`.
-fn put_who<W: Write>(w: &mut W, processes: &[Name], who: Who) -> io::Result<()>
-    ensures { OnOk result (Appends (W.contents w.old) (W.contents w.new) (text.who_text (map (λ name. name.items) processes.now) who)) }
+/// Adds who made a step: the name of a process, or `line`.
+fn add_who<W: Write>(w: &mut W, out: &mut Gathered, processes: &[Name], who: Who)
+    ensures { Puts (W.contents w.old) (W.contents w.new) out.old out.new (text.who_text (map (λ name. name.items) processes.now) who) }
 {
     match who {
-        Who::Caller(number) => w.write_all(name_at(processes, number)),
-        Who::Line => w.write_all(b"line"),
+        Who::Caller(number) => out.put(w, name_at(processes, number)),
+        Who::Line => out.put(w, b"line"),
     }
 }
 
-/// Writes NAME:END.
-#[tactic(auto, using(strm_text::proofs::WriteLemmas::appends_then))]
-fn put_target<W: Write>(w: &mut W, stream: &[u8], end: End) -> io::Result<()>
-    ensures { OnOk result (Appends (W.contents w.old) (W.contents w.new) (spaced (Word (stream.now ++ 58 ∷ text.end_word end) ∷ []))) }
+/// Adds NAME:END.
+#[tactic(auto, using(crate::proofs::GatheredLemmas::puts))]
+fn add_target<W: Write>(w: &mut W, out: &mut Gathered, stream: &[u8], end: End)
+    ensures { Puts (W.contents w.old) (W.contents w.new) out.old out.new (spaced (Word (stream.now ++ 58 ∷ text.end_word end) ∷ [])) }
 {
-    w.write_all(b" ")?;
-    w.write_all(stream)?;
-    w.write_all(b":")?;
-    w.write_all(end_word(end))
+    out.put(w, b" ");
+    out.put(w, stream);
+    out.put(w, b":");
+    out.put(w, end_word(end));
 }
 
-/// Writes a call: its word, NAME:END, and its fields.
-#[tactic(auto, using(strm_text::proofs::WriteLemmas::appends_then), unfolding(crate::specs::Lines::call_text))]
-fn put_call<W: Write, K: PrintKind + Drop>(
+/// Adds a call: its word, NAME:END, and its fields.
+fn add_call<W: Write, K: PrintKind + Drop>(
     w: &mut W,
+    out: &mut Gathered,
     stream: &[u8],
     end: End,
     request: &Request<BoxedShape<K>>,
-) -> io::Result<()>
-    ensures { OnOk result (Appends (W.contents w.old) (W.contents w.new) (text.call_text K.spelling stream.now end request.now)) }
+)
+    ensures { Puts (W.contents w.old) (W.contents w.new) out.old out.new (text.call_text K.spelling stream.now end request.now) }
 {
-    put_word(w, verb_of(request).word())?;
-    put_target(w, stream, end)?;
-    put_fields(w, request)
+    add_word(w, out, verb_of(request).word());
+    add_target(w, out, stream, end);
+    add_fields(w, out, request);
+}
+
+/// Adds what happened, as a transcript has it: ` VERB NAME:END FIELDS` of a call, or ` MESSAGE` of what came in.
+fn add_event<W: Write, K: PrintKind + Drop>(
+    w: &mut W,
+    out: &mut Gathered,
+    stream: &[u8],
+    end: End,
+    event: &Event<BoxedShape<K>>,
+)
+    ensures { Puts (W.contents w.old) (W.contents w.new) out.old out.new (text.event_text K.spelling stream.now end event.now) }
+{
+    match event {
+        Event::Asked(request) => add_call(w, out, stream, end, request),
+        Event::Arrived(m) => add_message(w, out, m),
+    }
 }
 
 /// Writes what happened, as a transcript has it: ` VERB NAME:END FIELDS` of a call, or ` MESSAGE` of what came in.
@@ -86,29 +104,44 @@ pub fn put_event<W: Write, K: PrintKind + Drop>(
 ) -> io::Result<()>
     ensures { OnOk result (Appends (W.contents w.old) (W.contents w.new) (text.event_text K.spelling stream.now end event.now)) }
 {
-    match event {
-        Event::Asked(request) => put_call(w, stream, end, request),
-        Event::Arrived(m) => put_message(w, m),
-    }
+    let mut out = Gathered::new();
+    add_event(w, &mut out, stream, end, event);
+    out.finish(w)
 }
 
-/// Writes the line of a step.
-#[tactic(auto, using(strm_text::proofs::WriteLemmas::appends_then), unfolding(crate::specs::Lines::entry_text))]
-fn put_entry<W: Write, K: PrintKind + Drop>(
+/// Adds the line of a step.
+#[tactic(auto, using(crate::proofs::GatheredLemmas::puts), unfolding(crate::specs::Lines::entry_text))]
+fn add_entry<W: Write, K: PrintKind + Drop>(
     w: &mut W,
+    out: &mut Gathered,
     processes: &[Name],
     stream: &[u8],
     entry: &Entry<K>,
-) -> io::Result<()>
-    ensures { OnOk result (Appends (W.contents w.old) (W.contents w.new) (text.entry_text K.spelling (map (λ name. name.items) processes.now) stream.now entry.now)) }
+)
+    ensures { Puts (W.contents w.old) (W.contents w.new) out.old out.new (text.entry_text K.spelling (map (λ name. name.items) processes.now) stream.now entry.now) }
 {
-    put_who(w, processes, entry.who)?;
-    put_event(w, stream, entry.end, &entry.event)?;
-    put_answer(w, &entry.answer)
+    add_who(w, out, processes, entry.who);
+    add_event(w, out, stream, entry.end, &entry.event);
+    add_answer(w, out, &entry.answer);
+}
+
+/// Adds the lines of steps, one after another.
+#[tactic(auto, using(crate::proofs::GatheredLemmas::puts_nothing, crate::proofs::GatheredLemmas::entry_put))]
+fn add_entries<W: Write, K: PrintKind + Drop>(
+    w: &mut W,
+    out: &mut Gathered,
+    processes: &[Name],
+    stream: &[u8],
+    entries: &[Kept<K>],
+)
+    ensures { Puts (W.contents w.old) (W.contents w.new) out.old out.new (text.entries_text K.spelling (map (λ name. name.items) processes.now) stream.now entries.now) }
+{
+    for kept in entries {
+        add_entry(w, out, processes, stream, kept.entry());
+    }
 }
 
 /// Writes the lines of steps, one after another.
-#[tactic(auto, using(strm_text::proofs::WriteLemmas::appends_then))]
 pub(crate) fn put_entries<W: Write, K: PrintKind + Drop>(
     w: &mut W,
     processes: &[Name],
@@ -117,8 +150,7 @@ pub(crate) fn put_entries<W: Write, K: PrintKind + Drop>(
 ) -> io::Result<()>
     ensures { OnOk result (Appends (W.contents w.old) (W.contents w.new) (text.entries_text K.spelling (map (λ name. name.items) processes.now) stream.now entries.now)) }
 {
-    for kept in entries {
-        put_entry(w, processes, stream, kept.entry())?;
-    }
-    Ok(())
+    let mut out = Gathered::new();
+    add_entries(w, &mut out, processes, stream, entries);
+    out.finish(w)
 }

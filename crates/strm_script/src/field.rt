@@ -1,16 +1,23 @@
 //! Fields, each behind a space.
 ghost use Rattle.std.specs.Prelude.{◌≡◌, ◌∷◌, [], OnOk, map};
 ghost use Rattle.std.specs.Io.KnownBytes.{Appends};
+ghost use Rattle.std.specs.Fmt.{decimal};
+ghost use Rattle.strm_text.specs.Spelling.{part_text};
 ghost use Rattle.strm_verb.specs.Field as says;
+ghost use Rattle.strm_script.specs.Gathered.{Puts};
 ghost use Rattle.strm_script.specs.Fields.{said, spaced};
 ghost use Rattle.strm_script.specs.ReadBack.{FieldsAreReadBack};
 ghost use Rattle.strm_script.specs.Replies.{name_fields};
 
+use crate::gathered::Gathered;
 use itoa::Buffer;
 use std::io::{self, Write};
 use strm_call::Name;
 use strm_msg::Bytes;
-use strm_text::write_part;
+use strm_text::{are_plain, write_part};
+
+/// The most bytes of a part that is looked through at once.
+const SHORT: usize = 32;
 
 /// A field of a line.
 #[derive(Clone, Copy)]
@@ -45,27 +52,98 @@ pub(crate) fn maximum_field<'a>(most: Option<u16>) -> Field<'a>
     }
 }
 
-/// Writes a field behind a space.
-fn put_field<W: Write>(w: &mut W, field: Field<'_>) -> io::Result<()>
-    ensures { OnOk result (Appends (W.contents w.old) (W.contents w.new) (spaced (said field.entry ∷ []))) }
+/// Adds a field behind a space.
+fn add_field<W: Write>(w: &mut W, out: &mut Gathered, field: Field<'_>)
+    ensures { Puts (W.contents w.old) (W.contents w.new) out.old out.new (spaced (said field.entry ∷ [])) }
 {
     match field {
-        Field::Bytes(bytes) => put_part(w, bytes),
-        Field::Number(n) => put_number(w, n),
-        Field::Pair(high, low) => put_pair(w, high, low),
-        Field::Word(word) => put_word(w, word),
+        Field::Bytes(bytes) => add_part(w, out, bytes),
+        Field::Number(n) => add_number(w, out, n),
+        Field::Pair(high, low) => add_pair(w, out, high, low),
+        Field::Word(word) => add_word(w, out, word),
     }
 }
 
-/// Writes fields, each behind a space.
-#[tactic(auto, using(strm_text::proofs::WriteLemmas::appends_then))]
-pub(crate) fn put_all<W: Write>(w: &mut W, fields: &[Field<'_>]) -> io::Result<()>
-    ensures { OnOk result (Appends (W.contents w.old) (W.contents w.new) (spaced (map said fields.now))) }
+/// Adds fields, each behind a space.
+#[tactic(auto, using(crate::proofs::GatheredLemmas::puts_nothing, crate::proofs::GatheredLemmas::field_put))]
+pub(crate) fn add_all<W: Write>(w: &mut W, out: &mut Gathered, fields: &[Field<'_>])
+    ensures { Puts (W.contents w.old) (W.contents w.new) out.old out.new (spaced (map said fields.now)) }
 {
     for field in fields {
-        put_field(w, *field)?;
+        add_field(w, out, *field);
     }
-    Ok(())
+}
+
+/// Adds a word behind a space.
+#[tactic(auto, using(crate::proofs::GatheredLemmas::puts))]
+pub(crate) fn add_word<W: Write>(w: &mut W, out: &mut Gathered, word: &[u8])
+    ensures { Puts (W.contents w.old) (W.contents w.new) out.old out.new (spaced (says.Word word.now ∷ [])) }
+{
+    out.put(w, b" ");
+    out.put(w, word);
+}
+
+/// Writes bytes as a PART behind what is gathered.
+fn add_long_part<W: Write>(w: &mut W, out: &mut Gathered, bytes: &[u8])
+    ensures { Puts (W.contents w.old) (W.contents w.new) out.old out.new (part_text bytes.now) }
+{
+    if out.flush(w) {
+        out.note(write_part(w, bytes));
+    }
+}
+
+/// Adds bytes as a PART behind a space.
+#[tactic(auto, using(crate::proofs::GatheredLemmas::puts, strm_text::proofs::RunLemmas::plain_spelt))]
+pub(crate) fn add_part<W: Write>(w: &mut W, out: &mut Gathered, bytes: &[u8])
+    ensures { Puts (W.contents w.old) (W.contents w.new) out.old out.new (spaced (says.Bytes bytes.now ∷ [])) }
+{
+    if bytes.len() <= SHORT && are_plain(bytes) {
+        out.put(w, b" =");
+        out.put(w, bytes);
+        return;
+    }
+    out.put(w, b" ");
+    add_long_part(w, out, bytes);
+}
+
+/// Adds the digits of a number.
+fn add_digits<W: Write>(w: &mut W, out: &mut Gathered, n: u64)
+    ensures { Puts (W.contents w.old) (W.contents w.new) out.old out.new (decimal n) }
+{
+    if n < 10 {
+        return out.put(w, &[b'0' + n as u8]);
+    }
+    let mut digits = Buffer::new();
+    out.put(w, digits.format(n).as_bytes());
+}
+
+/// Adds a number behind a space.
+#[tactic(auto, using(crate::proofs::GatheredLemmas::puts))]
+pub(crate) fn add_number<W: Write>(w: &mut W, out: &mut Gathered, n: u64)
+    ensures { Puts (W.contents w.old) (W.contents w.new) out.old out.new (spaced (says.Number n ∷ [])) }
+{
+    out.put(w, b" ");
+    add_digits(w, out, n);
+}
+
+/// Adds two numbers with a stroke between them.
+#[tactic(auto, using(crate::proofs::GatheredLemmas::pair_put))]
+fn add_pair<W: Write>(w: &mut W, out: &mut Gathered, high: u32, low: u32)
+    ensures { Puts (W.contents w.old) (W.contents w.new) out.old out.new (spaced (says.Pair high low ∷ [])) }
+{
+    add_number(w, out, u64::from(high));
+    out.put(w, b"/");
+    add_digits(w, out, u64::from(low));
+}
+
+/// Adds names, one after another.
+#[tactic(auto, using(crate::proofs::GatheredLemmas::puts_nothing, crate::proofs::GatheredLemmas::name_put))]
+pub(crate) fn add_names<W: Write>(w: &mut W, out: &mut Gathered, names: &[Name])
+    ensures { Puts (W.contents w.old) (W.contents w.new) out.old out.new (spaced (name_fields names.now)) }
+{
+    for name in names {
+        add_word(w, out, name.as_slice());
+    }
 }
 
 /// Writes a word behind a space. Refused where the writer is, and with its error.
@@ -94,24 +172,6 @@ pub fn put_number<W: Write>(w: &mut W, n: u64) -> io::Result<()>
     let mut digits = Buffer::new();
     w.write_all(b" ")?;
     w.write_all(digits.format(n).as_bytes())
-}
-
-/// Writes two numbers with a stroke between them.
-fn put_pair<W: Write>(w: &mut W, high: u32, low: u32) -> io::Result<()>
-    ensures { OnOk result (Appends (W.contents w.old) (W.contents w.new) (spaced (says.Pair high low ∷ []))) }
-{
-    write!(w, " {high}/{low}")
-}
-
-/// Writes names, one after another.
-#[tactic(auto, using(strm_text::proofs::WriteLemmas::appends_then))]
-pub(crate) fn put_names<W: Write>(w: &mut W, names: &[Name]) -> io::Result<()>
-    ensures { OnOk result (Appends (W.contents w.old) (W.contents w.new) (spaced (name_fields names.now))) }
-{
-    for name in names {
-        put_word(w, name.as_slice())?;
-    }
-    Ok(())
 }
 
 /// What is printed of a field is read back as that field. Does nothing: it carries the law.

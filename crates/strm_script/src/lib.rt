@@ -4,6 +4,7 @@
 
 mod entry;
 mod field;
+mod gathered;
 mod message;
 mod module;
 mod printing;

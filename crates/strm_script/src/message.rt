@@ -1,26 +1,27 @@
 //! Messages that came in.
-ghost use Rattle.std.specs.Prelude.{◌≡◌, OnOk};
-ghost use Rattle.std.specs.Io.KnownBytes.{Appends};
+ghost use Rattle.std.specs.Prelude.{◌≡◌};
 ghost use Rattle.strm_msg.specs.Text.{name_of};
 ghost use Rattle.strm_verb.specs.Words as words;
 ghost use Rattle.strm_script.specs.Fields as text;
+ghost use Rattle.strm_script.specs.Gathered.{Puts};
 
 use crate::field::Field::{Number, Pair, Word};
-use crate::field::{Field, part_field, put_all};
-use std::io::{self, Write};
+use crate::field::{Field, add_all, part_field};
+use crate::gathered::Gathered;
+use std::io::Write;
 use strm_msg::{Errno, Message, MsgKind, Prot, ReadMode};
 use strm_verb::{MessageWord, Verb, Worded};
 
-/// Writes a flush of all bands, or of one.
-fn put_flush<W: Write>(w: &mut W, band: Option<u8>, read: bool, write: bool) -> io::Result<()>
-    ensures { OnOk result (Appends (W.contents w.old) (W.contents w.new) (text.spaced (text.flush_fields band (words.flush_word read write)))) }
+/// Adds a flush of all bands, or of one.
+fn add_flush<W: Write>(w: &mut W, out: &mut Gathered, band: Option<u8>, read: bool, write: bool)
+    ensures { Puts (W.contents w.old) (W.contents w.new) out.old out.new (text.spaced (text.flush_fields band (words.flush_word read write))) }
 {
     let flags = Word((read, write).word());
     match band {
-        None => put_all(w, &[Word(MessageWord::Flush.word()), flags]),
+        None => add_all(w, out, &[Word(MessageWord::Flush.word()), flags]),
         Some(band) => {
             let word = Word(Verb::FlushBand.word());
-            put_all(w, &[word, Number(u64::from(band)), flags])
+            add_all(w, out, &[word, Number(u64::from(band)), flags])
         }
     }
 }
@@ -75,20 +76,21 @@ fn errno_field<'a>(errno: Option<Errno>) -> Field<'a>
     }
 }
 
-/// Writes an error that is the same for both sides, or else what is given for each.
-fn put_error<W: Write>(w: &mut W, rd: Option<Errno>, wr: Option<Errno>) -> io::Result<()>
-    ensures { OnOk result (Appends (W.contents w.old) (W.contents w.new) (text.spaced (text.error_fields rd wr))) }
+/// Adds an error that is the same for both sides, or else what is given for each.
+fn add_error<W: Write>(w: &mut W, out: &mut Gathered, rd: Option<Errno>, wr: Option<Errno>)
+    ensures { Puts (W.contents w.old) (W.contents w.new) out.old out.new (text.spaced (text.error_fields rd wr)) }
 {
     if is_one_error(rd, wr) {
-        return put_all(w, &[Word(MessageWord::Error.word()), errno_field(rd)]);
+        return add_all(w, out, &[Word(MessageWord::Error.word()), errno_field(rd)]);
     }
     let word = Word(MessageWord::Error2.word());
-    put_all(w, &[word, errno_field(rd), errno_field(wr)])
+    add_all(w, out, &[word, errno_field(rd), errno_field(wr)]);
 }
 
-/// Writes a message as a feed has it.
-pub(crate) fn put_message<W: Write>(w: &mut W, m: &Message) -> io::Result<()>
-    ensures { OnOk result (Appends (W.contents w.old) (W.contents w.new) (text.spaced (text.message_fields m.now))) }
+/// Adds a message as a feed has it.
+#[tactic(auto, using(crate::proofs::GatheredLemmas::puts_nothing))]
+pub(crate) fn add_message<W: Write>(w: &mut W, out: &mut Gathered, m: &Message)
+    ensures { Puts (W.contents w.old) (W.contents w.new) out.old out.new (text.spaced (text.message_fields m.now)) }
 {
     let (band, ctl, dat) = (
         Number(u64::from(m.band)),
@@ -96,16 +98,16 @@ pub(crate) fn put_message<W: Write>(w: &mut W, m: &Message) -> io::Result<()>
         part_field(&m.dat),
     );
     match m.kind {
-        MsgKind::MData => put_all(w, &[Word(MessageWord::Data.word()), band, dat]),
-        MsgKind::MProto => put_all(w, &[Word(MessageWord::Proto.word()), band, ctl, dat]),
-        MsgKind::MPcproto => put_all(w, &[Word(MessageWord::Pcproto.word()), ctl, dat]),
+        MsgKind::MData => add_all(w, out, &[Word(MessageWord::Data.word()), band, dat]),
+        MsgKind::MProto => add_all(w, out, &[Word(MessageWord::Proto.word()), band, ctl, dat]),
+        MsgKind::MPcproto => add_all(w, out, &[Word(MessageWord::Pcproto.word()), ctl, dat]),
         MsgKind::MSetopts { mode, prot, marks } => {
             let (word, marks) = (Word(MessageWord::Setopts.word()), marks_field(marks));
-            put_all(w, &[word, mode_field(mode), prot_field(prot), marks])
+            add_all(w, out, &[word, mode_field(mode), prot_field(prot), marks])
         }
-        MsgKind::MFlush { r, w: write, band } => put_flush(w, band, r, write),
-        MsgKind::MHangup => put_all(w, &[Word(MessageWord::Hangup.word())]),
-        MsgKind::MError { rd, wr } => put_error(w, rd, wr),
-        MsgKind::MIoctl { .. } | MsgKind::MIocack { .. } | MsgKind::MIocnak { .. } => Ok(()),
+        MsgKind::MFlush { r, w: write, band } => add_flush(w, out, band, r, write),
+        MsgKind::MHangup => add_all(w, out, &[Word(MessageWord::Hangup.word())]),
+        MsgKind::MError { rd, wr } => add_error(w, out, rd, wr),
+        MsgKind::MIoctl { .. } | MsgKind::MIocack { .. } | MsgKind::MIocnak { .. } => {}
     }
 }

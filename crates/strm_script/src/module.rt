@@ -2,9 +2,11 @@
 ghost use Rattle.std.specs.Prelude.{◌≡◌, [], OnOk};
 ghost use Rattle.std.specs.Io.KnownBytes.{Appends};
 ghost use Rattle.strm_script.specs.Fields as text;
+ghost use Rattle.strm_script.specs.Gathered.{Puts};
 
 use crate::field::Field::{Pair, Word};
-use crate::field::{Field, put_all, put_number, put_part};
+use crate::field::{Field, add_all, put_number, put_part};
+use crate::gathered::Gathered;
 use arrayvec::ArrayVec;
 use std::io::{self, Write};
 use strm_module::{Kind, Shape};
@@ -123,12 +125,25 @@ fn side_field<'a>(side: Option<Marks>) -> Field<'a>
     }
 }
 
-/// Writes a module: its kind, its name, the marks of its sides, and what the kind has.
-#[tactic(auto, using(strm_text::proofs::WriteLemmas::appends_then))]
-pub(crate) fn put_module<W: Write, K: PrintKind>(w: &mut W, shape: &Shape<K>) -> io::Result<()>
-    ensures { OnOk result (Appends (W.contents w.old) (W.contents w.new) (text.spaced (text.push_fields K.spelling shape.now))) }
+/// Adds what the kind of a module has.
+fn add_kind<W: Write, K: PrintKind>(w: &mut W, out: &mut Gathered, kind: &K)
+    ensures { Puts (W.contents w.old) (W.contents w.new) out.old out.new (text.spaced (K.spelling.fields kind.now)) }
+{
+    if out.flush(w) {
+        out.note(kind.put_fields(w));
+    }
+}
+
+/// Adds a module: its kind, its name, the marks of its sides, and what the kind has.
+#[tactic(auto, using(crate::proofs::GatheredLemmas::puts_on))]
+pub(crate) fn add_module<W: Write, K: PrintKind>(w: &mut W, out: &mut Gathered, shape: &Shape<K>)
+    ensures { Puts (W.contents w.old) (W.contents w.new) out.old out.new (text.spaced (text.push_fields K.spelling shape.now)) }
 {
     let (kind, name) = (Word(shape.kind.word()), Word(shape.name.as_slice()));
-    put_all(w, &[kind, name, side_field(shape.rd), side_field(shape.wr)])?;
-    shape.kind.put_fields(w)
+    add_all(
+        w,
+        out,
+        &[kind, name, side_field(shape.rd), side_field(shape.wr)],
+    );
+    add_kind(w, out, &shape.kind);
 }

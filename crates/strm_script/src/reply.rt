@@ -2,11 +2,13 @@
 ghost use Rattle.std.specs.Prelude.{◌≡◌, OnOk};
 ghost use Rattle.std.specs.Io.KnownBytes.{Appends};
 ghost use Rattle.strm_script.specs.Fields.{spaced};
+ghost use Rattle.strm_script.specs.Gathered.{Puts};
 ghost use Rattle.strm_script.specs.Lines.{answer_text};
 ghost use Rattle.strm_script.specs.Replies as text;
 
 use crate::field::Field::{Number, Word};
-use crate::field::{part_field, put_all, put_names, put_number, put_part, put_word};
+use crate::field::{Field, add_all, add_names, add_number, add_part, add_word, part_field};
+use crate::gathered::Gathered;
 use std::io::{self, Write};
 use strm_call::{Acknowledged, Answer, More, Peeked, Received, Reply};
 use strm_msg::Bytes;
@@ -31,53 +33,56 @@ fn holds_word(holds: bool) -> &'static [u8]
     if holds { b"1" } else { b"0" }
 }
 
-/// Writes what getpmsg took: its parts, its band or that it was of high priority, and which parts stay.
-fn put_taken<'a, W: Write>(
+/// Adds what getpmsg took: its parts, its band or that it was of high priority, and which parts stay.
+fn add_taken<'a, W: Write>(
     w: &mut W,
+    out: &mut Gathered,
     ctl: &'a Option<Bytes>,
     dat: &'a Option<Bytes>,
     flag: Received,
     more: More,
-) -> io::Result<()>
-    ensures { OnOk result (Appends (W.contents w.old) (W.contents w.new) (spaced (text.reply_fields (Reply.Getpmsg ctl.now dat.now flag more)))) }
+)
+    ensures { Puts (W.contents w.old) (W.contents w.new) out.old out.new (spaced (text.reply_fields (Reply.Getpmsg ctl.now dat.now flag more))) }
 {
     let (ctl, dat, more) = (part_field(ctl), part_field(dat), Word(more_word(more)));
     match flag {
-        Received::Band { band } => put_all(w, &[ctl, dat, Word(b"band"), Number(band), more]),
-        Received::Hipri => put_all(w, &[ctl, dat, Word(b"hipri"), more]),
+        Received::Band { band } => add_all(w, out, &[ctl, dat, Word(b"band"), Number(band), more]),
+        Received::Hipri => add_all(w, out, &[ctl, dat, Word(b"hipri"), more]),
     }
 }
 
-/// Writes what a peek has seen, or that there was nothing to see.
-fn put_peeked<W: Write>(w: &mut W, found: &Option<Peeked>) -> io::Result<()>
-    ensures { OnOk result (Appends (W.contents w.old) (W.contents w.new) (spaced (text.peeked_fields found.now))) }
+/// Adds what a peek has seen, or that there was nothing to see.
+fn add_peeked<W: Write>(w: &mut W, out: &mut Gathered, found: &Option<Peeked>)
+    ensures { Puts (W.contents w.old) (W.contents w.new) out.old out.new (spaced (text.peeked_fields found.now)) }
 {
     match found {
-        None => put_word(w, b"none"),
+        None => add_word(w, out, b"none"),
         Some(seen) => {
             let (ctl, dat) = (part_field(&seen.ctl), part_field(&seen.dat));
-            put_all(w, &[ctl, dat, Word(seen.flag.word())])
+            add_all(w, out, &[ctl, dat, Word(seen.flag.word())])
         }
     }
 }
 
-/// Writes what became of an ioctl.
-fn put_acknowledged<W: Write>(w: &mut W, answer: &Acknowledged) -> io::Result<()>
-    ensures { OnOk result (Appends (W.contents w.old) (W.contents w.new) (spaced (text.acknowledged_fields answer.now))) }
+/// Adds what became of an ioctl.
+fn add_acknowledged<W: Write>(w: &mut W, out: &mut Gathered, answer: &Acknowledged)
+    ensures { Puts (W.contents w.old) (W.contents w.new) out.old out.new (spaced (text.acknowledged_fields answer.now)) }
 {
     match answer {
-        Acknowledged::Ack { rval, dat } => put_all(w, &[Number(*rval), part_field(dat)]),
+        Acknowledged::Ack { rval, dat } => add_all(w, out, &[Number(*rval), part_field(dat)]),
         Acknowledged::Nak { errno } => {
-            put_all(w, &[Word(b"nak"), Word(errno.name().as_bytes())])
+            add_all(w, out, &[Word(b"nak"), Word(errno.name().as_bytes())])
         }
-        Acknowledged::Timeout => put_word(w, b"ETIME"),
+        Acknowledged::Timeout => add_word(w, out, b"ETIME"),
     }
 }
 
-/// Writes what a call that is done gives back.
-#[tactic(auto, using(strm_text::proofs::WriteLemmas::appends_then))]
-fn put_reply<W: Write>(w: &mut W, reply: &Reply) -> io::Result<()>
-    ensures { OnOk result (Appends (W.contents w.old) (W.contents w.new) (spaced (text.reply_fields reply.now))) }
+/// Adds what any call that is done gives back, from a list of fields. Stands apart, so that the room of the lists is not made where an
+/// answer has none.
+#[inline(never)]
+#[tactic(auto, using(crate::proofs::GatheredLemmas::puts))]
+fn add_listed<W: Write>(w: &mut W, out: &mut Gathered, reply: &Reply)
+    ensures { Puts (W.contents w.old) (W.contents w.new) out.old out.new (spaced (text.reply_fields reply.now)) }
 {
     match reply {
         Reply::Putmsg
@@ -86,7 +91,7 @@ fn put_reply<W: Write>(w: &mut W, reply: &Reply) -> io::Result<()>
         | Reply::SetRead
         | Reply::Flush
         | Reply::FlushBand
-        | Reply::Line => put_word(w, b"0"),
+        | Reply::Line => add_word(w, out, b"0"),
         Reply::Getmsg {
             ctl,
             dat,
@@ -94,53 +99,75 @@ fn put_reply<W: Write>(w: &mut W, reply: &Reply) -> io::Result<()>
             more,
         } => {
             let (flag, more) = (Word(flag.word()), Word(more_word(*more)));
-            put_all(w, &[part_field(ctl), part_field(dat), flag, more])
+            add_all(w, out, &[part_field(ctl), part_field(dat), flag, more])
         }
         Reply::Getpmsg {
             ctl,
             dat,
             flag,
             more,
-        } => put_taken(w, ctl, dat, *flag, *more),
-        Reply::Read { dat } => put_part(w, dat.as_slice()),
-        Reply::Write { len } => put_number(w, *len),
-        Reply::Nread { messages, bytes } => put_all(w, &[Number(*messages), Number(*bytes)]),
-        Reply::Peek { found } => put_peeked(w, found),
-        Reply::GetRead { mode, prot } => { put_all(w, &[Word(mode.word()), Word(prot.word())]) }
-        Reply::Canput { can } => put_word(w, holds_word(*can)),
-        Reply::Ckband { waits } => put_word(w, holds_word(*waits)),
-        Reply::Getband { band } => put_number(w, *band),
-        Reply::Pop { name } => put_all(w, &[Word(b"popped"), Word(name.as_slice())]),
-        Reply::Look { name } => put_word(w, name.as_slice()),
-        Reply::List { names } => put_names(w, names.as_slice()),
-        Reply::Find { found } => put_word(w, holds_word(*found)),
-        Reply::Str { answer } => put_acknowledged(w, answer),
+        } => add_taken(w, out, ctl, dat, *flag, *more),
+        Reply::Read { dat } => add_all(w, out, &[Field::Bytes(dat.as_slice())]),
+        Reply::Write { len } => add_all(w, out, &[Number(*len)]),
+        Reply::Nread { messages, bytes } => add_all(w, out, &[Number(*messages), Number(*bytes)]),
+        Reply::Peek { found } => add_peeked(w, out, found),
+        Reply::GetRead { mode, prot } => {
+            add_all(w, out, &[Word(mode.word()), Word(prot.word())])
+        }
+        Reply::Canput { can } => add_word(w, out, holds_word(*can)),
+        Reply::Ckband { waits } => add_word(w, out, holds_word(*waits)),
+        Reply::Getband { band } => add_number(w, out, *band),
+        Reply::Pop { name } => add_all(w, out, &[Word(b"popped"), Word(name.as_slice())]),
+        Reply::Look { name } => add_word(w, out, name.as_slice()),
+        Reply::List { names } => add_names(w, out, names.as_slice()),
+        Reply::Find { found } => add_word(w, out, holds_word(*found)),
+        Reply::Str { answer } => add_acknowledged(w, out, answer),
         Reply::Close { names } => {
-            put_word(w, b"closed")?;
-            put_names(w, names.as_slice())
+            add_word(w, out, b"closed");
+            add_names(w, out, names.as_slice());
         }
     }
 }
 
-/// Writes a reply, the name of the errno of a refusal, or that the stream broke.
-fn put_said<W: Write>(w: &mut W, answer: &Answer) -> io::Result<()>
-    ensures { OnOk result (Appends (W.contents w.old) (W.contents w.new) (spaced (text.answer_fields answer.now))) }
+/// Adds what a call that is done gives back.
+fn add_reply<W: Write>(w: &mut W, out: &mut Gathered, reply: &Reply)
+    ensures { Puts (W.contents w.old) (W.contents w.new) out.old out.new (spaced (text.reply_fields reply.now)) }
+{
+    match reply {
+        Reply::Read { dat } => add_part(w, out, dat.as_slice()),
+        Reply::Write { len } => add_number(w, out, *len),
+        _ => add_listed(w, out, reply),
+    }
+}
+
+/// Adds a reply, the name of the errno of a refusal, or that the stream broke.
+fn add_said<W: Write>(w: &mut W, out: &mut Gathered, answer: &Answer)
+    ensures { Puts (W.contents w.old) (W.contents w.new) out.old out.new (spaced (text.answer_fields answer.now)) }
 {
     match answer {
-        Answer::Done(reply) => put_reply(w, reply),
-        Answer::Refused(refusal) => put_word(w, refusal.errno().name().as_bytes()),
-        Answer::Broke => put_all(w, &[Word(b"ENOSR"), Word(b"broke")]),
+        Answer::Done(reply) => add_reply(w, out, reply),
+        Answer::Refused(refusal) => add_word(w, out, refusal.errno().name().as_bytes()),
+        Answer::Broke => add_all(w, out, &[Word(b"ENOSR"), Word(b"broke")]),
     }
+}
+
+/// Adds what was answered, as a transcript has it: ` : REPLY`, and the end of the line.
+#[tactic(auto, using(crate::proofs::GatheredLemmas::puts), unfolding(crate::specs::Lines::answer_text))]
+pub(crate) fn add_answer<W: Write>(w: &mut W, out: &mut Gathered, answer: &Answer)
+    ensures { Puts (W.contents w.old) (W.contents w.new) out.old out.new (answer_text answer.now) }
+{
+    out.put(w, b" :");
+    add_said(w, out, answer);
+    out.put(w, b"\n");
 }
 
 /// Writes what was answered, as a transcript has it: ` : REPLY`, and the end of the line.
 ///
 /// Refused where the writer is, and with its error.
-#[tactic(auto, using(strm_text::proofs::WriteLemmas::appends_then), unfolding(crate::specs::Lines::answer_text))]
 pub fn put_answer<W: Write>(w: &mut W, answer: &Answer) -> io::Result<()>
     ensures { OnOk result (Appends (W.contents w.old) (W.contents w.new) (answer_text answer.now)) }
 {
-    w.write_all(b" :")?;
-    put_said(w, answer)?;
-    w.write_all(b"\n")
+    let mut out = Gathered::new();
+    add_answer(w, &mut out, answer);
+    out.finish(w)
 }

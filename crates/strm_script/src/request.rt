@@ -1,13 +1,14 @@
 //! What a call asks.
-ghost use Rattle.std.specs.Prelude.{◌≡◌, OnOk};
-ghost use Rattle.std.specs.Io.KnownBytes.{Appends};
+ghost use Rattle.std.specs.Prelude.{◌≡◌};
 ghost use Rattle.strm_verb.specs.Table.{asked_of};
 ghost use Rattle.strm_script.specs.Fields as text;
+ghost use Rattle.strm_script.specs.Gathered.{Puts};
 
 use crate::field::Field::{Number, Word};
-use crate::field::{maximum_field, part_field, put_all, put_number, put_part};
-use crate::module::{PrintKind, put_module};
-use std::io::{self, Write};
+use crate::field::{Field, add_all, add_number, add_part, maximum_field, part_field};
+use crate::gathered::Gathered;
+use crate::module::{PrintKind, add_module};
+use std::io::Write;
 use strm_call::Request;
 use strm_module::BoxedShape;
 use strm_verb::{Verb, Worded};
@@ -42,24 +43,33 @@ pub(crate) fn verb_of<K>(request: &Request<BoxedShape<K>>) -> Verb
     }
 }
 
-/// Writes the fields of a call behind NAME:END.
-pub(crate) fn put_fields<W: Write, K: PrintKind + Drop>(
+/// Adds the fields of any call behind NAME:END, from a list of them. Stands apart, so that the room of the lists is not made where a
+/// call has none.
+#[inline(never)]
+#[tactic(auto, using(crate::proofs::GatheredLemmas::puts_nothing))]
+fn add_listed<W: Write, K: PrintKind + Drop>(
     w: &mut W,
+    out: &mut Gathered,
     request: &Request<BoxedShape<K>>,
-) -> io::Result<()>
-    ensures { OnOk result (Appends (W.contents w.old) (W.contents w.new) (text.spaced (text.fields_of K.spelling (asked_of request.now)))) }
+)
+    ensures { Puts (W.contents w.old) (W.contents w.new) out.old out.new (text.spaced (text.fields_of K.spelling (asked_of request.now))) }
 {
     match request {
         Request::Putmsg { ctl, dat, flag } => {
-            put_all(w, &[part_field(ctl), part_field(dat), Word(flag.word())])
+            add_all(
+                w,
+                out,
+                &[part_field(ctl), part_field(dat), Word(flag.word())],
+            )
         }
         Request::Putpmsg {
             ctl,
             dat,
             band,
             flag,
-        } => put_all(
+        } => add_all(
             w,
+            out,
             &[
                 part_field(ctl),
                 part_field(dat),
@@ -76,8 +86,9 @@ pub(crate) fn put_fields<W: Write, K: PrintKind + Drop>(
             maxctl,
             maxdat,
             flag,
-        } => put_all(
+        } => add_all(
             w,
+            out,
             &[
                 maximum_field(*maxctl),
                 maximum_field(*maxdat),
@@ -89,8 +100,9 @@ pub(crate) fn put_fields<W: Write, K: PrintKind + Drop>(
             maxdat,
             band,
             flag,
-        } => put_all(
+        } => add_all(
             w,
+            out,
             &[
                 maximum_field(*maxctl),
                 maximum_field(*maxdat),
@@ -98,23 +110,44 @@ pub(crate) fn put_fields<W: Write, K: PrintKind + Drop>(
                 Word(flag.word()),
             ],
         ),
-        Request::Read { max } => put_number(w, u64::from(*max)),
-        Request::Write { dat } => put_part(w, dat.as_slice()),
-        Request::Push { instance } => put_module(w, instance.shape()),
-        Request::Find { name } => put_part(w, name.as_slice()),
-        Request::Str { cmd, dat } => put_all(w, &[Number(u64::from(*cmd)), part_field(dat)]),
-        Request::Flush { r, w: write } => put_all(w, &[Word((*r, *write).word())]),
+        Request::Read { max } => add_all(w, out, &[Number(u64::from(*max))]),
+        Request::Write { dat } => add_all(w, out, &[Field::Bytes(dat.as_slice())]),
+        Request::Push { instance } => add_module(w, out, instance.shape()),
+        Request::Find { name } => add_part(w, out, name.as_slice()),
+        Request::Str { cmd, dat } => add_all(w, out, &[Number(u64::from(*cmd)), part_field(dat)]),
+        Request::Flush { r, w: write } => add_all(w, out, &[Word((*r, *write).word())]),
         Request::FlushBand { band, r, w: write } => {
-            put_all(w, &[Number(u64::from(*band)), Word((*r, *write).word())])
+            add_all(
+                w,
+                out,
+                &[Number(u64::from(*band)), Word((*r, *write).word())],
+            )
         }
-        Request::SetRead { mode, prot } => { put_all(w, &[Word(mode.word()), Word(prot.word())]) }
-        Request::Canput { band } | Request::Ckband { band } => put_number(w, u64::from(*band)),
+        Request::SetRead { mode, prot } => {
+            add_all(w, out, &[Word(mode.word()), Word(prot.word())])
+        }
+        Request::Canput { band } | Request::Ckband { band } => add_number(w, out, u64::from(*band)),
         Request::Pop
         | Request::Look
         | Request::List
         | Request::Nread
         | Request::GetRead
         | Request::Getband
-        | Request::Close => Ok(()),
+        | Request::Close => {}
+    }
+}
+
+/// Adds the fields of a call behind NAME:END.
+pub(crate) fn add_fields<W: Write, K: PrintKind + Drop>(
+    w: &mut W,
+    out: &mut Gathered,
+    request: &Request<BoxedShape<K>>,
+)
+    ensures { Puts (W.contents w.old) (W.contents w.new) out.old out.new (text.spaced (text.fields_of K.spelling (asked_of request.now))) }
+{
+    match request {
+        Request::Read { max } => add_number(w, out, u64::from(*max)),
+        Request::Write { dat } => add_part(w, out, dat.as_slice()),
+        _ => add_listed(w, out, request),
     }
 }

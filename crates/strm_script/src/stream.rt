@@ -3,10 +3,12 @@ ghost use Rattle.std.specs.Prelude.{◌∷◌, ◌++◌, [], OnOk, codes, map};
 ghost use Rattle.std.specs.Io.KnownBytes.{Appends};
 ghost use Rattle.strm_verb.specs.Field.{Number, Word};
 ghost use Rattle.strm_script.specs.Fields.{spaced};
+ghost use Rattle.strm_script.specs.Gathered.{Puts};
 ghost use Rattle.strm_script.specs.Lines as text;
 
 use crate::entry::{end_word, put_entries};
-use crate::field::{Field, put_all, put_names, put_word};
+use crate::field::{Field, add_all, add_names, add_word, put_word};
+use crate::gathered::Gathered;
 use crate::module::PrintKind;
 use arrayvec::ArrayVec;
 use std::io::{self, Write};
@@ -15,10 +17,34 @@ use strm_head::{Driver, MOST_MODULES};
 use strm_history::{Setup, StreamLog};
 use strm_msg::End;
 
+/// Adds the line of an end: open, with the names of its modules, topmost first, or closed.
+#[tactic(auto, using(crate::proofs::GatheredLemmas::puts), unfolding(crate::specs::Lines::end_text))]
+fn add_end<W: Write>(
+    w: &mut W,
+    out: &mut Gathered,
+    end: End,
+    names: &Option<ArrayVec<Name, MOST_MODULES>>,
+)
+    ensures { Puts (W.contents w.old) (W.contents w.new) out.old out.new (text.end_text end names.now) }
+{
+    match names {
+        None => {
+            out.put(w, b"closed");
+            add_word(w, out, end_word(end));
+            out.put(w, b"\n");
+        }
+        Some(names) => {
+            out.put(w, b"open");
+            add_word(w, out, end_word(end));
+            add_names(w, out, names.as_slice());
+            out.put(w, b"\n");
+        }
+    }
+}
+
 /// Writes the line of an end: open, with the names of its modules, topmost first, or closed.
 ///
 /// Refused where the writer is, and with its error.
-#[tactic(auto, using(strm_text::proofs::WriteLemmas::appends_then), unfolding(crate::specs::Lines::end_text))]
 pub fn put_end<W: Write>(
     w: &mut W,
     end: End,
@@ -26,19 +52,9 @@ pub fn put_end<W: Write>(
 ) -> io::Result<()>
     ensures { OnOk result (Appends (W.contents w.old) (W.contents w.new) (text.end_text end names.now)) }
 {
-    match names {
-        None => {
-            w.write_all(b"closed")?;
-            put_word(w, end_word(end))?;
-            w.write_all(b"\n")
-        }
-        Some(names) => {
-            w.write_all(b"open")?;
-            put_word(w, end_word(end))?;
-            put_names(w, names.as_slice())?;
-            w.write_all(b"\n")
-        }
-    }
+    let mut out = Gathered::new();
+    add_end(w, &mut out, end, names);
+    out.finish(w)
 }
 
 /// Writes the line of end B, which a loop alone has; nothing for the other drivers.
@@ -57,10 +73,10 @@ pub fn put_far_end<W: Write>(
     }
 }
 
-/// Writes how many messages of a feed were accepted, came in, and were handed back.
-#[tactic(auto, using(strm_text::proofs::WriteLemmas::appends_then), unfolding(crate::specs::Lines::counts_text))]
-fn put_counts<W: Write, K>(w: &mut W, log: &StreamLog<K>) -> io::Result<()>
-    ensures { OnOk result (Appends (W.contents w.old) (W.contents w.new) (text.counts_text log.now)) }
+/// Adds how many messages of a feed were accepted, came in, and were handed back.
+#[tactic(auto, using(crate::proofs::GatheredLemmas::puts), unfolding(crate::specs::Lines::counts_text))]
+fn add_counts<W: Write, K>(w: &mut W, out: &mut Gathered, log: &StreamLog<K>)
+    ensures { Puts (W.contents w.old) (W.contents w.new) out.old out.new (text.counts_text log.now) }
 {
     let fields = [
         Field::Word(b"accepted"),
@@ -70,24 +86,33 @@ fn put_counts<W: Write, K>(w: &mut W, log: &StreamLog<K>) -> io::Result<()>
         Field::Word(b"overrun"),
         Field::Number(log.overrun),
     ];
-    put_all(w, &fields)
+    add_all(w, out, &fields);
+}
+
+/// Adds the line of what became of the messages of a feed, which a line alone has; nothing for the other drivers.
+#[tactic(auto, using(crate::proofs::GatheredLemmas::puts), unfolding(crate::specs::Lines::feed_text))]
+fn add_feed<W: Write, K>(w: &mut W, out: &mut Gathered, driver: Driver, log: &StreamLog<K>)
+    ensures { Puts (W.contents w.old) (W.contents w.new) out.old out.new (text.feed_text driver log.now) }
+{
+    match driver {
+        Driver::Line => {
+            out.put(w, b"feed");
+            add_counts(w, out, log);
+            out.put(w, b"\n");
+        }
+        Driver::Echo | Driver::Loop => {}
+    }
 }
 
 /// Writes the line of what became of the messages of a feed, which a line alone has; nothing for the other drivers.
 ///
 /// Refused where the writer is, and with its error.
-#[tactic(auto, using(strm_text::proofs::WriteLemmas::appends_then), unfolding(crate::specs::Lines::feed_text))]
 pub fn put_feed<W: Write, K>(w: &mut W, driver: Driver, log: &StreamLog<K>) -> io::Result<()>
     ensures { OnOk result (Appends (W.contents w.old) (W.contents w.new) (text.feed_text driver log.now)) }
 {
-    match driver {
-        Driver::Line => {
-            w.write_all(b"feed")?;
-            put_counts(w, log)?;
-            w.write_all(b"\n")
-        }
-        Driver::Echo | Driver::Loop => Ok(()),
-    }
+    let mut out = Gathered::new();
+    add_feed(w, &mut out, driver, log);
+    out.finish(w)
 }
 
 /// Writes the line with a stream's name, `stream NAME`.

@@ -11,4 +11,4 @@ pub use lines::{cut_fields, first_line, split_once};
 pub use parts::part;
 pub use runs::are_plain;
 pub use spelling::{parts_are_read_back, write_part};
-pub use words::{name, number};
+pub use words::{is_same_word, name, number};

@@ -1,5 +1,5 @@
-//! Numbers and names.
-ghost use Rattle.std.specs.Prelude.{◌≡◌};
+//! Words, numbers and names.
+ghost use Rattle.std.specs.Prelude.{◌≡◌, ◌↔◌, true};
 ghost use Rattle.std.specs.Option.{option_map};
 ghost use Rattle.std.specs.List.{list_all};
 ghost use Rattle.strm_text.specs.Bytes as bytes;
@@ -56,4 +56,19 @@ pub fn name<const LONGEST: usize>(text: &[u8]) -> Option<ArrayVec<u8, LONGEST>>
         return None;
     }
     ArrayVec::try_from(text).ok()
+}
+
+/// Whether two words are the same. They are short, so that a loop takes a part of the time that `==` takes to begin.
+pub fn is_same_word(one: &[u8], other: &[u8]) -> bool
+    ensures { result ≡ true ↔ one.now ≡ other.now }
+{
+    if one.len() != other.len() {
+        return false;
+    }
+    for i in 0..one.len() {
+        if one[i] != other[i] {
+            return false;
+        }
+    }
+    true
 }

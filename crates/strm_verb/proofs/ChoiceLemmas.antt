@@ -1,5 +1,5 @@
 -- What a word names, and that it is one of the words.
-use Rattle.std.proofs.Common.{◌≡◌, ℕ, ◌+◌, ◌<◌, ◌||◌, Bool, true, false, cond, List, [], ◌∷◌, length, map, drop, get_or, Option, Some, None, Ok, Err, refl, sym, ap, ◌∙◌}
+use Rattle.std.proofs.Common.{◌≡◌, ◌↔◌, ℕ, ◌+◌, ◌<◌, ◌||◌, Bool, true, false, cond, List, [], ◌∷◌, length, map, drop, get_or, Option, Some, None, Ok, Err, refl, sym, ap, ◌∙◌}
 use Rattle.std.specs.Str.{bytes_eq}
 use Rattle.std.specs.List.{find, list_any}
 use Rattle.std.proofs.lemmas.List.{at_drop_more}
@@ -14,6 +14,10 @@ same_by false false one other = refl
 same_by true false one other = absurd (let no = one refl in cc)
 same_by false true one other = absurd (let no = other refl in cc)
 
+-- two words were compared
+pub compared : (same : Bool) (a b : List ℕ) → (same ≡ true ↔ a ≡ b) → same ≡ bytes_eq a b
+compared same a b told = same_by same (bytes_eq a b) (λ is. (bytes_eq-Decides a b).1 (told.0 is)) (λ is. told.1 ((bytes_eq-Decides a b).0 is))
+
 -- words are compared from either side
 turned : (a b : List ℕ) → bytes_eq a b ≡ bytes_eq b a
 turned a b = same_by (bytes_eq a b) (bytes_eq b a) (λ is. (bytes_eq-Decides b a).1 (sym ((bytes_eq-Decides a b).0 is))) (λ is. (bytes_eq-Decides a b).1 (sym ((bytes_eq-Decides b a).0 is)))
@@ -27,6 +31,12 @@ module _ {A : Type 0} (word : A → List ℕ) (text : List ℕ) where
   goes_on all i d seen same inside is compared other so_far =
       let no : has_word (get_or all i d) ≡ false = ap (λ (w : List ℕ). bytes_eq w text) (sym is) ∙ sym compared ∙ other in
       ap (λ (b : Bool). cond b (Some (get_or all i d)) (find has_word (drop (i + 1) all))) (sym no) ∙ sym (at_drop_more (find has_word) all i d inside) ∙ so_far
+
+  -- where it is this one, this one is named
+  pub stops : (all : List A) (i : ℕ) (d : A) (seen : List ℕ) (same : Bool) → i < length all → seen ≡ word (get_or all i d) → same ≡ bytes_eq seen text → same ≡ true → find has_word (drop i all) ≡ named word all text → Some (get_or all i d) ≡ named word all text
+  stops all i d seen same inside is compared this so_far =
+      let yes : has_word (get_or all i d) ≡ true = ap (λ (w : List ℕ). bytes_eq w text) (sym is) ∙ sym compared ∙ this in
+      ap (λ (b : Bool). cond b (Some (get_or all i d)) (find has_word (drop (i + 1) all))) (sym yes) ∙ sym (at_drop_more (find has_word) all i d inside) ∙ so_far
 
   -- it is one of the words
   record IsChosen (all : List A) (one : A) : Type 0 where

@@ -5,6 +5,7 @@ ghost use Rattle.strm_verb.specs.Field.{choice_at};
 ghost use Rattle.strm_verb.specs.Words.{named};
 
 use crate::fault::Cause;
+use strm_text::is_same_word;
 
 /// What a script names by a word, and a transcript by the same: a call, a flag, a kind of module.
 pub trait Worded: Copy + 'static {
@@ -30,7 +31,7 @@ pub fn named<W: Worded>(text: &[u8]) -> Option<W>
     ensures { result ≡ named W.word W.all text.now }
 {
     for one in W::all() {
-        if one.word() == text {
+        if is_same_word(one.word(), text) {
             return Some(*one);
         }
     }

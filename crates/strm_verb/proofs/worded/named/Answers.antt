@@ -1,5 +1,5 @@
-use Rattle.std.proofs.Common.{◌<◌, get_or, length, ap, ◌∙◌, subst}
-use Rattle.strm_verb.proofs.ChoiceLemmas.{goes_on}
+use Rattle.std.proofs.Common.{◌<◌, get_or, length, ap, ◌∙◌, Some, subst}
+use Rattle.strm_verb.proofs.ChoiceLemmas.{compared, goes_on, stops}
 use Rattle.strm_verb.proofs.worded.named.Goals as goal
 
 pub loop-one-preserved : goal.loop-one-preserved
@@ -8,4 +8,15 @@ loop-one-preserved g c =
     let at = c.loop-one.one-index in
     let inside = subst (λ l. at < length l) all c.loop-one-test.true in
     let is = c.word.ensures ∙ ap g.W.Worded.word (c.one-item.is ∙ ap (λ l. get_or l at c.one-item.result) all) in
-    goes_on g.W.Worded.word c.args.text.now g.W.Worded.all at c.one-item.result _ _ inside is c.eq.ensures c.if-eq.false c.loop-one.invariant
+    let same = compared c.is_same_word.result _ _ c.is_same_word.ensures in
+    goes_on g.W.Worded.word c.args.text.now g.W.Worded.all at c.one-item.result _ _ inside is same c.if-is_same_word.false c.loop-one.invariant
+
+pub returns-then-is_same_word : goal.returns-then-is_same_word
+returns-then-is_same_word g c =
+    let all = c.all-one-items.ensures in
+    let at = c.loop-one.one-index in
+    let inside = subst (λ l. at < length l) all c.loop-one-test.true in
+    let one = c.one-item.is ∙ ap (λ l. get_or l at c.one-item.result) all in
+    let is = c.word.ensures ∙ ap g.W.Worded.word one in
+    let same = compared c.is_same_word.result _ _ c.is_same_word.ensures in
+    ap Some one ∙ stops g.W.Worded.word c.args.text.now g.W.Worded.all at c.one-item.result _ _ inside is same c.if-is_same_word.true c.loop-one.invariant

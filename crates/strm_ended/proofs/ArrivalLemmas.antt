@@ -9,9 +9,8 @@ use Rattle.strm_msg.specs.Message.{Msg}
 use Rattle.strm_call.specs.declared.event.Event.{Event}
 use Rattle.strm_call.specs.declared.event.Event.TheVariants.{Asked, Arrived}
 use Rattle.strm_entry.specs.declared.entry.Entry.{Entry}
-use Rattle.strm_entry.specs.Entry.{came_in}
+use Rattle.strm_entry.specs.Entry.{came_in, has_come_in}
 use Rattle.strm_entry.specs.Own.{arrivals}
-use Rattle.strm_ended.specs.Left.{has_come_in}
 
 one_more : {P : Type 0} (event : Event P) (others : List Msg) → length (came_in event ++ others) ≡ cond (has_come_in event) (1 + length others) (length others)
 one_more (Asked request) others = refl

@@ -2,13 +2,12 @@
 ghost use Rattle.std.specs.Prelude.{◌≡◌, ◌↔◌, true, [], Some, None, All, IfOk, MatchOption, length};
 ghost use Rattle.strm_entry.specs.Own.{arrivals, entry_at, has_seat};
 ghost use Rattle.strm_ended.specs.Ended.{IsIndex};
-ghost use Rattle.strm_ended.specs.Left.{has_come_in};
 
 use std::alloc::Global;
 use std::marker::Model;
 use strm_call::SameKind;
 use strm_entry::{Entry, Kept, Receipt, Who};
-use strm_head::{Event, Stream};
+use strm_head::Stream;
 use strm_module::ModuleOf;
 use strm_msg::{Message, NoMem};
 
@@ -39,16 +38,6 @@ struct Index {
     landed: u64,
 }
 
-/// Whether a message came in.
-fn has_come_in<P>(event: &Event<P>) -> bool
-    ensures { result ≡ has_come_in event.now }
-{
-    match event {
-        Event::Asked(_) => false,
-        Event::Arrived(_) => true,
-    }
-}
-
 /// A list of places for each caller, with none in it. Refused for want of memory alone.
 fn no_places(alloc: Global, callers: u32) -> Result<Vec<Vec<usize>>, NoMem>
     ensures many { IfOk result (λ all. length all.items ≡ callers) }
@@ -69,9 +58,9 @@ fn index_of<K>(alloc: Global, callers: u32, history: &[Kept<K>]) -> Result<Index
     let mut places = no_places(alloc, callers)?;
     let mut landed = 0;
     for at in 0..history.len() {
-        let entry = history[at].entry();
-        landed += u64::from(has_come_in(&entry.event));
-        match entry.who {
+        let kept = &history[at];
+        landed += u64::from(kept.has_come_in());
+        match kept.who() {
             Who::Caller(caller) => places[caller as usize].push(at)?,
             Who::Line => {}
         }

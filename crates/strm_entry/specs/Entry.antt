@@ -31,6 +31,11 @@ abbrev pub came_in : {P : Type 0} → Event P → List Msg
 came_in (Asked request) = []
 came_in (Arrived m) = m ∷ []
 
+-- a message came in
+abbrev pub has_come_in : {P : Type 0} → Event P → Bool
+has_come_in (Asked request) = false
+has_come_in (Arrived m) = true
+
 abbrev pub serial_of : {K : Type 0} → Option (Shape K) → List ℕ
 serial_of None = []
 serial_of (Some shape) = shape.serial ∷ []

@@ -31,15 +31,16 @@ pub struct Room<K> {
 }
 
 impl<K> Model for Room<K> {
-    ghost use Rattle.std.specs.Prelude.{◌≡◌, is_some};
+    ghost use Rattle.std.specs.Prelude.{◌≡◌, false, is_some};
     ghost use Rattle.strm_entry.specs.declared.entry.Who.TheVariants.{Caller};
+    ghost use Rattle.strm_entry.specs.Entry.{has_come_in};
     ghost use Rattle.strm_entry.specs.Receipt.{may_take_out, RoomValue};
 
     ghost Value = { RoomValue K };
 
     ghost view = { λ r. record { caller = r.caller; number = r.number; end = r.entry.value.end; event = r.entry.value.event } };
 
-    ghost invariant = { λ r. (r.entry.value.who ≡ Caller r.caller) × (is_some r.serials ≡ may_take_out r.entry.value.event) };
+    ghost invariant = { λ r. (r.entry.value.who ≡ Caller r.caller) × (has_come_in r.entry.value.event ≡ false) × (is_some r.serials ≡ may_take_out r.entry.value.event) };
 }
 
 /// Room for the entry of a call, which is this caller's call of this number on the stream, counted from 1. Refused for want
@@ -131,7 +132,7 @@ impl<K: Drop> Room<K> {
         entry.looks = looks;
         match cell.set(entry) {
             Ok((kept, held)) => (
-                Kept::in_cell(kept),
+                Kept::in_cell(caller, kept),
                 Some(Receipt::new(caller, number, held)),
             ),
             Err(entry) => (Kept::plain(entry), None),

@@ -3,7 +3,6 @@ use Rattle.std.specs.Int.{from_bool}
 use Rattle.std.proofs.lemmas.List.{length-set, take_all}
 use Rattle.std.proofs.lemmas.Bool.{ltb-true}
 use Rattle.strm_entry.specs.Own.{has_seat}
-use Rattle.strm_ended.specs.Left.{has_come_in}
 use Rattle.strm_ended.proofs.ArrivalLemmas.{all_landed, at_most_one, landed_more}
 use Rattle.strm_ended.proofs.PlaceLemmas.{call_indexed, line_indexed}
 use Rattle.strm_ended.proofs.ended.index_of.Goals as goal
@@ -13,13 +12,13 @@ pub loop-at-preserved : goal.loop-at-preserved
 loop-at-preserved g c =
     let was = c.loop-at.invariant in
     let is = sym c.index-history-at.is in
-    let who = sym (ap (λ e. e.who) c.entry-entry.ensures) in
+    let who = sym c.who.ensures in
     let next : c.loop-at.at + 1 ≡ suc c.loop-at.at = omega arith in
-    let came = c.from-landed.ensures ∙ ap from_bool (c.has_come_in.ensures ∙ ap (λ e. has_come_in e.event) c.entry-entry.ensures) in
+    let came = c.from-landed.ensures ∙ ap from_bool c.has_come_in.ensures in
     let landed = landed_more c.args.history.now c.loop-at.at c.index-history-at.result c.loop-at.landed _ c.loop-at-test.true is was.landed came in
     let one = at_most_one _ _ came in
     let few : c.loop-at.landed + c.from-landed.result ≤ suc c.loop-at.at = omega (arith, was.few, one) in
-    elim c.match-entry.branch [
+    elim c.match-who.branch [
       | in-Caller+in_ok-push-in-Caller w ↦
           let within = ltb-true w.in-Caller.caller c.args.callers (sym (ap (λ b. has_seat c.args.callers b) (ap (λ e. e.who) is ∙ who ∙ w.in-Caller.is)) ∙ c.requires c.loop-at.at c.index-history-at.result c.loop-at-test.true) in
           rw (w.places-is, next) (record {

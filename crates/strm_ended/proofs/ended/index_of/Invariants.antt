@@ -1,9 +1,9 @@
 use Rattle.std.proofs.Common.{◌≡◌, ℕ, ◌<◌, ◌≤◌, get_or, length, take, Vec}
 use Rattle.std.specs.Prelude.{count_by}
 use Rattle.std.specs.Global.{Global}
+use Rattle.strm_entry.specs.Entry.{has_come_in}
 use Rattle.strm_entry.specs.Own.{own}
 use Rattle.strm_ended.specs.Ended.{StandAt}
-use Rattle.strm_ended.specs.Left.{has_come_in}
 use Rattle.strm_ended.proofs.ended.index_of.Given as goal
 
 -- where the calls of each caller stand so far, and how many messages came in

@@ -1,4 +1,6 @@
+pub mod Streams
 pub mod Plan
+pub mod Last
 pub mod Targets
 pub mod Reading
 pub mod Spelling

@@ -8,6 +8,7 @@ use Rattle.strm_call.specs.declared.setup.Setup.{Setup}
 use Rattle.strm_verb.specs.Table.{Asked, asked_of}
 use Rattle.strm_job.specs.declared.script.ScriptCall.{ScriptCall}
 use Rattle.strm_job.specs.declared.script.Feed.{Feed}
+pub use Rattle.strm_plan.specs.Streams.{Streams, streams_view}
 use Rattle.strm_plan.specs.declared.plan.ProcessDecl.{ProcessDecl}
 use Rattle.strm_plan.specs.declared.plan.Plan.{Plan}
 use Rattle.strm_plan.specs.declared.plan.Names.{Names}
@@ -29,10 +30,6 @@ pub record Process (K : Type 0) : Type 0 where
 pub record Fed : Type 0 where
   pub stream : ℕ
   pub messages : List Msg
-
--- names and streams, in order of declaration
-abbrev pub Streams : Type 0
-Streams = List (List ℕ × Setup)
 
 -- what a script says
 pub record Whole (K : Type 0) : Type 0 where
@@ -73,10 +70,6 @@ process_view process = record { name = process.name.items; calls = map call_view
 abbrev pub feed_view : Feed → Fed
 feed_view feed = record { stream = feed.stream; messages = feed.messages.items }
 
--- the streams, with the bytes of their names
-abbrev pub streams_view : List (ArrayVec ℕ × Setup) → Streams
-streams_view entries = map (λ entry. (entry.0.items, entry.1)) entries
-
 -- a plan
 abbrev pub plan_view : {K : Type 0} → Plan (Shape K) → Whole K
 plan_view plan =
@@ -89,14 +82,14 @@ names_view names = record { streams = streams_view names.streams.entries; proces
 -- what goes on
 abbrev pub place_view : {K : Type 0} → Current (Shape K) → Place K
 place_view Current.Nowhere = Nowhere
-place_view (Current.Process process) = In_process (process_view process)
+place_view (Current.Process process) = In_process (process_view process.value)
 place_view (Current.Feed feed) = In_feed (feed_view feed)
 
 -- a plan while it is read
 abbrev pub draft_view : {K : Type 0} → Draft (Shape K) → Partial K
 draft_view draft =
     record {
-      streams = streams_view draft.streams.entries;
+      streams = streams_view draft.streams.map.entries;
       processes = map process_view draft.processes.items;
       feeds = map feed_view draft.feeds.items;
       modules = draft.modules;

@@ -7,7 +7,7 @@ use Rattle.strm_text.specs.Text.{◌>>=◌, halves_of, name_of}
 use Rattle.strm_module.specs.declared.driver.Driver.{Driver}
 use Rattle.strm_module.specs.declared.driver.Driver.TheVariants.{Loop}
 use Rattle.strm_plan.specs.declared.plan.TheConstants.{LONGEST}
-use Rattle.strm_plan.specs.Plan.{Streams}
+use Rattle.strm_plan.specs.Streams.{Streams}
 
 -- the names of the streams, in order
 abbrev pub stream_names : Streams → List (List ℕ)

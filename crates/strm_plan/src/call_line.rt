@@ -1,10 +1,12 @@
 //! A call line: a verb, NAME:END, and the fields of the call.
 ghost use Rattle.std.specs.Prelude.{◌≡◌, ◌≤◌, ◌<◌, ◌^◌, length, map};
+ghost use Rattle.strm_plan.specs.Last.{IsKnown};
 ghost use Rattle.strm_plan.specs.Plan.{call_view, streams_view};
 ghost use Rattle.strm_plan.specs.Reading as reading;
 ghost use Rattle.strm_plan.specs.declared.draft.TheConstants.{MOST_STREAMS};
 ghost use Rattle.strm_verb.specs.Fault.{Gives};
 
+use crate::declared::Found;
 use crate::plan::Name;
 use crate::target::target_of;
 use indexmap::IndexMap;
@@ -29,6 +31,7 @@ pub(crate) fn modules_after(verb: Verb, modules: u64) -> u64
 fn placed_call<M: PlayModule>(
     alloc: Global,
     streams: &IndexMap<Name, Setup>,
+    last: &mut Option<Found>,
     serial: u64,
     verb: Verb,
     target: &[u8],
@@ -36,10 +39,12 @@ fn placed_call<M: PlayModule>(
 ) -> Result<ScriptCall<Boxed<M>>, ReadError>
 where
     M::Kind: ReadKind,
-    requires { length streams.now.entries ≤ MOST_STREAMS }
-    ensures { Gives call_view result (reading.placed_call M.Kind.words (streams_view streams.now.entries) serial verb target.now (map (λ text. text.now) texts.now)) }
+    requires few { length streams.now.entries ≤ MOST_STREAMS }
+    requires known { IsKnown (streams_view streams.now.entries) last.old }
+    ensures known { IsKnown (streams_view streams.now.entries) last.new }
+    ensures call { Gives call_view result (reading.placed_call M.Kind.words (streams_view streams.now.entries) serial verb target.now (map (λ text. text.now) texts.now)) }
 {
-    let Some((stream, end)) = target_of(streams, target) else {
+    let Some((stream, end)) = target_of(streams, last, target) else {
         return Err(ReadError::Fault(Cause::NoSuch));
     };
     let request = request_at(alloc, serial, verb, texts)?;
@@ -52,14 +57,17 @@ where
 pub(crate) fn call_at<M: PlayModule>(
     alloc: Global,
     streams: &IndexMap<Name, Setup>,
+    last: &mut Option<Found>,
     serial: u64,
     verb: Verb,
     texts: &[&[u8]],
 ) -> Result<ScriptCall<Boxed<M>>, ReadError>
 where
     M::Kind: ReadKind,
-    requires { length streams.now.entries ≤ MOST_STREAMS }
-    ensures { Gives call_view result (reading.call_at M.Kind.words (streams_view streams.now.entries) serial verb (map (λ text. text.now) texts.now)) }
+    requires few { length streams.now.entries ≤ MOST_STREAMS }
+    requires known { IsKnown (streams_view streams.now.entries) last.old }
+    ensures known { IsKnown (streams_view streams.now.entries) last.new }
+    ensures call { Gives call_view result (reading.call_at M.Kind.words (streams_view streams.now.entries) serial verb (map (λ text. text.now) texts.now)) }
 {
     let [target, texts @ ..] = texts else {
         return Err(ReadError::Fault(Cause::Fields));
@@ -68,5 +76,5 @@ where
     if texts.len() != arity {
         return Err(ReadError::Fault(Cause::Fields));
     }
-    placed_call(alloc, streams, serial, verb, target, texts)
+    placed_call(alloc, streams, last, serial, verb, target, texts)
 }

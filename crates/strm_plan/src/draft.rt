@@ -7,6 +7,7 @@ ghost use Rattle.strm_plan.specs.Section.{takes, with_calls};
 ghost use Rattle.strm_verb.specs.Fault.{Gives};
 
 use crate::call_line::{call_at, modules_after};
+use crate::declared::Declared;
 use crate::names::{add_stream, process_name, stream_name};
 use crate::plan::{Name, Plan, ProcessDecl};
 use crate::setup::{arity, driver_at, setup_at};
@@ -40,8 +41,8 @@ const LONGEST_LINE: usize = 16_384;
 enum Current<P> {
     /// To nothing yet.
     Nowhere,
-    /// To a process.
-    Process(ProcessDecl<P>),
+    /// To a process, in a box, in which it goes from hand to hand with each of its lines.
+    Process(Box<ProcessDecl<P>>),
     /// To a feed.
     Feed(Feed),
 }
@@ -49,8 +50,8 @@ enum Current<P> {
 /// A plan while it is read: what has ended, how many modules were declared, and what goes on.
 #[derive(Drop)]
 pub(crate) struct Draft<P> {
-    /// How each stream is made, by its name.
-    streams: IndexMap<Name, Setup>,
+    /// The streams that were declared.
+    streams: Declared,
     /// The processes that have ended.
     processes: Vec<ProcessDecl<P>>,
     /// The feeds that have ended.
@@ -113,7 +114,10 @@ where
         ensures { draft_view result ≡ reading.nothing_yet }
     {
         Draft {
-            streams: IndexMap::new(alloc),
+            streams: Declared {
+                map: IndexMap::new(alloc),
+                last: None,
+            },
             processes: Vec::new(alloc),
             feeds: Vec::new(alloc),
             modules: 0,
@@ -127,7 +131,7 @@ where
     {
         match mem::replace(&mut self.current, Current::Nowhere) {
             Current::Nowhere => Ok(()),
-            Current::Process(process) => Ok(self.processes.push(process)?),
+            Current::Process(process) => Ok(self.processes.push(Box::into_inner(process))?),
             Current::Feed(feed) => Ok(self.feeds.push(feed)?),
         }
     }
@@ -136,12 +140,13 @@ where
     fn add_setup(&mut self, driver: Driver, name: &[u8], texts: &[&[u8]]) -> Result<(), ReadError>
         ensures { Gives (λ _. draft_view self.new) result (reading.setup_onto (draft_view self.old) driver name.now (map (λ text. text.now) texts.now)) }
     {
-        let chosen = stream_name(&self.streams, name)?;
+        let chosen = stream_name(&self.streams.map, name)?;
         let setup = setup_at(driver, texts)?;
-        if !has_room(&self.streams) {
+        if !has_room(&self.streams.map) {
             return Err(ReadError::Fault(Cause::TooMany));
         }
-        add_stream(&mut self.streams, chosen, setup)
+        self.streams.last = None;
+        add_stream(&mut self.streams.map, chosen, setup)
     }
 
     /// NAME DRIVER H D, and RING for a line. The driver is judged before the number of fields.
@@ -172,20 +177,23 @@ where
             return Err(ReadError::Fault(Cause::TooMany));
         }
         let calls = Script::new(alloc);
-        self.current = Current::Process(ProcessDecl { name, calls });
+        match Box::new(alloc, ProcessDecl { name, calls }) {
+            Ok(process) => self.current = Current::Process(process),
+            Err(_) => return Err(ReadError::Memory),
+        }
         Ok(())
     }
 
     /// NAME of a line, whose feed goes on from here.
     #[tactic(auto, unfolding(crate::specs::Reading::feed_onto))]
     fn feed_line(&mut self, alloc: Global, texts: &[&[u8]]) -> Result<(), ReadError>
-        requires { length self.old.streams.entries ≤ MOST_STREAMS }
+        requires { length self.old.streams.map.entries ≤ MOST_STREAMS }
         ensures { Gives (λ _. draft_view self.new) result (reading.feed_onto (draft_view self.old) (map (λ text. text.now) texts.now)) }
     {
         let [name] = texts else {
             return Err(ReadError::Fault(Cause::Fields));
         };
-        let Some((stream, driver)) = stream_at(&self.streams, name) else {
+        let Some((stream, driver)) = stream_at(&self.streams.map, &mut None, name) else {
             return Err(ReadError::Fault(Cause::NoSuch));
         };
         if driver != Driver::Line || has_feed(&self.feeds, stream) {
@@ -201,15 +209,19 @@ where
     fn call_line(
         &mut self,
         alloc: Global,
-        mut process: ProcessDecl<Boxed<M>>,
+        mut process: Box<ProcessDecl<Boxed<M>>>,
         verb: Verb,
         texts: &[&[u8]],
     ) -> Result<(), ReadError>
-        requires few { length self.old.streams.entries ≤ MOST_STREAMS }
+        requires few { length self.old.streams.map.entries ≤ MOST_STREAMS }
         requires modules { self.old.modules < 2 ^ 63 }
-        ensures { Gives (λ _. draft_view self.new) result (reading.call_onto M.Kind.words (draft_view self.old) (process_view process) verb (map (λ text. text.now) texts.now)) }
+        ensures { Gives (λ _. draft_view self.new) result (reading.call_onto M.Kind.words (draft_view self.old) (process_view process.value) verb (map (λ text. text.now) texts.now)) }
     {
-        let call = call_at(alloc, &self.streams, self.modules + 1, verb, texts)?;
+        let mut last = self.streams.last.take();
+        let serial = self.modules + 1;
+        let call = call_at(alloc, &self.streams.map, &mut last, serial, verb, texts);
+        self.streams.last = last;
+        let call = call?;
         if process.calls.len() >= MOST_CALLS {
             return Err(ReadError::Fault(Cause::TooMany));
         }
@@ -243,13 +255,13 @@ where
     fn process_word(
         &mut self,
         alloc: Global,
-        process: ProcessDecl<Boxed<M>>,
+        process: Box<ProcessDecl<Boxed<M>>>,
         word: &[u8],
         texts: &[&[u8]],
     ) -> Result<(), ReadError>
-        requires few { length self.old.streams.entries ≤ MOST_STREAMS }
+        requires few { length self.old.streams.map.entries ≤ MOST_STREAMS }
         requires modules { self.old.modules < 2 ^ 63 }
-        ensures { Gives (λ _. draft_view self.new) result (reading.inner_onto M.Kind.words (draft_view self.old) (In_process (process_view process)) word.now (map (λ text. text.now) texts.now)) }
+        ensures { Gives (λ _. draft_view self.new) result (reading.inner_onto M.Kind.words (draft_view self.old) (In_process (process_view process.value)) word.now (map (λ text. text.now) texts.now)) }
     {
         match named(word) {
             Some(verb) => self.call_line(alloc, process, verb, texts),
@@ -276,7 +288,7 @@ where
     /// A line of what goes on, by its word.
     #[tactic(auto, unfolding(crate::specs::Reading::call_onto, crate::specs::Reading::message_onto))]
     fn inner_line(&mut self, alloc: Global, word: &[u8], texts: &[&[u8]]) -> Result<(), ReadError>
-        requires few { length self.old.streams.entries ≤ MOST_STREAMS }
+        requires few { length self.old.streams.map.entries ≤ MOST_STREAMS }
         requires modules { self.old.modules < 2 ^ 63 }
         ensures { Gives (λ _. draft_view self.new) result (reading.inner_onto M.Kind.words (draft_view self.old) (draft_view self.old).place word.now (map (λ text. text.now) texts.now)) }
     {
@@ -290,7 +302,7 @@ where
     /// A line, by its word.
     #[tactic(auto, unfolding(crate::specs::Reading::word_onto))]
     fn word_line(&mut self, alloc: Global, word: &[u8], texts: &[&[u8]]) -> Result<(), ReadError>
-        requires few { length self.old.streams.entries ≤ MOST_STREAMS }
+        requires few { length self.old.streams.map.entries ≤ MOST_STREAMS }
         requires modules { self.old.modules < 2 ^ 63 }
         ensures { Gives (λ _. draft_view self.new) result (reading.word_onto M.Kind.words (draft_view self.old) word.now (map (λ text. text.now) texts.now)) }
     {
@@ -311,7 +323,7 @@ where
 
     /// A line, by its fields. One without fields says nothing.
     fn fields_line(&mut self, alloc: Global, texts: &[&[u8]]) -> Result<(), ReadError>
-        requires few { length self.old.streams.entries ≤ MOST_STREAMS }
+        requires few { length self.old.streams.map.entries ≤ MOST_STREAMS }
         requires modules { self.old.modules < 2 ^ 63 }
         ensures { Gives (λ _. draft_view self.new) result (reading.fields_onto M.Kind.words (draft_view self.old) (map (λ text. text.now) texts.now)) }
     {
@@ -329,7 +341,7 @@ where
         line: &'a [u8],
         texts: &mut Vec<&'a [u8]>,
     ) -> Result<(), ReadError>
-        requires few { length self.old.streams.entries ≤ MOST_STREAMS }
+        requires few { length self.old.streams.map.entries ≤ MOST_STREAMS }
         requires modules { self.old.modules < 2 ^ 63 }
         ensures { Gives (λ _. draft_view self.new) result (reading.line_onto M.Kind.words (draft_view self.old) line.now) }
     {
@@ -361,7 +373,7 @@ where
     pub(crate) fn streams(&self) -> &IndexMap<Name, Setup>
         ensures { streams_view result.now.entries ≡ (draft_view self.now).streams }
     {
-        &self.streams
+        &self.streams.map
     }
 
     /// The plan that the lines make. Refused for want of memory alone.
@@ -376,8 +388,9 @@ where
             modules: _,
             current: _,
         } = self;
+        let Declared { map, last: _ } = streams;
         Ok(Plan {
-            streams,
+            streams: map,
             processes,
             feeds,
         })

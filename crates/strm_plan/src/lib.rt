@@ -3,6 +3,7 @@
 #![tactic(auto)]
 
 mod call_line;
+mod declared;
 mod draft;
 mod fault;
 mod handing;

@@ -2,6 +2,7 @@
 ghost use Rattle.std.specs.Prelude.{◌≡◌, ◌++◌, ◌<◌, ◌≤◌, All, IfOk, IfSome, length, map};
 ghost use Rattle.std.specs.List.{flat_map};
 ghost use Rattle.std.specs.Str.Lines.{lines};
+ghost use Rattle.strm_plan.specs.Last.{IsKnown};
 ghost use Rattle.strm_plan.specs.Plan.{streams_view};
 ghost use Rattle.strm_plan.specs.Reading as reading;
 ghost use Rattle.strm_plan.specs.Section.{AreCalls, IsSection, Says};
@@ -9,6 +10,7 @@ ghost use Rattle.strm_plan.specs.declared.draft.TheConstants.{MOST_STREAMS};
 ghost use Rattle.strm_verb.specs.Table.{is_push};
 
 use crate::call_line::call_at;
+use crate::declared::Found;
 use crate::draft::fields_in;
 use crate::plan::Name;
 use indexmap::IndexMap;
@@ -94,13 +96,16 @@ fn is_push(verb: Verb) -> bool
 fn word_said<M: PlayModule>(
     alloc: Global,
     streams: &IndexMap<Name, Setup>,
+    last: &mut Option<Found>,
     word: &[u8],
     texts: &[&[u8]],
 ) -> Result<Said<Boxed<M>>, NoMem>
 where
     M::Kind: ReadKind,
-    requires { length streams.now.entries ≤ MOST_STREAMS }
-    ensures { IfOk result (λ said. Says (streams_view streams.now.entries) (λ d. reading.word_onto M.Kind.words d word.now (map (λ text. text.now) texts.now)) said) }
+    requires few { length streams.now.entries ≤ MOST_STREAMS }
+    requires known { IsKnown (streams_view streams.now.entries) last.old }
+    ensures known { IsKnown (streams_view streams.now.entries) last.new }
+    ensures said { IfOk result (λ said. Says (streams_view streams.now.entries) (λ d. reading.word_onto M.Kind.words d word.now (map (λ text. text.now) texts.now)) said) }
 {
     let Some(verb) = named(word) else {
         return Ok(Said::Other);
@@ -108,7 +113,7 @@ where
     if is_push(verb) {
         return Ok(Said::Other);
     }
-    match call_at(alloc, streams, 0, verb, texts) {
+    match call_at(alloc, streams, last, 0, verb, texts) {
         Ok(call) => Ok(Said::Call(call)),
         Err(ReadError::Memory) => Err(NoMem),
         Err(ReadError::Fault(_)) => Ok(Said::Other),
@@ -119,16 +124,19 @@ where
 fn fields_said<M: PlayModule>(
     alloc: Global,
     streams: &IndexMap<Name, Setup>,
+    last: &mut Option<Found>,
     texts: &[&[u8]],
 ) -> Result<Said<Boxed<M>>, NoMem>
 where
     M::Kind: ReadKind,
-    requires { length streams.now.entries ≤ MOST_STREAMS }
-    ensures { IfOk result (λ said. Says (streams_view streams.now.entries) (λ d. reading.fields_onto M.Kind.words d (map (λ text. text.now) texts.now)) said) }
+    requires few { length streams.now.entries ≤ MOST_STREAMS }
+    requires known { IsKnown (streams_view streams.now.entries) last.old }
+    ensures known { IsKnown (streams_view streams.now.entries) last.new }
+    ensures said { IfOk result (λ said. Says (streams_view streams.now.entries) (λ d. reading.fields_onto M.Kind.words d (map (λ text. text.now) texts.now)) said) }
 {
     match texts {
         [] => Ok(Said::Nothing),
-        [word, texts @ ..] => word_said(alloc, streams, word, texts),
+        [word, texts @ ..] => word_said(alloc, streams, last, word, texts),
     }
 }
 
@@ -136,16 +144,19 @@ where
 fn line_said<'a, M: PlayModule>(
     alloc: Global,
     streams: &IndexMap<Name, Setup>,
+    last: &mut Option<Found>,
     line: &'a [u8],
     texts: &mut Vec<&'a [u8]>,
 ) -> Result<Said<Boxed<M>>, NoMem>
 where
     M::Kind: ReadKind,
-    requires { length streams.now.entries ≤ MOST_STREAMS }
-    ensures { IfOk result (λ said. Says (streams_view streams.now.entries) (λ d. reading.line_onto M.Kind.words d line.now) said) }
+    requires few { length streams.now.entries ≤ MOST_STREAMS }
+    requires known { IsKnown (streams_view streams.now.entries) last.old }
+    ensures known { IsKnown (streams_view streams.now.entries) last.new }
+    ensures said { IfOk result (λ said. Says (streams_view streams.now.entries) (λ d. reading.line_onto M.Kind.words d line.now) said) }
 {
     match fields_in(line, texts) {
-        Ok(()) => fields_said(alloc, streams, texts.as_slice()),
+        Ok(()) => fields_said(alloc, streams, last, texts.as_slice()),
         Err(ReadError::Memory) => Err(NoMem),
         Err(ReadError::Fault(_)) => Ok(Said::Other),
     }
@@ -164,11 +175,12 @@ where
 {
     let mut calls = Script::new(alloc);
     let mut texts = Vec::new(alloc);
+    let mut last = None;
     let mut rest = text;
     let mut lines = 0;
     while !rest.is_empty() {
         let (line, after) = first_line(rest);
-        match line_said(alloc, streams, line, &mut texts)? {
+        match line_said(alloc, streams, &mut last, line, &mut texts)? {
             Said::Nothing => {}
             Said::Call(call) => calls.push(alloc, call)?,
             Said::Other => return Ok(None),

@@ -2,14 +2,16 @@
 ghost use Rattle.std.specs.Prelude.{◌≡◌, ◌≤◌, length};
 ghost use Rattle.strm_plan.specs.Plan.{streams_view};
 ghost use Rattle.strm_plan.specs.Targets as targets;
+ghost use Rattle.strm_plan.specs.Last.{IsKnown};
 ghost use Rattle.strm_plan.specs.declared.draft.TheConstants.{MOST_STREAMS};
 
+use crate::declared::Found;
 use crate::plan::{LONGEST, Name};
 use indexmap::IndexMap;
 use strm_call::Setup;
 use strm_module::Driver;
 use strm_msg::End;
-use strm_text::{name, split_once};
+use strm_text::{is_same_word, name, split_once};
 
 /// The end that a word names: `a`, or `b` of a loop stream; nothing for another word.
 fn end_of(driver: Driver, text: &[u8]) -> Option<End>
@@ -31,22 +33,46 @@ fn stream_of(streams: &IndexMap<Name, Setup>, wanted: &Name) -> Option<(u32, Dri
     Some((number as u32, setup.driver))
 }
 
-/// The number of the stream that a field names, and its driver; nothing where it names none.
-pub(crate) fn stream_at(streams: &IndexMap<Name, Setup>, text: &[u8]) -> Option<(u32, Driver)>
-    requires { length streams.now.entries ≤ MOST_STREAMS }
-    ensures { result ≡ targets.stream_at (streams_view streams.now.entries) text.now }
+/// The number of the stream that a field names, and its driver; nothing where it names none. It is kept as the last that was found,
+/// and is looked for where it was not.
+pub(crate) fn stream_at(
+    streams: &IndexMap<Name, Setup>,
+    last: &mut Option<Found>,
+    text: &[u8],
+) -> Option<(u32, Driver)>
+    requires few { length streams.now.entries ≤ MOST_STREAMS }
+    requires known { IsKnown (streams_view streams.now.entries) last.old }
+    ensures stream { result ≡ targets.stream_at (streams_view streams.now.entries) text.now }
+    ensures known { IsKnown (streams_view streams.now.entries) last.new }
 {
-    let wanted = name::<LONGEST>(text)?;
-    stream_of(streams, &wanted)
+    if let Some(found) = last {
+        if is_same_word(found.name.as_slice(), text) {
+            return Some((found.number, found.driver));
+        }
+    }
+    let name = name::<LONGEST>(text)?;
+    let (number, driver) = stream_of(streams, &name)?;
+    *last = Some(Found {
+        name,
+        number,
+        driver,
+    });
+    Some((number, driver))
 }
 
 /// The number of the stream and the end that NAME:END names; nothing where it names none.
-pub(crate) fn target_of(streams: &IndexMap<Name, Setup>, text: &[u8]) -> Option<(u32, End)>
-    requires { length streams.now.entries ≤ MOST_STREAMS }
-    ensures { result ≡ targets.target_of (streams_view streams.now.entries) text.now }
+pub(crate) fn target_of(
+    streams: &IndexMap<Name, Setup>,
+    last: &mut Option<Found>,
+    text: &[u8],
+) -> Option<(u32, End)>
+    requires few { length streams.now.entries ≤ MOST_STREAMS }
+    requires known { IsKnown (streams_view streams.now.entries) last.old }
+    ensures target { result ≡ targets.target_of (streams_view streams.now.entries) text.now }
+    ensures known { IsKnown (streams_view streams.now.entries) last.new }
 {
     let (name, end) = split_once(text, b':')?;
-    let (number, driver) = stream_at(streams, name)?;
+    let (number, driver) = stream_at(streams, last, name)?;
     let end = end_of(driver, end)?;
     Some((number, end))
 }

@@ -1,5 +1,6 @@
 use Rattle.std.proofs.Common.{◌≡◌, ℕ, ◌+◌, ◌≤◌, List, ◌++◌, length, map}
 use Rattle.std.specs.Str.Lines.{lines}
+use Rattle.strm_plan.specs.Last.{IsKnown}
 use Rattle.strm_plan.specs.Plan.{Partial, call_view, streams_view}
 use Rattle.strm_plan.specs.Reading.{lines_onto}
 use Rattle.strm_plan.specs.Section.{HasRoom, with_calls}
@@ -13,6 +14,7 @@ invariant-loop-rest g l = record {
   there : AreCallsThere (streams_view l.streams.entries) (map call_view l.calls);
   some : length l.calls ≤ l.lines;
   few : l.lines + length l.rest ≤ length l.text;
+  known : IsKnown (streams_view l.streams.entries) l.last;
 }
 
 abbrev pub decreases-loop-rest : goal.decreases-loop-rest

@@ -173,6 +173,7 @@ impl Enabling {
     }
 
     /// Enables the place that waits for a queue, if it must move now.
+    #[inline(always)]
     pub(crate) fn wake_behind<M: ModuleOf>(&mut self, ends: &Ends<M>, queue: NextQueue)
         requires { number_of queue < QUEUES }
         ensures ready { IsReadyBut ends.now.image queue self.old → IsReady ends.now.image self.new }

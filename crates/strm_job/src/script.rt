@@ -111,6 +111,7 @@ impl<P: Drop> Script<P> {
     }
 
     /// Puts a call behind the others, of which there are fewer than 2^63. Refused for want of memory alone.
+    #[inline(always)]
     pub fn push(&mut self, alloc: Global, call: ScriptCall<P>) -> Result<(), NoMem>
         requires { length self.old < 2 ^ 63 }
         ensures { OnOk result (self.new ≡ self.old ++ call ∷ []) }

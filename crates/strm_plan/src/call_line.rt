@@ -54,6 +54,7 @@ where
 
 /// The call of this verb with these fields: NAME:END and what follows it.
 #[tactic(auto, unfolding(crate::specs::Reading::call_at))]
+#[inline(always)]
 pub(crate) fn call_at<M: PlayModule>(
     alloc: Global,
     streams: &IndexMap<Name, Setup>,

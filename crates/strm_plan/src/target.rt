@@ -35,6 +35,7 @@ fn stream_of(streams: &IndexMap<Name, Setup>, wanted: &Name) -> Option<(u32, Dri
 
 /// The number of the stream that a field names, and its driver; nothing where it names none. It is kept as the last that was found,
 /// and is looked for where it was not.
+#[inline(always)]
 pub(crate) fn stream_at(
     streams: &IndexMap<Name, Setup>,
     last: &mut Option<Found>,

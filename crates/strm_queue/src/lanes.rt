@@ -51,6 +51,7 @@ pub(crate) fn find(lanes: &[Lane], rank: u16) -> Option<usize>
 /// The place of the lane of a rank, which is made where there is none.
 ///
 /// Refused for want of memory alone, and not where the lane is there.
+#[inline(always)]
 pub(crate) fn find_or_make(lanes: &mut Vec<Lane>, rank: u16) -> Result<usize, NoMem>
     requires { is_laned lanes.old.items ≡ true }
     ensures laned { is_laned lanes.new.items ≡ true }

@@ -65,6 +65,7 @@ fn goes_on_to(prot: Prot, m: &Message) -> bool
 }
 
 /// The message at a place, if a read may reach it. It may reach those before it.
+#[inline(always)]
 fn reached_at<'a>(queue: &'a BandQueue, mode: ReadMode, prot: Prot, i: usize) -> Option<&'a Message>
     requires { i ≤ length (reached mode prot queue.now.messages) }
     ensures { option_copied result ≡ slice_get (reached mode prot queue.now.messages) i }

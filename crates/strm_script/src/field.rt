@@ -94,6 +94,7 @@ fn add_long_part<W: Write>(w: &mut W, out: &mut Gathered, bytes: &[u8])
 
 /// Adds bytes as a PART behind a space.
 #[tactic(auto, using(crate::proofs::GatheredLemmas::puts, strm_text::proofs::RunLemmas::plain_spelt))]
+#[inline(always)]
 pub(crate) fn add_part<W: Write>(w: &mut W, out: &mut Gathered, bytes: &[u8])
     ensures { Puts (W.contents w.old) (W.contents w.new) out.old out.new (spaced (says.Bytes bytes.now ∷ [])) }
 {
@@ -107,6 +108,7 @@ pub(crate) fn add_part<W: Write>(w: &mut W, out: &mut Gathered, bytes: &[u8])
 }
 
 /// Adds the digits of a number.
+#[inline(always)]
 fn add_digits<W: Write>(w: &mut W, out: &mut Gathered, n: u64)
     ensures { Puts (W.contents w.old) (W.contents w.new) out.old out.new (decimal n) }
 {
@@ -119,6 +121,7 @@ fn add_digits<W: Write>(w: &mut W, out: &mut Gathered, n: u64)
 
 /// Adds a number behind a space.
 #[tactic(auto, using(crate::proofs::GatheredLemmas::puts))]
+#[inline(always)]
 pub(crate) fn add_number<W: Write>(w: &mut W, out: &mut Gathered, n: u64)
     ensures { Puts (W.contents w.old) (W.contents w.new) out.old out.new (spaced (says.Number n ∷ [])) }
 {

@@ -55,6 +55,7 @@ fn next_byte(text: &[u8]) -> Option<(u8, &[u8])>
 
 /// The bytes of the front that stand for themselves go last, and how many they are is told. Refused for want
 /// of memory alone.
+#[inline(always)]
 fn take_run(all: &mut Vec<u8>, text: &[u8]) -> Result<usize, AllocError>
     ensures items { IfOk result (λ many. all.new.items ≡ all.old.items ++ take many text.now) }
     ensures plain { IfOk result (λ many. list_all is_itself (take many text.now) ≡ true) }

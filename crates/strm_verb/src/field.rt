@@ -67,6 +67,7 @@ pub fn word_at(text: &[u8]) -> Result<u32, Cause>
 }
 
 /// The bytes of a part. Refused where the text is none, or for want of memory.
+#[inline(always)]
 pub fn part_at(alloc: Global, text: &[u8]) -> Result<Bytes, ReadError>
     ensures { Gives (λ bytes. bytes) result (fields.part_at text.now) }
 {

@@ -128,6 +128,7 @@ impl<M: ModuleOf> Ends<M> {
     }
 
     /// The message that a place would move.
+    #[inline(always)]
     pub fn front(&self, place: Place) -> Option<&Message>
         ensures { option_copied result ≡ front_of self.now.image place }
     {

@@ -81,6 +81,7 @@ impl<M: ModuleOf> StreamEnd<M> {
 
     /// What a loop does: it keeps what is written, and its list is flushed as a write queue. Refused
     /// for want of memory alone: then nothing is changed.
+    #[inline(always)]
     fn loop_does(&mut self, m: BoxedMessage) -> Result<DriverSends, NoMem>
         ensures state { OnOk result (self.new.state ≡ (loop_does self.old.state m.kind m).state) }
         ensures sends { IfOk result (λ sends. sends ≡ (loop_does self.old.state m.kind m).sends) }

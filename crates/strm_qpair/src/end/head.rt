@@ -89,6 +89,7 @@ fn error_flush(m: BoxedMessage, rd: Option<Errno>, wr: Option<Errno>) -> Option<
 impl<M: ModuleOf> StreamEnd<M> {
     /// What the head does with a message from below, and what it sends down (strrput). Refused for
     /// want of memory alone: then nothing is changed.
+    #[inline(always)]
     pub fn head_does(&mut self, m: BoxedMessage) -> Result<Option<BoxedMessage>, NoMem>
         ensures state { OnOk result (self.new.state ≡ (head_does self.old.state m).state) }
         ensures sends { IfOk result (λ sends. sends ≡ (head_does self.old.state m).sends) }

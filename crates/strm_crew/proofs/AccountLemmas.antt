@@ -6,7 +6,6 @@ use Rattle.std.proofs.lemmas.List.Elements.{All-push}
 use Rattle.std.proofs.lemmas.Option.{same_Some}
 use Rattle.std.proofs.lemmas.Bool.{and_parts}
 use Rattle.strm_module.specs.declared.shape.Shape.{Shape}
-use Rattle.strm_call.specs.declared.answer.Answer.{Answer}
 use Rattle.strm_call.specs.declared.call.Call.{Call}
 use Rattle.strm_call.specs.declared.event.Event.TheVariants.{Asked}
 use Rattle.strm_entry.specs.Entry.{asked_of}
@@ -29,8 +28,8 @@ take_all_there (first ∷ rest) zero one at = refl
 take_all_there (first ∷ rest) (suc count) one at = ap (λ n. suc n) (take_all_there rest count one at)
 
 -- the receipts, with that of the next call of the caller's script
-pub receipts_more : {K : Type 0} (run : RunValue K) (seat after : SeatValue) (call : Call (Shape K)) (answer : Answer) (back : List (Option (Shape K))) (receipts longer : List (ReceiptValue K)) (receipt : ReceiptValue K) → after ≡ record seat { calls = seat.calls + 1; shown = seat.shown && is_some (Some receipt) } → IsReceiptOf seat call answer back receipt → slice_get (calls_on seat.number (script_of run.scripts seat.caller)) seat.calls ≡ Some (call.end, Asked call.request) → HasReceipts run seat receipts → longer ≡ receipts ++ receipt ∷ [] → HasReceipts run after longer
-receipts_more {K} run seat after call answer back receipts longer receipt is of next was more = λ shown.
+pub receipts_more : {K : Type 0} (run : RunValue K) (seat after : SeatValue) (call : Call (Shape K)) (back : List (Option (Shape K))) (receipts longer : List (ReceiptValue K)) (receipt : ReceiptValue K) → after ≡ record seat { calls = seat.calls + 1; shown = seat.shown && is_some (Some receipt) } → IsReceiptOf seat call back receipt → slice_get (calls_on seat.number (script_of run.scripts seat.caller)) seat.calls ≡ Some (call.end, Asked call.request) → HasReceipts run seat receipts → longer ≡ receipts ++ receipt ∷ [] → HasReceipts run after longer
+receipts_more {K} run seat after call back receipts longer receipt is of next was more = λ shown.
     let all = calls_on seat.number (script_of run.scripts seat.caller) in
     let had = was (and_parts seat.shown true (sym (ap (λ (s : SeatValue). s.shown) is) ∙ shown)).0 in
     let n : seat.calls + 1 ≡ suc seat.calls = omega arith in

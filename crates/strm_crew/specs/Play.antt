@@ -2,6 +2,7 @@
 use Rattle.std.specs.Prelude.{◌≡◌, ℕ, ◌+◌, ◌<◌, ◌^◌, List, ◌++◌, All, drop, get_or, length}
 use prog.Memory.{size}
 use mir.Syntax.{Ty}
+use denote.Plain.{Nothing}
 use denote.RattleType.{RattleType}
 use denote.Param.{layout}
 use Rattle.strm_module.specs.declared.shape.Shape.{Shape}
@@ -21,7 +22,7 @@ Fits of = size of < 2 ^ 63
 
 -- what becomes of a call does (`CallsFit`), passed on
 abbrev pub CallsDoFit : (M K : RattleType) → Ghosts K.Denot → Type 0
-CallsDoFit M K kinds = Fits (layout (called.the_row (boxed.the_row M K kinds) K))
+CallsDoFit M K kinds = Fits (layout (called.the_row (boxed.the_row M K kinds) K Nothing))
 
 -- the streams of a run, in order, shared by its callers
 pub record AreStreams {K : Type 0} (run : RunValue K) (streams : List SharedValue) : Type 0 where

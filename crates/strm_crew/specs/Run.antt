@@ -1,5 +1,6 @@
 -- What the type of a run's modules must be.
 use Rattle.std.specs.Mem.{FitsInMemory}
+use denote.Plain.{Nothing}
 use denote.RattleType.{RattleType}
 use Rattle.strm_module.specs.declared.vocabulary.Kinds.{Ghosts}
 use Rattle.strm_module.specs.contracts.boxed.Boxed as boxed
@@ -7,4 +8,4 @@ use Rattle.strm_entry.specs.contracts.call.Called as called
 
 -- what becomes of a call fits into memory, as each type does that a compiler takes: for modules and kinds of these types
 abbrev pub CallsFit : (M K : RattleType) → Ghosts K.Denot → Type 0
-CallsFit M K kinds = FitsInMemory (called.the_row (boxed.the_row M K kinds) K)
+CallsFit M K kinds = FitsInMemory (called.the_row (boxed.the_row M K kinds) K Nothing)

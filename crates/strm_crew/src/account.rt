@@ -8,6 +8,7 @@ ghost use Rattle.strm_crew.specs.Play.{CallsDoFit};
 use std::alloc::Global;
 use std::marker::{Model, PhantomData};
 use std::sync::Wait;
+use strm_call::Reply;
 use strm_feed::{Of, Plays};
 use strm_history::{Call, Called, Receipt};
 use strm_module::{Boxed, ModuleOf};
@@ -76,13 +77,8 @@ pub(crate) fn call_on<M: ModuleOf, N: Plays<M::Kind>, R: Wait>(
     ensures { OnOk result (account.new ≡ record account.old { calls = account.old.calls + 1; shown = account.new.shown }) }
 {
     account.receipts.reserve(1)?;
-    match shared.call(rt, &mut account.seat, call) {
-        Called::Done {
-            answer,
-            back: _,
-            receipt,
-        } => {
-            drop(answer);
+    match shared.enter::<Reply, R>(rt, &mut account.seat, call) {
+        Called::Done { receipt, .. } => {
             if let Some(receipt) = receipt {
                 account.receipts.push_reserved(receipt);
             }

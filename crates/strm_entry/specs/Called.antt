@@ -4,11 +4,11 @@ use Rattle.strm_entry.specs.declared.call.Called.{Called}
 use Rattle.strm_entry.specs.declared.call.Called.TheVariants.{Done, NoRoom}
 
 -- the call was made
-abbrev pub is_done : {P K : Type 0} → Called P K → Bool
+abbrev pub is_done : {P K A : Type 0} → Called P K A → Bool
 is_done (Done answer back receipt) = true
 is_done (NoRoom same) = false
 
 -- it was made and has a receipt
-abbrev pub has_receipt : {P K : Type 0} → Called P K → Bool
+abbrev pub has_receipt : {P K A : Type 0} → Called P K A → Bool
 has_receipt (Done answer back receipt) = is_some receipt
 has_receipt (NoRoom same) = false

@@ -8,13 +8,14 @@ use strm_call::{Answer, Call};
 use strm_module::MOST_MODULES;
 use strm_msg::Message;
 
-/// What becomes of a call on a stream that keeps its history, where `P` is a module of a kind of `K`.
+/// What becomes of a call on a stream that keeps its history, where `P` is a module of a kind of `K`, and `A` what its caller has of
+/// the answer beside the history: an equal one, or nothing.
 #[derive(Drop)]
-pub enum Called<P, K> {
+pub enum Called<P, K, A = Answer> {
     /// It was made, and is in the history.
     Done {
         /// The answer, which the history has too.
-        answer: Answer,
+        answer: A,
         /// The modules that come back, each as `Some`: that of a push that was refused, or those that
         /// were taken out, topmost first.
         back: ArrayVec<Option<P>, MOST_MODULES>,
@@ -27,7 +28,7 @@ pub enum Called<P, K> {
     NoRoom(Call<P>),
 }
 
-impl<P, K> Called<P, K> {
+impl<P, K, A> Called<P, K, A> {
     /// Whether it was made.
     pub fn is_done(&self) -> bool
         ensures { result ≡ is_done self.now }

@@ -18,6 +18,7 @@ use Rattle.strm_chain.specs.declared.fault.ChainFault.{ChainFault}
 use Rattle.strm_call.specs.declared.answer.Reply.{Reply}
 use Rattle.strm_chain.specs.Fault.{Fails}
 use Rattle.strm_call.specs.Reply.{has_bytes}
+use Rattle.strm_call.specs.Replied.{said}
 use Rattle.strm_module.specs.Kinds.{Meaning}
 use Rattle.strm_head.specs.Begins.{IsReady, MayBegin, Begins, taken_or, done_or}
 use Rattle.strm_head.specs.Inside.{IsKept}
@@ -88,9 +89,9 @@ module _ {K : Type 0} (means : Meaning K) where
   }
 
   -- a call that takes what waits at the head, or shows it
-  pub taken_begins : {X : Type 0} (image : Image K) (e : End) (request : Request (Shape K)) (r : Result Reply X) (after : Image K) → IfOk r (λ reply. reply ≡ (begun_of means image e request).reply) → OnOk r (after ≡ (begun_of means image e request).image) → OnErr r (after ≡ image) → takes_no_memory request ≡ false → can_lack_memory request ≡ true → image.broken ≡ false → Begins means image e request (taken_or r) after
-  taken_begins image e request (Ok reply) after same i u takes can whole = record { reply_is = same; image_is = i }
-  taken_begins image e request (Err wanting) after same i u takes can whole = record {
+  pub taken_begins : {A X : Type 0} (image : Image K) (e : End) (request : Request (Shape K)) (says : A → Reply) (r : Result A X) (after : Image K) → IfOk r (λ made. says made ≡ (begun_of means image e request).reply) → OnOk r (after ≡ (begun_of means image e request).image) → OnErr r (after ≡ image) → takes_no_memory request ≡ false → can_lack_memory request ≡ true → image.broken ≡ false → Begins means image e request (taken_or (said says r)) after
+  taken_begins image e request says (Ok made) after same i u takes can whole = record { reply_is = same; image_is = i }
+  taken_begins image e request says (Err wanting) after same i u takes can whole = record {
     fails = u;
     takes = takes;
     refused = λ is. can;

@@ -4,82 +4,81 @@ ghost use Rattle.strm_call.specs.declared.answer.Answer.TheVariants as Answers;
 
 use std::alloc::Global;
 use std::marker::Model;
-use strm_call::{Answer, Refusal, Twins};
+use strm_call::{Answer, Refusal, Replied, Reply};
 use strm_chain::Settled;
 
-/// What a call answered, an equal answer for a record of the call, and what its service did. A contract
-/// sees the answer, the moves, and the number of looks.
+/// What a call answered, what its service did, and an equal answer, if its reply was made as `Twins`. A contract sees the answer,
+/// the moves, and the number of looks.
 #[derive(Drop)]
-pub struct Answered {
+pub struct Answered<A: Replied = Reply> {
     answer: Answer,
-    twin: Answer,
+    beside: A::Beside,
     settled: Settled,
 }
 
-impl Model for Answered {
-    ghost use Rattle.std.specs.Prelude.{◌≡◌};
+impl<A: Replied> Model for Answered<A> {
     ghost use Rattle.strm_head.specs.Answered.{AnsweredCall};
 
     ghost Value = { AnsweredCall };
 
     ghost view = { λ a. record { answer = a.answer; moves = a.settled.moves; looks = a.settled.looks } };
 
-    ghost invariant = { λ a. a.twin ≡ a.answer };
+    ghost invariant = { λ a. A.Agrees a.beside a.answer };
 }
 
-impl Answered {
+impl<A: Replied> Answered<A> {
     /// A call that was done.
-    pub(crate) fn done(reply: Twins, settled: Settled) -> Answered
-        ensures answer { result.answer ≡ Answers.Done reply }
+    pub(crate) fn done(reply: A, settled: Settled) -> Answered<A>
+        ensures answer { result.answer ≡ Answers.Done (A.says reply) }
         ensures moves { result.moves ≡ settled.moves }
         ensures looks { result.looks ≡ settled.looks }
     {
-        let (reply, twin) = reply.into_both();
+        let (answer, beside) = reply.into_done();
         Answered {
-            answer: Answer::Done(reply),
-            twin: Answer::Done(twin),
+            answer,
+            beside,
             settled,
         }
     }
 
     /// A call that was refused.
-    pub(crate) fn refused(alloc: Global, refusal: Refusal) -> Answered
+    pub(crate) fn refused(alloc: Global, refusal: Refusal) -> Answered<A>
         ensures answer { result.answer ≡ Answers.Refused refusal }
         ensures moves { result.moves ≡ [] }
         ensures looks { result.looks ≡ 0 }
     {
         Answered {
             answer: Answer::Refused(refusal),
-            twin: Answer::Refused(refusal),
+            beside: A::refused(refusal),
             settled: Settled::none(alloc),
         }
     }
 
     /// A call after whose change memory was wanting.
-    pub(crate) fn broke(alloc: Global) -> Answered
+    pub(crate) fn broke(alloc: Global) -> Answered<A>
         ensures answer { result.answer ≡ Answers.Broke }
         ensures moves { result.moves ≡ [] }
         ensures looks { result.looks ≡ 0 }
     {
         Answered {
             answer: Answer::Broke,
-            twin: Answer::Broke,
+            beside: A::broke(),
             settled: Settled::none(alloc),
         }
     }
 
-    /// The answer, the equal one, and what the service did.
-    pub fn into_parts(self) -> (Answer, Answer, Settled)
+    /// The answer, the equal one, if there is one, and what the service did.
+    pub fn into_parts(self) -> (Answer, A::Beside, Settled)
         ensures answer { result.0 ≡ self.answer }
-        ensures twin { result.1 ≡ self.answer }
+        ensures beside { A.Agrees result.1 self.answer }
         ensures moves { result.2.moves ≡ self.moves }
         ensures looks { result.2.looks ≡ self.looks }
     {
         let Answered {
             answer,
-            twin,
+            beside,
             settled,
         } = self;
-        (answer, twin, settled)
+        (answer, beside, settled)
     }
 }

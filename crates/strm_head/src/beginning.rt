@@ -5,13 +5,14 @@ ghost use Rattle.strm_call.specs.declared.answer.Acknowledged.TheVariants as Ack
 ghost use Rattle.strm_call.specs.declared.request.Request.TheVariants as Requests;
 ghost use Rattle.strm_call.specs.Refusal.{first_that_holds};
 ghost use Rattle.strm_call.specs.Reply.{has_bytes};
+ghost use Rattle.strm_call.specs.Replied.{said};
 ghost use Rattle.strm_head.specs.Begin.{own_refusals, begun_of, handed_out, takes_no_memory};
 ghost use Rattle.strm_head.specs.Begins.{IsReady, MayBegin, Begins, taken_or, done_or};
 ghost use Rattle.strm_head.specs.Inside.{HasItsEnds};
 
 use crate::call::Back;
 use std::alloc::Global;
-use strm_call::{Acknowledged, GetFlag, Priority, PutFlag, Reply, Request, Twins, Wanted};
+use strm_call::{Acknowledged, GetFlag, Priority, PutFlag, Replied, Reply, Request, Wanted};
 use strm_chain::{Chain, ChainFault};
 use strm_ioctl::{
     canput, ckband, close, find, flush, get_read, getband, list, look, nread, pop, push,
@@ -22,11 +23,11 @@ use strm_msg::{Bytes, End, NoMem};
 use strm_msgio::{getmsg, getpmsg, peek, putmsg, putpmsg, write};
 use strm_read::read;
 
-/// What an ioctl answers where nothing answers it, and an equal one.
-fn unanswered() -> Twins
-    ensures { result ≡ Replies.Str Acknowledged.Timeout }
+/// What an ioctl answers where nothing answers it.
+fn unanswered<A: Replied>() -> A
+    ensures { A.says result ≡ Replies.Str Acknowledged.Timeout }
 {
-    Twins::new(
+    A::new(
         Reply::Str {
             answer: Acknowledged::Timeout,
         },
@@ -36,20 +37,20 @@ fn unanswered() -> Twins
     )
 }
 
-/// The reply of a call that sends, and an equal one, unless memory was wanting.
-fn sent(reply: Result<Reply, ChainFault>) -> Result<Twins, ChainFault>
+/// The reply of a call that sends, unless memory was wanting.
+fn sent<A: Replied>(reply: Result<Reply, ChainFault>) -> Result<A, ChainFault>
     requires { IfOk reply (λ reply. has_bytes reply ≡ false) }
-    ensures { result ≡ reply }
+    ensures { said A.says result ≡ reply }
 {
     match reply {
-        Ok(reply) => Ok(Twins::plain(reply)),
+        Ok(reply) => Ok(A::plain(reply)),
         Err(fault) => Err(fault),
     }
 }
 
-/// The reply of a call that takes, and an equal one, unless memory was wanting.
-fn taken(reply: Result<Twins, NoMem>) -> Result<Twins, ChainFault>
-    ensures { result ≡ taken_or reply }
+/// The reply of a call that takes, unless memory was wanting.
+fn taken<A: Replied>(reply: Result<A, NoMem>) -> Result<A, ChainFault>
+    ensures { said A.says result ≡ taken_or (said A.says reply) }
 {
     match reply {
         Ok(reply) => Ok(reply),
@@ -57,19 +58,19 @@ fn taken(reply: Result<Twins, NoMem>) -> Result<Twins, ChainFault>
     }
 }
 
-/// What a peek shows, and an equal reply, unless memory is wanting.
-fn seen(alloc: Global, reply: Result<Reply, NoMem>) -> Result<Twins, NoMem>
-    ensures { IfOk result (λ twins. reply ≡ Ok twins) }
+/// The reply of a call that shows, unless memory is wanting.
+fn seen<A: Replied>(alloc: Global, reply: Result<Reply, NoMem>) -> Result<A, NoMem>
+    ensures { IfOk (said A.says result) (λ shown. reply ≡ Ok shown) }
 {
     match reply {
-        Ok(reply) => Twins::of(alloc, reply),
+        Ok(reply) => A::of(alloc, reply),
         Err(wanting) => Err(wanting),
     }
 }
 
 /// The reply of a call that only sends a message down, unless memory was wanting.
-fn done(sending: Result<(), ChainFault>, reply: Twins) -> Result<Twins, ChainFault>
-    ensures { result ≡ done_or sending reply }
+fn done<A: Replied>(sending: Result<(), ChainFault>, reply: A) -> Result<A, ChainFault>
+    ensures { said A.says result ≡ done_or sending (A.says reply) }
 {
     match sending {
         Ok(()) => Ok(reply),
@@ -81,166 +82,174 @@ fn done(sending: Result<(), ChainFault>, reply: Twins) -> Result<Twins, ChainFau
 }
 
 /// Begins a pop. The module is handed out.
-fn begin_pop<M: ModuleOf>(
+fn begin_pop<M: ModuleOf, A: Replied>(
     chain: &mut Chain<M>,
     end: End,
     back: &mut Back<M>,
-) -> Result<Twins, ChainFault>
+) -> Result<A, ChainFault>
     requires own { first_that_holds (own_refusals chain.old.image end Requests.Pop) ≡ None }
     requires empty { back.old.items ≡ [] }
-    ensures begins { Begins M.Kind.means chain.old.image end Requests.Pop result chain.new.image }
+    ensures begins { Begins M.Kind.means chain.old.image end Requests.Pop (said A.says result) chain.new.image }
     ensures back { back.new.items ≡ handed_out (begun_of M.Kind.means chain.old.image end Requests.Pop).out }
 {
     let (reply, instance) = pop(chain, end);
     back.push(Some(instance));
-    Ok(Twins::plain(reply))
+    Ok(A::plain(reply))
 }
 
 /// Begins a close. The modules are handed out, also where memory is wanting afterwards.
-fn begin_close<M: ModuleOf>(
+fn begin_close<M: ModuleOf, A: Replied>(
     chain: &mut Chain<M>,
     end: End,
     back: &mut Back<M>,
-) -> Result<Twins, ChainFault>
+) -> Result<A, ChainFault>
     requires ends { HasItsEnds chain.old.image }
     requires empty { back.old.items ≡ [] }
-    ensures begins { Begins M.Kind.means chain.old.image end Requests.Close result chain.new.image }
+    ensures begins { Begins M.Kind.means chain.old.image end Requests.Close (said A.says result) chain.new.image }
     ensures back { back.new.items ≡ handed_out (begun_of M.Kind.means chain.old.image end Requests.Close).out }
 {
     let reply = close(chain, end, back)?;
-    Ok(Twins::plain(reply))
+    Ok(A::plain(reply))
 }
 
 /// Begins a putmsg.
-fn begin_putmsg<M: ModuleOf>(
+fn begin_putmsg<M: ModuleOf, A: Replied>(
     chain: &mut Chain<M>,
     end: End,
     ctl: Option<Bytes>,
     dat: Option<Bytes>,
     flag: Priority,
-) -> Result<Twins, ChainFault>
+) -> Result<A, ChainFault>
     requires { IsReady chain.old.image end }
-    ensures { Begins M.Kind.means chain.old.image end (Requests.Putmsg ctl dat flag) result chain.new.image }
+    ensures { Begins M.Kind.means chain.old.image end (Requests.Putmsg ctl dat flag) (said A.says result) chain.new.image }
 {
     sent(putmsg(chain, end, ctl, dat, flag))
 }
 
 /// Begins a putpmsg.
-fn begin_putpmsg<M: ModuleOf>(
+fn begin_putpmsg<M: ModuleOf, A: Replied>(
     chain: &mut Chain<M>,
     end: End,
     ctl: Option<Bytes>,
     dat: Option<Bytes>,
     band: u8,
     flag: PutFlag,
-) -> Result<Twins, ChainFault>
+) -> Result<A, ChainFault>
     requires { IsReady chain.old.image end }
-    ensures { Begins M.Kind.means chain.old.image end (Requests.Putpmsg ctl dat band flag) result chain.new.image }
+    ensures { Begins M.Kind.means chain.old.image end (Requests.Putpmsg ctl dat band flag) (said A.says result) chain.new.image }
 {
     sent(putpmsg(chain, end, ctl, dat, band, flag))
 }
 
 /// Begins a write.
-fn begin_write<M: ModuleOf>(chain: &mut Chain<M>, end: End, dat: Bytes) -> Result<Twins, ChainFault>
+fn begin_write<M: ModuleOf, A: Replied>(
+    chain: &mut Chain<M>,
+    end: End,
+    dat: Bytes,
+) -> Result<A, ChainFault>
     requires { IsReady chain.old.image end }
-    ensures { Begins M.Kind.means chain.old.image end (Requests.Write dat) result chain.new.image }
+    ensures { Begins M.Kind.means chain.old.image end (Requests.Write dat) (said A.says result) chain.new.image }
 {
     sent(write(chain, end, dat))
 }
 
 /// Begins a getmsg.
-fn begin_getmsg<M: ModuleOf>(
+fn begin_getmsg<M: ModuleOf, A: Replied>(
     chain: &mut Chain<M>,
     end: End,
     maxctl: Option<u16>,
     maxdat: Option<u16>,
     flag: Wanted,
-) -> Result<Twins, ChainFault>
+) -> Result<A, ChainFault>
     requires { IsReady chain.old.image end }
-    ensures { Begins M.Kind.means chain.old.image end (Requests.Getmsg maxctl maxdat flag) result chain.new.image }
+    ensures { Begins M.Kind.means chain.old.image end (Requests.Getmsg maxctl maxdat flag) (said A.says result) chain.new.image }
 {
     taken(getmsg(chain, end, maxctl, maxdat))
 }
 
 /// Begins a getpmsg.
-fn begin_getpmsg<M: ModuleOf>(
+fn begin_getpmsg<M: ModuleOf, A: Replied>(
     chain: &mut Chain<M>,
     end: End,
     maxctl: Option<u16>,
     maxdat: Option<u16>,
     band: u8,
     flag: GetFlag,
-) -> Result<Twins, ChainFault>
+) -> Result<A, ChainFault>
     requires { IsReady chain.old.image end }
-    ensures { Begins M.Kind.means chain.old.image end (Requests.Getpmsg maxctl maxdat band flag) result chain.new.image }
+    ensures { Begins M.Kind.means chain.old.image end (Requests.Getpmsg maxctl maxdat band flag) (said A.says result) chain.new.image }
 {
     taken(getpmsg(chain, end, maxctl, maxdat))
 }
 
 /// Begins a read.
-fn begin_read<M: ModuleOf>(chain: &mut Chain<M>, end: End, max: u16) -> Result<Twins, ChainFault>
+fn begin_read<M: ModuleOf, A: Replied>(
+    chain: &mut Chain<M>,
+    end: End,
+    max: u16,
+) -> Result<A, ChainFault>
     requires { IsReady chain.old.image end }
-    ensures { Begins M.Kind.means chain.old.image end (Requests.Read max) result chain.new.image }
+    ensures { Begins M.Kind.means chain.old.image end (Requests.Read max) (said A.says result) chain.new.image }
 {
     taken(read(chain, end, max))
 }
 
 /// Begins a peek.
-fn begin_peek<M: ModuleOf>(
+fn begin_peek<M: ModuleOf, A: Replied>(
     chain: &mut Chain<M>,
     end: End,
     maxctl: Option<u16>,
     maxdat: Option<u16>,
     flag: Wanted,
-) -> Result<Twins, ChainFault>
+) -> Result<A, ChainFault>
     requires { IsReady chain.old.image end }
-    ensures { Begins M.Kind.means chain.old.image end (Requests.Peek maxctl maxdat flag) result chain.new.image }
+    ensures { Begins M.Kind.means chain.old.image end (Requests.Peek maxctl maxdat flag) (said A.says result) chain.new.image }
 {
     let alloc = chain.alloc();
     taken(seen(alloc, peek(chain, end, maxctl, maxdat, flag)))
 }
 
 /// Begins an ioctl.
-fn begin_str<M: ModuleOf>(
+fn begin_str<M: ModuleOf, A: Replied>(
     chain: &mut Chain<M>,
     end: End,
     cmd: u32,
     dat: Option<Bytes>,
-) -> Result<Twins, ChainFault>
+) -> Result<A, ChainFault>
     requires ready { IsReady chain.old.image end }
     requires own { first_that_holds (own_refusals chain.old.image end (Requests.Str cmd dat)) ≡ None }
-    ensures { Begins M.Kind.means chain.old.image end (Requests.Str cmd dat) result chain.new.image }
+    ensures { Begins M.Kind.means chain.old.image end (Requests.Str cmd dat) (said A.says result) chain.new.image }
 {
     done(send_ioctl(chain, end, cmd, dat), unanswered())
 }
 
 /// Begins a flush.
-fn begin_flush<M: ModuleOf>(
+fn begin_flush<M: ModuleOf, A: Replied>(
     chain: &mut Chain<M>,
     end: End,
     r: bool,
     w: bool,
-) -> Result<Twins, ChainFault>
+) -> Result<A, ChainFault>
     requires { IsReady chain.old.image end }
-    ensures { Begins M.Kind.means chain.old.image end (Requests.Flush r w) result chain.new.image }
+    ensures { Begins M.Kind.means chain.old.image end (Requests.Flush r w) (said A.says result) chain.new.image }
 {
-    done(flush(chain, end, r, w, None), Twins::plain(Reply::Flush))
+    done(flush(chain, end, r, w, None), A::plain(Reply::Flush))
 }
 
 /// Begins a flush of one band.
-fn begin_flush_band<M: ModuleOf>(
+fn begin_flush_band<M: ModuleOf, A: Replied>(
     chain: &mut Chain<M>,
     end: End,
     band: u8,
     r: bool,
     w: bool,
-) -> Result<Twins, ChainFault>
+) -> Result<A, ChainFault>
     requires { IsReady chain.old.image end }
-    ensures { Begins M.Kind.means chain.old.image end (Requests.FlushBand band r w) result chain.new.image }
+    ensures { Begins M.Kind.means chain.old.image end (Requests.FlushBand band r w) (said A.says result) chain.new.image }
 {
     done(
         flush(chain, end, r, w, Some(band)),
-        Twins::plain(Reply::FlushBand),
+        A::plain(Reply::FlushBand),
     )
 }
 
@@ -267,32 +276,32 @@ fn told<M: ModuleOf>(chain: &mut Chain<M>, end: End, request: &Request<Boxed<M>>
 }
 
 /// Begins a call that only tells or sets something.
-fn begin_telling<M: ModuleOf>(
+fn begin_telling<M: ModuleOf, A: Replied>(
     chain: &mut Chain<M>,
     end: End,
     request: Request<Boxed<M>>,
-) -> Result<Twins, ChainFault>
+) -> Result<A, ChainFault>
     requires tells { takes_no_memory request ≡ true }
     requires own { first_that_holds (own_refusals chain.old.image end request) ≡ None }
-    ensures begins { Begins M.Kind.means chain.old.image end request result chain.new.image }
+    ensures begins { Begins M.Kind.means chain.old.image end request (said A.says result) chain.new.image }
 {
     let reply = told(chain, end, &request);
     drop(request);
-    Ok(Twins::plain(reply))
+    Ok(A::plain(reply))
 }
 
 /// Does what a call does before any queue moves. The modules that it takes out are handed out, also
 /// where memory is wanting afterwards.
-pub(crate) fn begin<M: ModuleOf>(
+pub(crate) fn begin<M: ModuleOf, A: Replied>(
     chain: &mut Chain<M>,
     end: End,
     request: Request<Boxed<M>>,
     back: &mut Back<M>,
-) -> Result<Twins, ChainFault>
+) -> Result<A, ChainFault>
     requires may { MayBegin chain.old.image end request }
     requires own { first_that_holds (own_refusals chain.old.image end request) ≡ None }
     requires empty { back.old.items ≡ [] }
-    ensures begins { Begins M.Kind.means chain.old.image end request result chain.new.image }
+    ensures begins { Begins M.Kind.means chain.old.image end request (said A.says result) chain.new.image }
     ensures back { back.new.items ≡ handed_out (begun_of M.Kind.means chain.old.image end request).out }
 {
     match request {
@@ -316,7 +325,7 @@ pub(crate) fn begin<M: ModuleOf>(
         } => begin_getpmsg(chain, end, maxctl, maxdat, band, flag),
         Request::Read { max } => begin_read(chain, end, max),
         Request::Write { dat } => begin_write(chain, end, dat),
-        Request::Push { instance } => Ok(Twins::plain(push(chain, end, instance))),
+        Request::Push { instance } => Ok(A::plain(push(chain, end, instance))),
         Request::Peek {
             maxctl,
             maxdat,

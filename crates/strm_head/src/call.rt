@@ -16,7 +16,7 @@ use crate::beginning::begin;
 use crate::outcome::pushed;
 use arrayvec::ArrayVec;
 use std::alloc::Global;
-use strm_call::{Acknowledged, Refusal, Reply, Request, Twins};
+use strm_call::{Acknowledged, Refusal, Replied, Reply, Request};
 use strm_chain::{Chain, ChainFault, MOST_MODULES, Settled};
 use strm_ioctl::{
     acknowledged, find_refusal, flush_refusal, getband_refusal, look_refusal, pop_refusal,
@@ -174,7 +174,7 @@ fn awaits_answer<P>(request: &Request<P>) -> bool
 }
 
 /// Breaks the chain, as memory was wanting after a change.
-fn broken<M: ModuleOf>(chain: &mut Chain<M>) -> Answered
+fn broken<M: ModuleOf, A: Replied>(chain: &mut Chain<M>) -> Answered<A>
     ensures answer { result.answer ≡ Answer.Broke }
     ensures moves { result.moves ≡ [] }
     ensures looks { result.looks ≡ 0 }
@@ -185,8 +185,8 @@ fn broken<M: ModuleOf>(chain: &mut Chain<M>) -> Answered
 }
 
 /// Runs services after a call was begun, until no queue must move. On a broken chain there are none.
-fn finish<M: ModuleOf>(chain: &mut Chain<M>, end: End, reply: Twins) -> Answered
-    ensures finishes { Finishes M.Kind.means end (begun chain.old.image reply) result.answer result.moves [] chain.new.image }
+fn finish<M: ModuleOf, A: Replied>(chain: &mut Chain<M>, end: End, reply: A) -> Answered<A>
+    ensures finishes { Finishes M.Kind.means end (begun chain.old.image (A.says reply)) result.answer result.moves [] chain.new.image }
     ensures broken { result.answer ≡ Answer.Broke → chain.old.image.broken ≡ false }
     ensures looks { IsLooked result.answer result.moves result.looks }
     ensures bound { IsCalm M.Kind.means → IsBounded chain.old.image result.answer result.moves result.looks chain.new.image }
@@ -214,7 +214,7 @@ fn answer_of(alloc: Global, kept: &Option<BoxedMessage>) -> Result<Acknowledged,
 }
 
 /// Runs services after an ioctl was sent, until no queue must move, and takes its answer.
-fn finish_ioctl<M: ModuleOf>(chain: &mut Chain<M>, end: End) -> Answered
+fn finish_ioctl<M: ModuleOf, A: Replied>(chain: &mut Chain<M>, end: End) -> Answered<A>
     requires { chain.old.image.broken ≡ false }
     ensures finishes { Finishes M.Kind.means end (begun_ioctl chain.old.image) result.answer result.moves [] chain.new.image }
     ensures looks { IsLooked result.answer result.moves result.looks }
@@ -230,18 +230,18 @@ fn finish_ioctl<M: ModuleOf>(chain: &mut Chain<M>, end: End) -> Answered
     };
     let answer = acknowledged(chain.end_ioctl(end).map(BoxedMessage::into_message));
     Answered::done(
-        Twins::new(Reply::Str { answer }, Reply::Str { answer: twin }),
+        A::new(Reply::Str { answer }, Reply::Str { answer: twin }),
         settled,
     )
 }
 
 /// Begins and finishes a call that none of the refusals 1 to 9 and 11 refuses.
-pub(crate) fn perform<M: ModuleOf>(
+pub(crate) fn perform<M: ModuleOf, A: Replied>(
     chain: &mut Chain<M>,
     end: End,
     request: Request<Boxed<M>>,
     back: &mut Back<M>,
-) -> Answered
+) -> Answered<A>
     requires kept { IsKept chain.old.image }
     requires unrefused { refusal_of chain.old.image end request ≡ None }
     requires empty { back.old.items ≡ [] }
@@ -254,7 +254,7 @@ pub(crate) fn perform<M: ModuleOf>(
     let alloc = chain.alloc();
     let is_quiet = changes_no_queue(&request);
     let awaits = awaits_answer(&request);
-    match begin(chain, end, request, back) {
+    match begin::<M, A>(chain, end, request, back) {
         Ok(reply) if is_quiet => Answered::done(reply, Settled::none(alloc)),
         Ok(reply) if awaits => {
             drop(reply);
@@ -267,12 +267,12 @@ pub(crate) fn perform<M: ModuleOf>(
 }
 
 /// One call, refused or begun and finished, with the modules that come back.
-pub(crate) fn answer<M: ModuleOf>(
+pub(crate) fn answer<M: ModuleOf, A: Replied>(
     chain: &mut Chain<M>,
     end: End,
     request: Request<Boxed<M>>,
     back: &mut Back<M>,
-) -> Answered
+) -> Answered<A>
     requires kept { IsKept chain.old.image }
     requires empty { back.old.items ≡ [] }
     ensures answers { Answers M.Kind.means chain.old.image end request result.answer result.moves (out_of M.Kind.means chain.old.image end request result.answer) chain.new.image }

@@ -19,6 +19,6 @@ pub use outcome::{Arrived, Outcome};
 pub use stream::Stream;
 pub use strm_call::{
     Acknowledged, Answer, Event, GetFlag, MAX_CONTROL, MAX_DATA, MOST_NAMES, More, Name, Peeked,
-    Priority, PutFlag, Received, Refusal, Reply, Request, Wanted,
+    Priority, PutFlag, Received, Refusal, Replied, Reply, Request, Twins, Wanted,
 };
 pub use strm_chain::{Driver, MOST_MODULES, Moves, Place};

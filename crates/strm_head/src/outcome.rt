@@ -15,9 +15,6 @@ use strm_msg::Message;
 pub struct Outcome<M: ModuleOf> {
     /// The answer.
     pub answer: Answer,
-    /// An equal answer, for a record of the call. Its memory was found before the call changed
-    /// anything; for an ioctl, when its answer had come.
-    pub twin: Answer,
     /// The modules that come back, each as `Some`: that of a push that was refused, or those that a
     /// pop or a close has taken out, topmost first, also where the stream then broke.
     pub back: ArrayVec<Option<Boxed<M>>, MOST_MODULES>,
@@ -65,15 +62,13 @@ impl<M: ModuleOf> Outcome<M> {
     /// What a call answered, with the modules that come back.
     pub(crate) fn of(answered: Answered, back: Back<M>) -> Outcome<M>
         ensures answer { result.answer ≡ answered.answer }
-        ensures twin { result.twin ≡ result.answer }
         ensures moves { result.moves ≡ answered.moves }
         ensures back { result.back ≡ back }
         ensures looks { result.looks ≡ answered.looks }
     {
-        let (answer, twin, settled) = answered.into_parts();
+        let (answer, (), settled) = answered.into_parts();
         Outcome {
             answer,
-            twin,
             back,
             moves: settled.moves,
             looks: settled.looks,

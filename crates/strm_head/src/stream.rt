@@ -20,7 +20,7 @@ use crate::outcome::{Arrived, Outcome};
 use arrayvec::ArrayVec;
 use std::alloc::Global;
 use std::marker::Model;
-use strm_call::{Name, Request};
+use strm_call::{Name, Replied, Request};
 use strm_chain::{Chain, Driver, MOST_MODULES};
 use strm_ioctl::names_of;
 use strm_module::{Boxed, ModuleOf, Shape};
@@ -120,25 +120,25 @@ impl<M: ModuleOf> Stream<M> {
     /// put in or taken out their modules before memory can be wanting.
     pub fn apply(&mut self, end: End, request: Request<Boxed<M>>) -> Outcome<M>
         ensures step { Step M.Kind.means self.old end (Events.Asked request) result.answer result.moves (out_of M.Kind.means self.old end request result.answer) self.new }
-        ensures twin { result.twin ≡ result.answer }
         ensures back { result.back.items ≡ back_of M.Kind.means self.old end request result.answer }
         ensures looks { IsLooked result.answer result.moves result.looks }
         ensures bound { IsCalm M.Kind.means → IsBounded (begun_of M.Kind.means self.old end request).image result.answer result.moves result.looks self.new }
         ensures memory { takes_no_memory request ≡ true → wants_memory result.answer ≡ false }
     {
         let mut back = ArrayVec::new();
-        let answered = self.call(end, request, &mut back);
+        let answered: Answered = self.call(end, request, &mut back);
         Outcome::of(answered, back)
     }
 
     /// One call on an end, as `apply` makes it, whose modules come back in `back`: each as `Some`, topmost
-    /// first.
-    pub fn call(
+    /// first. With `Twins` there is an equal answer too, as for a record of the call: its memory was found before the call changed
+    /// anything; for an ioctl, when its answer had come.
+    pub fn call<A: Replied>(
         &mut self,
         end: End,
         request: Request<Boxed<M>>,
         back: &mut ArrayVec<Option<Boxed<M>>, MOST_MODULES>,
-    ) -> Answered
+    ) -> Answered<A>
         requires { back.old.items ≡ [] }
         ensures step { Step M.Kind.means self.old end (Events.Asked request) result.answer result.moves (out_of M.Kind.means self.old end request result.answer) self.new }
         ensures back { back.new.items ≡ back_of M.Kind.means self.old end request result.answer }

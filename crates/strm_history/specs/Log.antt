@@ -30,6 +30,10 @@ pub record LogValue (K : Type 0) : Type 0 where
   pub image : Image K
   pub history : List (Entry K)
 
+-- the caller has an equal answer
+abbrev pub Equals : Answer → Answer → Type 0
+Equals has answer = has ≡ answer
+
 -- for kinds of any meaning
 module _ {K : Type 0} (means : Meaning K) where
   -- one step more, by this caller or line, to this event at this end, with this answer: the history has it at its end
@@ -51,10 +55,11 @@ module _ {K : Type 0} (means : Meaning K) where
     pub handed : flat_map serial_of back ≡ due_back enters.entry.event answer enters.entry.out.items
     pub shown : IfSome receipt (λ r. r ≡ record { caller = caller; number = number; entry = enters.entry })
 
-  -- the caller's call of this number is made, or comes back and changes nothing
-  abbrev pub CallsBy : LogValue K → ℕ → ℕ → Call (Shape K) → Called (Shape K) K → LogValue K → Type 0
-  CallsBy old caller number call (Done answer back receipt) new = IsCalled old caller number call answer back.items receipt new
-  CallsBy old caller number call (NoRoom same) new = (same ≡ call) × (new ≡ old)
+  -- the caller's call of this number is made, and what its caller has of the answer agrees with it, or it comes back and changes nothing
+  abbrev pub CallsBy : {A : Type 0} → (A → Answer → Type 0) → LogValue K → ℕ → ℕ → Call (Shape K) → Called (Shape K) K A → LogValue K → Type 0
+  CallsBy Agrees old caller number call (Done has back receipt) new =
+      (answer : Answer) × Agrees has answer × IsCalled old caller number call answer back.items receipt new
+  CallsBy Agrees old caller number call (NoRoom same) new = (same ≡ call) × (new ≡ old)
 
   -- a message that came in: a step that the history has
   pub record HasLanded (old : LogValue K) (m : Msg) (new : LogValue K) : Type 0 where

@@ -3,7 +3,7 @@ ghost use Rattle.std.specs.Prelude.{◌≡◌, ◌↔◌, true, false, [], IfOk,
 ghost use Rattle.strm_msg.specs.Kind.{is_from_line};
 ghost use Rattle.strm_call.specs.Setup.{is_fit};
 ghost use Rattle.strm_history.specs.History.{Legal};
-ghost use Rattle.strm_history.specs.Log.{CallsBy, Lands};
+ghost use Rattle.strm_history.specs.Log.{CallsBy, Equals, Lands};
 ghost use Rattle.strm_call.specs.declared.event.Event.TheVariants.{Asked};
 ghost use Rattle.strm_history.specs.Serials.{AreAccounted};
 ghost use Rattle.strm_history.specs.Opened.{opened};
@@ -11,9 +11,9 @@ ghost use Rattle.strm_history.specs.Opened.{opened};
 use arrayvec::ArrayVec;
 use std::alloc::Global;
 use std::marker::Model;
-use strm_call::{Call, Setup};
+use strm_call::{Call, Replied, Setup, Twins};
 use strm_entry::{Called, Entry, Kept, Landed, Room, room_for, room_for_arrival, taken};
-use strm_head::{Arrived, NewFault, Stream};
+use strm_head::{Answered, Arrived, NewFault, Stream};
 use strm_module::{Boxed, ModuleOf};
 use strm_msg::Message;
 use strm_once::Cells;
@@ -66,7 +66,8 @@ impl<M: ModuleOf> Log<M> {
     }
 
     /// One call of a caller, its call of this number: a step of the stream, and an entry of the history that has the
-    /// caller, the call and its answer, which the receipt shows. Whoever counts a caller's calls gives the number.
+    /// caller, the call and its answer, which the receipt shows. The caller has an equal answer. Whoever counts a caller's calls
+    /// gives the number.
     ///
     /// Room for the entry is found first, and the request is copied for it: where memory is wanting for that, the call
     /// comes back and nothing is changed.
@@ -76,18 +77,23 @@ impl<M: ModuleOf> Log<M> {
         number: u64,
         call: Call<Boxed<M>>,
     ) -> Called<Boxed<M>, M::Kind>
-        ensures { CallsBy M.Kind.means self.old caller number call result self.new }
+        ensures { CallsBy M.Kind.means Equals self.old caller number call result self.new }
     {
         match room_for(self.alloc, caller, number, &call) {
-            Ok(room) => self.enter(call, room),
+            Ok(room) => self.enter::<Twins>(call, room),
             Err(_) => Called::NoRoom(call),
         }
     }
 
-    /// One call, as `call` makes it, with room that was found for its entry before, as where a lock is held for the call.
-    pub fn enter(&mut self, call: Call<Boxed<M>>, room: Room<M::Kind>) -> Called<Boxed<M>, M::Kind>
+    /// One call, as `call` makes it, with room that was found for its entry before, as where a lock is held for the call. With
+    /// `Twins` the caller has an equal answer; with `Reply` it has none, and the answer stands in the history alone.
+    pub fn enter<A: Replied>(
+        &mut self,
+        call: Call<Boxed<M>>,
+        room: Room<M::Kind>,
+    ) -> Called<Boxed<M>, M::Kind, A::Beside>
         requires { (room.end ≡ call.end) × (room.event ≡ Asked call.request) }
-        ensures { CallsBy M.Kind.means self.old room.caller room.number call result self.new }
+        ensures { CallsBy M.Kind.means A.Agrees self.old room.caller room.number call result self.new }
     {
         let Ok(cell) = self.cells.next(self.alloc) else {
             drop(room);
@@ -100,11 +106,12 @@ impl<M: ModuleOf> Log<M> {
         };
         let Call { end, request } = call;
         let mut back = ArrayVec::new();
-        let (answer, twin, settled) = self.stream.call(end, request, &mut back).into_parts();
-        let (kept, receipt) = room.fill(cell, twin, settled.moves, settled.looks, &back);
+        let answered: Answered<A> = self.stream.call(end, request, &mut back);
+        let (answer, beside, settled) = answered.into_parts();
+        let (kept, receipt) = room.fill(cell, answer, settled.moves, settled.looks, &back);
         self.history.push_reserved(kept);
         Called::Done {
-            answer,
+            answer: beside,
             back,
             receipt,
         }

@@ -11,16 +11,16 @@ ghost use Rattle.strm_cut.specs.First.{first_of, put_back_if};
 ghost use Rattle.strm_msgio.specs.Take.{peeked_of, is_wanted, is_wanted_in, getmsg_refusals, getpmsg_refusals, priority_of, received_of, getmsg_reply, getpmsg_reply, getmsg_begun, getpmsg_begun, peek_begun};
 
 use std::alloc::Global;
-use strm_call::{GetFlag, More, Peeked, Priority, Received, Refusal, Reply, Twins, Wanted};
+use strm_call::{GetFlag, More, Peeked, Priority, Received, Refusal, Replied, Reply, Wanted};
 use strm_chain::Chain;
 use strm_cut::Cut;
 use strm_module::ModuleOf;
 use strm_msg::{BoxedMessage, Bytes, End, Message, NoMem};
 
-/// What is given of a first message, with an equal reply, and what stays of the message.
+/// What is made of the reply that gives a first message, and what stays of the message.
 #[derive(Drop)]
-struct Taken {
-    twins: Twins,
+struct Taken<A> {
+    reply: A,
     rest: Option<Message>,
 }
 
@@ -100,13 +100,13 @@ fn got_nothing_of(alloc: Global) -> Reply
 }
 
 /// What a getmsg takes of a message. Refused for want of memory alone.
-fn taken_of(
+fn taken_of<A: Replied>(
     alloc: Global,
     first: &Message,
     maxctl: Option<u16>,
     maxdat: Option<u16>,
-) -> Result<Taken, NoMem>
-    ensures reply { IfOk result (λ taken. taken.twins ≡ getmsg_reply (Some first.now) maxctl maxdat) }
+) -> Result<Taken<A>, NoMem>
+    ensures reply { IfOk result (λ taken. A.says taken.reply ≡ getmsg_reply (Some first.now) maxctl maxdat) }
     ensures rest { IfOk result (λ taken. taken.rest ≡ (cut_of first.now maxctl maxdat).rest) }
 {
     let flag = priority_of(first);
@@ -122,18 +122,18 @@ fn taken_of(
         flag,
         more,
     };
-    let twins = Twins::of(alloc, reply)?;
-    Ok(Taken { twins, rest })
+    let reply = A::of(alloc, reply)?;
+    Ok(Taken { reply, rest })
 }
 
 /// What a getpmsg takes of a message. Refused for want of memory alone.
-fn taken_with_band(
+fn taken_with_band<A: Replied>(
     alloc: Global,
     first: &Message,
     maxctl: Option<u16>,
     maxdat: Option<u16>,
-) -> Result<Taken, NoMem>
-    ensures reply { IfOk result (λ taken. taken.twins ≡ getpmsg_reply (Some first.now) maxctl maxdat) }
+) -> Result<Taken<A>, NoMem>
+    ensures reply { IfOk result (λ taken. A.says taken.reply ≡ getpmsg_reply (Some first.now) maxctl maxdat) }
     ensures rest { IfOk result (λ taken. taken.rest ≡ (cut_of first.now maxctl maxdat).rest) }
 {
     let flag = received_of(first);
@@ -149,8 +149,8 @@ fn taken_with_band(
         flag,
         more,
     };
-    let twins = Twins::of(alloc, reply)?;
-    Ok(Taken { twins, rest })
+    let reply = A::of(alloc, reply)?;
+    Ok(Taken { reply, rest })
 }
 
 /// Takes the first message away from a head, and puts back what stays of it.
@@ -177,16 +177,20 @@ fn replace_first<M: ModuleOf>(
 }
 
 /// Takes the first message away from a head, puts back what stays of it, and gives what was taken.
-fn take_first<M: ModuleOf>(chain: &mut Chain<M>, end: End, taken: Taken) -> Result<Twins, NoMem>
-    ensures reply { IfOk result (λ reply. reply ≡ taken.twins) }
+fn take_first<M: ModuleOf, A: Replied>(
+    chain: &mut Chain<M>,
+    end: End,
+    taken: Taken<A>,
+) -> Result<A, NoMem>
+    ensures reply { IfOk result (λ reply. reply ≡ taken.reply) }
     ensures image { OnOk result (chain.new.image ≡ with_head chain.old.image end (put_back_if (drop 1 (end_of chain.old.image end).head) taken.rest)) }
     ensures err { OnErr result (chain.new.image ≡ chain.old.image) }
 {
-    let Taken { twins, rest } = taken;
+    let Taken { reply, rest } = taken;
     match replace_first(chain, end, rest) {
-        Ok(()) => Ok(twins),
+        Ok(()) => Ok(reply),
         Err(wanting) => {
-            drop(twins);
+            drop(reply);
             Err(wanting)
         }
     }
@@ -238,20 +242,20 @@ pub fn getpmsg_refusal<M: ModuleOf>(
 ///
 /// Refused for want of memory alone, which is not met where no message is there. Then nothing is
 /// changed.
-pub fn getmsg<M: ModuleOf>(
+pub fn getmsg<M: ModuleOf, A: Replied>(
     chain: &mut Chain<M>,
     end: End,
     maxctl: Option<u16>,
     maxdat: Option<u16>,
-) -> Result<Twins, NoMem>
-    ensures reply { IfOk result (λ reply. reply ≡ (getmsg_begun chain.old.image end maxctl maxdat).reply) }
+) -> Result<A, NoMem>
+    ensures reply { IfOk result (λ reply. A.says reply ≡ (getmsg_begun chain.old.image end maxctl maxdat).reply) }
     ensures image { OnOk result (chain.new.image ≡ (getmsg_begun chain.old.image end maxctl maxdat).image) }
     ensures err { OnErr result (chain.new.image ≡ chain.old.image) }
     ensures empty { (end_of chain.old.image end).head ≡ [] → IsOk result }
 {
     let alloc = chain.alloc();
     let Some(first) = chain.head(end).first() else {
-        return Ok(Twins::new(got_nothing(alloc), got_nothing(alloc)));
+        return Ok(A::new(got_nothing(alloc), got_nothing(alloc)));
     };
     let taken = taken_of(alloc, first, maxctl, maxdat)?;
     take_first(chain, end, taken)
@@ -262,20 +266,20 @@ pub fn getmsg<M: ModuleOf>(
 ///
 /// Refused for want of memory alone, which is not met where no message is there. Then nothing is
 /// changed.
-pub fn getpmsg<M: ModuleOf>(
+pub fn getpmsg<M: ModuleOf, A: Replied>(
     chain: &mut Chain<M>,
     end: End,
     maxctl: Option<u16>,
     maxdat: Option<u16>,
-) -> Result<Twins, NoMem>
-    ensures reply { IfOk result (λ reply. reply ≡ (getpmsg_begun chain.old.image end maxctl maxdat).reply) }
+) -> Result<A, NoMem>
+    ensures reply { IfOk result (λ reply. A.says reply ≡ (getpmsg_begun chain.old.image end maxctl maxdat).reply) }
     ensures image { OnOk result (chain.new.image ≡ (getpmsg_begun chain.old.image end maxctl maxdat).image) }
     ensures err { OnErr result (chain.new.image ≡ chain.old.image) }
     ensures empty { (end_of chain.old.image end).head ≡ [] → IsOk result }
 {
     let alloc = chain.alloc();
     let Some(first) = chain.head(end).first() else {
-        return Ok(Twins::new(got_nothing_of(alloc), got_nothing_of(alloc)));
+        return Ok(A::new(got_nothing_of(alloc), got_nothing_of(alloc)));
     };
     let taken = taken_with_band(alloc, first, maxctl, maxdat)?;
     take_first(chain, end, taken)

@@ -1,11 +1,12 @@
 -- What a read finds, message by message.
-use Rattle.std.proofs.Common.{◌≡◌, ◌∙◌, inl, inr, ℕ, ◌+◌, ◌-◌, ◌<◌, ◌≤◌, Bool, true, false, cond, nat_lt, Option, Some, None, List, [], ◌∷◌, ◌++◌, length, take, drop, slice_get, append_assoc, ap, sym, refl, suc, zero, arith}
+use Rattle.std.proofs.Common.{◌≡◌, ◌∙◌, inl, inr, ℕ, ◌+◌, ◌-◌, ◌<◌, ◌≤◌, Bool, true, false, cond, nat_lt, Option, Some, None, List, [], ◌∷◌, ◌++◌, length, take, drop, slice_get, Result, Ok, Err, IfOk, append_assoc, ap, sym, refl, suc, zero, arith}
 use Rattle.std.specs.List.{take_while, prefix_len}
+use Rattle.std.specs.Prelude.{is_some, IfSome}
 use Rattle.std.proofs.lemmas.Bool.{cases_lt, lt-ltb, le-leb, lt-leb}
 use Rattle.std.proofs.lemmas.List.{append-nil, length-append, length-take, take_all, take-append-le, take_more, drop_more, drop-drop}
 use Rattle.std.proofs.lemmas.List.Concat.{flat_map-append}
 use Rattle.std.proofs.lemmas.List.Sums.{take_while-cons}
-use Rattle.std.proofs.lemmas.Option.{slice_get_within, get_or_from_slice_get}
+use Rattle.std.proofs.lemmas.Option.{same_Some, slice_get_within, get_or_from_slice_get}
 use Rattle.strm_msg.specs.Message.{Msg, Part, part_len}
 use Rattle.strm_msg.specs.declared.words.End.{End}
 use Rattle.strm_msg.specs.declared.words.End.TheVariants.{A, B}
@@ -13,9 +14,10 @@ use Rattle.strm_msg.specs.declared.words.Prot.{Prot}
 use Rattle.strm_msg.specs.declared.words.ReadMode.{ReadMode}
 use Rattle.strm_msg.specs.declared.words.ReadMode.TheVariants.{Rnorm, Rmsgn, Rmsgd}
 use Rattle.strm_ends.specs.Image.{Image, end_of, with_head}
+use Rattle.strm_call.specs.declared.answer.Reply.{Reply}
 use Rattle.strm_call.specs.declared.answer.Reply.TheVariants as Replies
 use Rattle.strm_cut.specs.First.{put_back_if}
-use Rattle.strm_read.specs.Read.{read_begun, bytes_in, bytes_read, bytes_of_all, goes_on_to, reached, whole_in, rest_of, cut_first, read_of}
+use Rattle.strm_read.specs.Read.{read_begun, bytes_of_first, IsAlone, Reading, bytes_in, bytes_read, bytes_of_all, goes_on_to, reached, whole_in, rest_of, cut_first, read_of}
 
 -- the front of two lists one after the other
 take_of_two : {X : Type 0} (n : ℕ) (xs ys : List X) → take n (xs ++ ys) ≡ take n xs ++ take (n - length xs) ys
@@ -190,6 +192,73 @@ module _ (mode : ReadMode) (prot : Prot) (n : ℕ) (q : List Msg) (count : ℕ) 
 pub head_drops : {K : Type 0} (image now new : Image K) (e : End) (i : ℕ) → now ≡ with_head image e (drop i (end_of image e).head) → new ≡ with_head now e (drop 1 (end_of now e).head) → new ≡ with_head image e (drop (i + 1) (end_of image e).head)
 head_drops image now new A i was e = e ∙ rw was (ap (with_head image A) (drop-drop 1 i image.a.head))
 head_drops image now new B i was e = e ∙ rw was (ap (with_head image B) (drop-drop 1 i image.b.head))
+
+pub no_part : (part : Part) → false ≡ is_some part → part ≡ None
+no_part None none = refl
+no_part (Some bytes) none = cc
+
+-- a message that is the only one, and has data alone
+pub is_alone : (n : ℕ) (q : List Msg) (m : Msg) → length q ≡ 1 → Some m ≡ slice_get q 0 → m.ctl ≡ None → is_some m.dat ≡ true → part_len m.dat ≤ n → IsAlone n q
+is_alone n [] m one first bare has fits = cc
+is_alone n (x ∷ []) m one first bare has fits =
+    let same : m ≡ x = same_Some m x first in
+    record {
+      m = m;
+      only = ap (λ y. y ∷ []) (sym same);
+      bare = bare;
+      given = has;
+      fits = fits;
+    }
+is_alone n (x ∷ y ∷ q) m one first bare has fits = absurd (omega (arith, one))
+
+-- of such a message a read gives the data
+data_alone : (prot : Prot) (m : Msg) → m.ctl ≡ None → bytes_read prot m ≡ bytes_in m.dat
+data_alone Prot.Norm m bare = refl
+data_alone Prot.Dat m bare = rw bare refl
+data_alone Prot.Dis m bare = refl
+
+reach_alone : (mode : ReadMode) (prot : Prot) (m : Msg) → reached mode prot (m ∷ []) ≡ m ∷ []
+reach_alone Rnorm prot m = elim (nat_lt 0 (length (bytes_read prot m))) as (λ b. m ∷ cond b (take_while (goes_on_to prot) []) [] ≡ m ∷ []) [
+  | true ↦ refl
+  | false ↦ refl
+]
+reach_alone Rmsgn prot m = refl
+reach_alone Rmsgd prot m = refl
+
+-- a reply that gives the data
+given_part : (part : Part) (reply : Reply) → is_some part ≡ true → IfSome part (λ bytes. reply ≡ Replies.Read bytes) → reply ≡ Replies.Read (bytes_in part)
+given_part None reply has said = cc
+given_part (Some bytes) reply has said = said
+
+read_alone : (mode : ReadMode) (prot : Prot) (n : ℕ) (m : Msg) → m.ctl ≡ None → part_len m.dat ≤ n → read_of mode prot n (m ∷ []) ≡ record { bytes = bytes_in m.dat; stays = [] }
+read_alone mode prot n m bare fits =
+    let size : length (bytes_in m.dat) ≤ n = rw (length_of_part m.dat) fits in
+    rw (reach_alone mode prot m, data_alone prot m bare, le-leb (length (bytes_in m.dat)) n size, append-nil (bytes_in m.dat), take_all n (bytes_in m.dat) size) refl
+
+-- the reply of a read of the only message, and what stays
+one_reply : {K : Type 0} (image : Image K) (e : End) (n : ℕ) (messages : List Msg) (reply : Reply) → (n ≡ 0 → ⊥) → messages ≡ (end_of image e).head → IsAlone n messages → IfSome (bytes_of_first (end_of image e).head) (λ bytes. reply ≡ Replies.Read bytes) → reply ≡ (read_begun image e n).reply
+one_reply image e zero messages reply some is alone said = absurd (some refl)
+one_reply image e (suc n) messages reply some is alone said =
+    let one = sym is ∙ alone.only in
+    let state = (end_of image e).state in
+    let reads = read_alone state.mode state.prot (suc n) alone.m alone.bare alone.fits in
+    rw one (given_part alone.m.dat reply alone.given (rw one at said) ∙ sym (ap (λ (r : Reading). Replies.Read r.bytes) reads))
+
+pub alone_reply : {K A X : Type 0} (image : Image K) (e : End) (n : ℕ) (messages : List Msg) (says : A → Reply) (r : Result A X) → (n ≡ 0 → ⊥) → messages ≡ (end_of image e).head → IsAlone n messages → IfOk r (λ reply. IfSome (bytes_of_first (end_of image e).head) (λ bytes. says reply ≡ Replies.Read bytes)) → IfOk r (λ reply. says reply ≡ (read_begun image e n).reply)
+alone_reply image e n messages says (Ok reply) some is alone said = one_reply image e n messages (says reply) some is alone said
+alone_reply image e n messages says (Err wanting) some is alone said = tt
+
+pub alone_image : {K : Type 0} (image new : Image K) (e : End) (n : ℕ) (messages : List Msg) → (n ≡ 0 → ⊥) → messages ≡ (end_of image e).head → IsAlone n messages → new ≡ with_head image e (drop 1 (end_of image e).head) → new ≡ (read_begun image e n).image
+alone_image image new e zero messages some is alone made = absurd (some refl)
+alone_image image new e (suc n) messages some is alone made =
+    let one = sym is ∙ alone.only in
+    let state = (end_of image e).state in
+    let reads = read_alone state.mode state.prot (suc n) alone.m alone.bare alone.fits in
+    rw one ((rw one at made) ∙ sym (ap (λ (r : Reading). with_head image e r.stays) reads))
+
+-- it has data
+pub alone_data : (n : ℕ) (messages : List Msg) → IsAlone n messages → is_some (bytes_of_first messages) ≡ true
+alone_data n messages alone = rw alone.only alone.given
 
 -- the reply of a read of some bytes
 pub read_reply : {K : Type 0} (image : Image K) (e : End) (n : ℕ) (bytes : List ℕ) (messages : List Msg) → (n ≡ 0 → ⊥) → messages ≡ (end_of image e).head → bytes ≡ (read_of (end_of image e).state.mode (end_of image e).state.prot n messages).bytes → Replies.Read bytes ≡ (read_begun image e n).reply

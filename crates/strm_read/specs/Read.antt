@@ -1,6 +1,6 @@
 -- What a read gives of the messages at the head, and what stays of them (read(2); streamio(7), I_SRDOPT).
-use Rattle.std.specs.Prelude.{ℕ, ◌-◌, ◌&&◌, not, nat_le, nat_lt, Bool, true, false, Option, Some, None, List, [], ◌∷◌, ◌++◌, length, take, drop, take_while, flat_map, slice_get, option_map, suc, zero, if◌then◌else◌, is_some}
-use Rattle.strm_msg.specs.Message.{Msg, Part}
+use Rattle.std.specs.Prelude.{◌≡◌, ◌≤◌, ℕ, ◌-◌, ◌&&◌, not, nat_le, nat_lt, Bool, true, false, Option, Some, None, List, [], ◌∷◌, ◌++◌, length, take, drop, take_while, flat_map, slice_get, option_map, suc, zero, if◌then◌else◌, is_some}
+use Rattle.strm_msg.specs.Message.{Msg, Part, part_len}
 use Rattle.strm_msg.specs.declared.words.End.{End}
 use Rattle.strm_msg.specs.declared.words.Prot.{Prot}
 use Rattle.strm_msg.specs.declared.words.ReadMode.{ReadMode}
@@ -68,6 +68,19 @@ cut_first mode prot (suc n) (Some m) q = put_back_if (drop 1 q) (rest_of mode pr
 -- the data of the first message (no public clause cites it)
 abbrev pub data_of_first : List Msg → Option Part
 data_of_first q = option_map (λ m. m.dat) (slice_get q 0)
+
+-- the bytes of the first message's data (no public clause cites it)
+abbrev pub bytes_of_first : List Msg → Option (List ℕ)
+bytes_of_first [] = None
+bytes_of_first (m ∷ q) = m.dat
+
+-- one message waits, which has data alone, n bytes or fewer (no public clause cites it)
+pub record IsAlone (n : ℕ) (q : List Msg) : Type 0 where
+  pub m : Msg
+  pub only : q ≡ m ∷ []
+  pub bare : m.ctl ≡ None
+  pub given : is_some m.dat ≡ true
+  pub fits : part_len m.dat ≤ n
 
 -- what is read of a list of messages, and what stays of it
 pub record Reading : Type 0 where

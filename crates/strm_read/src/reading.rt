@@ -1,14 +1,14 @@
 //! Read: the bytes of the messages at the head are taken, and what stays of them is put back.
-ghost use Rattle.std.specs.Prelude.{◌≡◌, ◌↔◌, true, Some, [], IsOk, ◌≤◌, ◌++◌, OnOk, OnErr, IfOk, length, take, drop, slice_get, option_copied};
+ghost use Rattle.std.specs.Prelude.{◌≡◌, ◌↔◌, true, Some, [], IsOk, is_some, ◌≤◌, ◌++◌, OnOk, OnErr, IfOk, IfSome, length, take, drop, slice_get, option_copied};
 ghost use Rattle.strm_msg.specs.Message.{part_len};
 ghost use Rattle.strm_ends.specs.Image.{end_of, with_head, KeepsHeadRoom};
 ghost use Rattle.strm_call.specs.declared.answer.Reply.TheVariants as Replies;
 ghost use Rattle.strm_call.specs.Refusal.{first_that_holds};
 ghost use Rattle.strm_cut.specs.First.{put_back_if};
-ghost use Rattle.strm_read.specs.Read.{data_of_first, bytes_in, bytes_read, bytes_of_all, is_unread, goes_on_to, reached, whole_in, rest_of, read_of, read_refusals, read_begun};
+ghost use Rattle.strm_read.specs.Read.{bytes_of_first, data_of_first, IsAlone, bytes_in, bytes_read, bytes_of_all, is_unread, goes_on_to, reached, whole_in, rest_of, read_of, read_refusals, read_begun};
 
 use std::alloc::Global;
-use strm_call::{Refusal, Reply, Twins};
+use strm_call::{Refusal, Replied, Reply};
 use strm_chain::Chain;
 use strm_cut::Cut;
 use strm_module::ModuleOf;
@@ -258,11 +258,11 @@ fn reply_of(bytes: Vec<u8>) -> Reply
     }
 }
 
-/// What a read of nothing gives, and an equal reply. Takes no memory.
-fn nothing_read(alloc: Global) -> Twins
-    ensures { result ≡ Replies.Read [] }
+/// What a read of nothing gives. Takes no memory.
+fn nothing_read<A: Replied>(alloc: Global) -> A
+    ensures { A.says result ≡ Replies.Read [] }
 {
-    Twins::new(reply_of(Vec::new(alloc)), reply_of(Vec::new(alloc)))
+    A::new(reply_of(Vec::new(alloc)), reply_of(Vec::new(alloc)))
 }
 
 /// Whether the first message has data, which are these bytes.
@@ -278,11 +278,11 @@ fn is_data_of_first(queue: &BandQueue, bytes: &[u8]) -> bool
     }
 }
 
-/// Takes the first message of a head away, and gives its data, which a read has found. The one reply has what was found, the
-/// equal one what the message had. Takes no memory.
-fn give_first<M: ModuleOf>(chain: &mut Chain<M>, end: End, bytes: Vec<u8>) -> Twins
+/// Takes the first message of a head away, and gives its data, which a read has found. The reply has what the
+/// message had, an equal one what was found. Takes no memory.
+fn give_first<M: ModuleOf, A: Replied>(chain: &mut Chain<M>, end: End, bytes: Vec<u8>) -> A
     requires { data_of_first (end_of chain.old.image end).head ≡ Some (Some bytes.items) }
-    ensures reply { result ≡ Replies.Read bytes.items }
+    ensures reply { A.says result ≡ Replies.Read bytes.items }
     ensures image { chain.new.image ≡ with_head chain.old.image end (drop 1 (end_of chain.old.image end).head) }
 {
     let dat = match chain.take_head(end) {
@@ -290,14 +290,48 @@ fn give_first<M: ModuleOf>(chain: &mut Chain<M>, end: End, bytes: Vec<u8>) -> Tw
         None => unreachable!(),
     };
     match dat {
-        Some(dat) => Twins::new(reply_of(bytes), Reply::Read { dat }),
+        Some(dat) => A::new(Reply::Read { dat }, reply_of(bytes)),
+        None => unreachable!(),
+    }
+}
+
+/// Whether one message waits, which has data alone, and a read of at most `max` bytes gives them all.
+fn waits_alone(queue: &BandQueue, max: u16) -> bool
+    ensures { result ≡ true → IsAlone max queue.now.messages }
+{
+    let Some(m) = queue.first() else {
+        return false;
+    };
+    if m.ctl.is_some() {
+        return false;
+    }
+    let Some(dat) = &m.dat else {
+        return false;
+    };
+    queue.len() == 1 && dat.len() <= usize::from(max)
+}
+
+/// Gives the data of the one message that waits, as it has them, and takes it away. Takes no memory.
+fn give_alone<M: ModuleOf, A: Replied>(chain: &mut Chain<M>, end: End) -> Result<A, NoMem>
+    requires alone { A.is_alone ≡ true }
+    requires data { is_some (bytes_of_first (end_of chain.old.image end).head) ≡ true }
+    ensures reply { IfOk result (λ reply. IfSome (bytes_of_first (end_of chain.old.image end).head) (λ bytes. A.says reply ≡ Replies.Read bytes)) }
+    ensures image { chain.new.image ≡ with_head chain.old.image end (drop 1 (end_of chain.old.image end).head) }
+    ensures ok { IsOk result }
+{
+    let dat = match chain.take_head(end) {
+        Some(m) => m.into_message().dat,
+        None => unreachable!(),
+    };
+    match dat {
+        Some(dat) => A::of(chain.alloc(), Reply::Read { dat }),
         None => unreachable!(),
     }
 }
 
 /// Gives what a read has found, takes it away from the head, and puts back what stays.
-fn give<M: ModuleOf>(chain: &mut Chain<M>, end: End, found: Found) -> Result<Twins, NoMem>
-    ensures reply { IfOk result (λ reply. reply ≡ Replies.Read found.bytes.items) }
+fn give<M: ModuleOf, A: Replied>(chain: &mut Chain<M>, end: End, found: Found) -> Result<A, NoMem>
+    ensures reply { IfOk result (λ reply. A.says reply ≡ Replies.Read found.bytes.items) }
     ensures image { OnOk result (chain.new.image ≡ with_head chain.old.image end (put_back_if (drop found.gone (end_of chain.old.image end).head) found.rest)) }
     ensures err { OnErr result (chain.new.image ≡ chain.old.image) }
 {
@@ -306,11 +340,11 @@ fn give<M: ModuleOf>(chain: &mut Chain<M>, end: End, found: Found) -> Result<Twi
         drop(rest);
         return Ok(give_first(chain, end, bytes));
     }
-    let twins = Twins::of(chain.alloc(), reply_of(bytes))?;
+    let reply = A::of(chain.alloc(), reply_of(bytes))?;
     match replace_front(chain, end, gone, rest) {
-        Ok(()) => Ok(twins),
+        Ok(()) => Ok(reply),
         Err(wanting) => {
-            drop(twins);
+            drop(reply);
             Err(wanting)
         }
     }
@@ -321,8 +355,8 @@ fn give<M: ModuleOf>(chain: &mut Chain<M>, end: End, found: Found) -> Result<Twi
 ///
 /// Refused for want of memory alone, which is not met where there is nothing to read. Then nothing is
 /// changed.
-pub fn read<M: ModuleOf>(chain: &mut Chain<M>, end: End, max: u16) -> Result<Twins, NoMem>
-    ensures reply { IfOk result (λ reply. reply ≡ (read_begun chain.old.image end max).reply) }
+pub fn read<M: ModuleOf, A: Replied>(chain: &mut Chain<M>, end: End, max: u16) -> Result<A, NoMem>
+    ensures reply { IfOk result (λ reply. A.says reply ≡ (read_begun chain.old.image end max).reply) }
     ensures image { OnOk result (chain.new.image ≡ (read_begun chain.old.image end max).image) }
     ensures err { OnErr result (chain.new.image ≡ chain.old.image) }
     ensures nothing { max ≡ 0 → IsOk result }
@@ -331,6 +365,9 @@ pub fn read<M: ModuleOf>(chain: &mut Chain<M>, end: End, max: u16) -> Result<Twi
     let alloc = chain.alloc();
     if max == 0 || chain.head(end).is_empty() {
         return Ok(nothing_read(alloc));
+    }
+    if A::is_alone() && waits_alone(chain.head(end), max) {
+        return give_alone(chain, end);
     }
     let mode = chain.state(end).mode;
     let prot = chain.state(end).prot;

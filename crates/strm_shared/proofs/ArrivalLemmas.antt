@@ -6,6 +6,7 @@ use Rattle.strm_msg.specs.declared.words.End.{End}
 use Rattle.strm_module.specs.Kinds.{Meaning}
 use Rattle.strm_module.specs.declared.shape.Shape.{Shape}
 use Rattle.strm_module.specs.Driver.{is_line}
+use Rattle.strm_call.specs.declared.answer.Answer.{Answer}
 use Rattle.strm_call.specs.declared.call.Call.{Call}
 use Rattle.strm_call.specs.declared.event.Event.{Event}
 use Rattle.strm_call.specs.declared.event.Event.TheVariants.{Asked, Arrived}
@@ -43,22 +44,23 @@ module _ {K : Type 0} (means : Meaning K) where
   }
 
   -- a call has let nothing in, and keeps the setup
-  call_arrivals : (old new : LogValue K) (caller nth : ℕ) (call : Call (Shape K)) (result : Called (Shape K) K) → CallsBy means old caller nth call result new → arrivals new.history ≡ arrivals old.history
-  call_arrivals old new caller nth call (Done answer back receipt) by =
-      arrivals_more old.history new.history by.enters.entry (Asked call.request) by.enters.history by.enters.has ∙ append-nil (arrivals old.history)
-  call_arrivals old new caller nth call (NoRoom same) by = ap (λ (l : LogValue K). arrivals l.history) by.1
+  call_arrivals : {A : Type 0} (Agrees : A → Answer → Type 0) (old new : LogValue K) (caller nth : ℕ) (call : Call (Shape K)) (result : Called (Shape K) K A) → CallsBy means Agrees old caller nth call result new → arrivals new.history ≡ arrivals old.history
+  call_arrivals Agrees old new caller nth call (Done has back receipt) by =
+      let enters = by.2.enters in
+      arrivals_more old.history new.history enters.entry (Asked call.request) enters.history enters.has ∙ append-nil (arrivals old.history)
+  call_arrivals Agrees old new caller nth call (NoRoom same) by = ap (λ (l : LogValue K). arrivals l.history) by.1
 
-  call_setup : (old new : LogValue K) (caller nth : ℕ) (call : Call (Shape K)) (result : Called (Shape K) K) → CallsBy means old caller nth call result new → is_line new.setup.driver ≡ is_line old.setup.driver
-  call_setup old new caller nth call (Done answer back receipt) by = ap (λ s. is_line s.driver) by.enters.setup
-  call_setup old new caller nth call (NoRoom same) by = ap (λ (l : LogValue K). is_line l.setup.driver) by.1
+  call_setup : {A : Type 0} (Agrees : A → Answer → Type 0) (old new : LogValue K) (caller nth : ℕ) (call : Call (Shape K)) (result : Called (Shape K) K A) → CallsBy means Agrees old caller nth call result new → is_line new.setup.driver ≡ is_line old.setup.driver
+  call_setup Agrees old new caller nth call (Done has back receipt) by = ap (λ s. is_line s.driver) by.2.enters.setup
+  call_setup Agrees old new caller nth call (NoRoom same) by = ap (λ (l : LogValue K). is_line l.setup.driver) by.1
 
   module _ (calls : ℕ → ℕ → Option (List (End × Event (Shape K)))) (number : ℕ) where
-    pub call_locked : (old new : LogValue K) (seat : SeatValue) (call : Call (Shape K)) (result : Called (Shape K) K) (turns after : TurnsValue) (inlet : InletValue) → CallsBy means old seat.caller (seat.calls + 1) call result new → after ≡ turned number seat result turns → IsNextOf (calls seat.number seat.caller) seat.calls (call.end, Asked call.request) → IsLocked (calls number) number old turns inlet → IsLocked (calls number) number new after inlet
-    call_locked old new seat call result turns after inlet by is next was = record {
-      in_turn = call_keeps means calls number old new seat call result turns after by is next was.in_turn;
-      came_in = call_arrivals old new seat.caller (seat.calls + 1) call result by ∙ was.came_in;
+    pub call_locked : {A : Type 0} (Agrees : A → Answer → Type 0) (old new : LogValue K) (seat : SeatValue) (call : Call (Shape K)) (result : Called (Shape K) K A) (turns after : TurnsValue) (inlet : InletValue) → CallsBy means Agrees old seat.caller (seat.calls + 1) call result new → after ≡ turned number seat result turns → IsNextOf (calls seat.number seat.caller) seat.calls (call.end, Asked call.request) → IsLocked (calls number) number old turns inlet → IsLocked (calls number) number new after inlet
+    call_locked Agrees old new seat call result turns after inlet by is next was = record {
+      in_turn = call_keeps means calls number Agrees old new seat call result turns after by is next was.in_turn;
+      came_in = call_arrivals Agrees old new seat.caller (seat.calls + 1) call result by ∙ was.came_in;
       of = was.of;
-      fed = was.fed ∙ sym (call_setup old new seat.caller (seat.calls + 1) call result by);
+      fed = was.fed ∙ sym (call_setup Agrees old new seat.caller (seat.calls + 1) call result by);
     }
 
     -- so does a message that has left the inlet and came in

@@ -101,21 +101,25 @@ module _ {K : Type 0} (means : Meaning K) where
       made_back old.image call answer entry.moves entry.out.items new.image back (subst (λ (a : Answer). Step means old.image call.end (Asked call.request) a entry.moves entry.out.items new.image) is.enters.answers has) is.comes_back
 
   -- what a caller can tell of it
-  pub hands_back : (old : LogValue K) (caller number : ℕ) (call : Call (Shape K)) (result : Called (Shape K) K) (new : LogValue K) → CallsBy means old caller number call result new → HandsBack call result
-  hands_back old caller number call (Done answer back receipt) new is = called_back old new caller number call answer back.items receipt is
-  hands_back old caller number call (NoRoom same) new is = is.0
+  pub hands_back : {A : Type 0} (Agrees : A → Answer → Type 0) (old : LogValue K) (caller number : ℕ) (call : Call (Shape K)) (result : Called (Shape K) K A) (new : LogValue K) → CallsBy means Agrees old caller number call result new → HandsBack Agrees call result
+  hands_back Agrees old caller number call (Done has back receipt) new is = (is.0, is.1, called_back old new caller number call is.0 back.items receipt is.2)
+  hands_back Agrees old caller number call (NoRoom same) new is = is.0
 
   -- and what its receipt shows
-  pub shows : (old : LogValue K) (seat : SeatValue) (call : Call (Shape K)) (result : Called (Shape K) K) (new : LogValue K) → CallsBy means old seat.caller (seat.calls + 1) call result new → Shows seat call result
-  shows old seat call (Done answer back None) new is = tt
-  shows old seat call (Done answer back (Some r)) new is =
-      let entry : r.entry ≡ is.enters.entry = ap (λ (r : ReceiptValue K). r.entry) is.shown in
-      record {
-        caller = ap (λ (r : ReceiptValue K). r.caller) is.shown;
-        number = ap (λ (r : ReceiptValue K). r.number) is.shown;
-        by = ap (λ (e : Entry K). e.who) entry ∙ is.enters.by;
-        asked = ap (λ (e : Entry K). asked_of e) entry ∙ (λ i. (is.enters.at i, is.enters.has i));
-        answers = ap (λ (e : Entry K). e.answer) entry ∙ is.enters.answers;
-        handed = subst (λ (e : Entry K). flat_map serial_of back.items ≡ due_back e.event answer e.out.items) (sym entry) is.handed;
-      }
-  shows old seat call (NoRoom same) new is = tt
+  pub shows : {A : Type 0} (Agrees : A → Answer → Type 0) (old : LogValue K) (seat : SeatValue) (call : Call (Shape K)) (result : Called (Shape K) K A) (new : LogValue K) → CallsBy means Agrees old seat.caller (seat.calls + 1) call result new → Shows Agrees seat call result
+  shows Agrees old seat call (Done has back None) new is = tt
+  shows Agrees old seat call (Done has back (Some r)) new is =
+      let made = is.2 in
+      let enters = made.enters in
+      let entry : r.entry ≡ enters.entry = ap (λ (r : ReceiptValue K). r.entry) made.shown in
+      let answers : r.entry.answer ≡ is.0 = ap (λ (e : Entry K). e.answer) entry ∙ enters.answers in (
+        subst (λ (a : Answer). Agrees has a) (sym answers) is.1,
+        record {
+          caller = ap (λ (r : ReceiptValue K). r.caller) made.shown;
+          number = ap (λ (r : ReceiptValue K). r.number) made.shown;
+          by = ap (λ (e : Entry K). e.who) entry ∙ enters.by;
+          asked = ap (λ (e : Entry K). asked_of e) entry ∙ (λ i. (enters.at i, enters.has i));
+          handed = subst (λ (a : Answer). flat_map serial_of back.items ≡ due_back r.entry.event a r.entry.out.items) (sym answers) (subst (λ (e : Entry K). flat_map serial_of back.items ≡ due_back e.event is.0 e.out.items) (sym entry) made.handed);
+        },
+      )
+  shows Agrees old seat call (NoRoom same) new is = tt

@@ -103,7 +103,7 @@ counted_is number seat after shown turns new next same counts is =
     is ∙ (λ i. if same i then record { counts = set turns.counts (counts i).caller (counts i).calls; in_turn = turns.in_turn } else record { counts = turns.counts; in_turn = false })
 
 -- a call that was not made is not counted
-pub none_turned : {P K : Type 0} (number : ℕ) (seat : SeatValue) (result : Called P K) (turns : TurnsValue) → false ≡ is_done result → turns ≡ turned number seat result turns
+pub none_turned : {P K A : Type 0} (number : ℕ) (seat : SeatValue) (result : Called P K A) (turns : TurnsValue) → false ≡ is_done result → turns ≡ turned number seat result turns
 none_turned number seat (Done answer back receipt) turns none = absurd cc
 none_turned number seat (NoRoom same) turns none = refl
 
@@ -129,22 +129,23 @@ module _ {K : Type 0} (means : Meaning K) (calls : ℕ → ℕ → Option (List 
       subst (λ l. AreInTurn (calls number) l new.history) (sym (ap (λ t. t.counts) is)) more
   done_in_turn old new seat call answer turns after false next enters is one was so = absurd (both_ways after.in_turn (ap (λ t. t.in_turn) is) so)
 
-  pub call_keeps : (old new : LogValue K) (seat : SeatValue) (call : Call (Shape K)) (result : Called (Shape K) K) (turns after : TurnsValue) → CallsBy means old seat.caller (seat.calls + 1) call result new → after ≡ turned number seat result turns → IsNextOf (calls seat.number seat.caller) seat.calls (call.end, Asked call.request) → (turns.in_turn ≡ true → AreInTurn (calls number) turns.counts old.history) → after.in_turn ≡ true → AreInTurn (calls number) after.counts new.history
-  call_keeps old new seat call (Done answer back receipt) turns after by is one was so = done_in_turn old new seat call answer turns after (is_next number seat turns.counts) refl by.enters is one was so
-  call_keeps old new seat call (NoRoom same) turns after by is one was so =
+  pub call_keeps : {A : Type 0} (Agrees : A → Answer → Type 0) (old new : LogValue K) (seat : SeatValue) (call : Call (Shape K)) (result : Called (Shape K) K A) (turns after : TurnsValue) → CallsBy means Agrees old seat.caller (seat.calls + 1) call result new → after ≡ turned number seat result turns → IsNextOf (calls seat.number seat.caller) seat.calls (call.end, Asked call.request) → (turns.in_turn ≡ true → AreInTurn (calls number) turns.counts old.history) → after.in_turn ≡ true → AreInTurn (calls number) after.counts new.history
+  call_keeps Agrees old new seat call (Done has back receipt) turns after by is one was so =
+      done_in_turn old new seat call by.0 turns after (is_next number seat turns.counts) refl by.2.enters is one was so
+  call_keeps Agrees old new seat call (NoRoom same) turns after by is one was so =
       subst (λ (l : LogValue K). AreInTurn (calls number) after.counts l.history) (sym by.1) (subst (λ (t : TurnsValue). AreInTurn (calls number) t.counts old.history) (sym is) (was (sym (ap (λ t. t.in_turn) is) ∙ so)))
 
 -- a call that was made, or not, is counted in the turns as the seat counts it
-pub done_turned : {P K : Type 0} (number : ℕ) (seat after : SeatValue) (shown : Bool) (result : Called P K) (turns new : TurnsValue) (next : Bool) → true ≡ is_done result → next ≡ is_next number seat turns.counts → after ≡ record seat { calls = seat.calls + 1; shown = shown } → new ≡ (if next then record { counts = set turns.counts after.caller after.calls; in_turn = turns.in_turn } else record { counts = turns.counts; in_turn = false }) → new ≡ turned number seat result turns
+pub done_turned : {P K A : Type 0} (number : ℕ) (seat after : SeatValue) (shown : Bool) (result : Called P K A) (turns new : TurnsValue) (next : Bool) → true ≡ is_done result → next ≡ is_next number seat turns.counts → after ≡ record seat { calls = seat.calls + 1; shown = shown } → new ≡ (if next then record { counts = set turns.counts after.caller after.calls; in_turn = turns.in_turn } else record { counts = turns.counts; in_turn = false }) → new ≡ turned number seat result turns
 done_turned number seat after shown (Done answer back receipt) turns new next done same counts is = counted_is number seat after shown turns new next same counts is
 done_turned number seat after shown (NoRoom again) turns new next done same counts is = absurd cc
 
 -- so does the seat
-pub done_counted : {P K : Type 0} (call : Call P) (seat after : SeatValue) (result : Called P K) → true ≡ is_done result → after ≡ record seat { calls = seat.calls + 1; shown = seat.shown && has_receipt result } → Counted call seat result after
+pub done_counted : {P K A : Type 0} (call : Call P) (seat after : SeatValue) (result : Called P K A) → true ≡ is_done result → after ≡ record seat { calls = seat.calls + 1; shown = seat.shown && has_receipt result } → Counted call seat result after
 done_counted call seat after (Done answer back receipt) done counts = counts
 done_counted call seat after (NoRoom same) done counts = absurd cc
 
-pub none_counted : {P K : Type 0} (call : Call P) (seat : SeatValue) (result : Called P K) → false ≡ is_done result → Counted call seat result seat
+pub none_counted : {P K A : Type 0} (call : Call P) (seat : SeatValue) (result : Called P K A) → false ≡ is_done result → Counted call seat result seat
 none_counted call seat (Done answer back receipt) none = absurd cc
 none_counted call seat (NoRoom same) none = refl
 

@@ -3,6 +3,7 @@ use Rattle.std.specs.Prelude.{◌≡◌, ℕ, List, [], ◌∷◌}
 use Rattle.strm_msg.specs.Message.{Msg}
 use Rattle.strm_module.specs.Kinds.{Meaning}
 use Rattle.strm_module.specs.declared.shape.Shape.{Shape}
+use Rattle.strm_call.specs.declared.answer.Answer.{Answer}
 use Rattle.strm_call.specs.declared.call.Call.{Call}
 use Rattle.strm_entry.specs.declared.call.Called.{Called}
 use Rattle.strm_history.specs.Log.{LogValue, HasLanded, CallsBy}
@@ -28,7 +29,7 @@ module _ {K : Type 0} (means : Meaning K) where
     pub takes : TakesIn old came new
 
   -- some messages came in, and then the call was made, or it came back
-  pub record CallsAfter (old : LogValue K) (caller number : ℕ) (call : Call (Shape K)) (result : Called (Shape K) K) (new : LogValue K) : Type 0 where
+  pub record CallsAfter {A : Type 0} (Agrees : A → Answer → Type 0) (old : LogValue K) (caller number : ℕ) (call : Call (Shape K)) (result : Called (Shape K) K A) (new : LogValue K) : Type 0 where
     pub before : LogValue K
     pub comes : ComesIn old before
-    pub calls : CallsBy means before caller number call result new
+    pub calls : CallsBy means Agrees before caller number call result new

@@ -49,7 +49,7 @@ abbrev pub room_of : {K : Type 0} → SeatValue → Call (Shape K) → RoomValue
 room_of seat call = record { caller = seat.caller; number = seat.calls + 1; end = call.end; event = Asked call.request }
 
 -- the seat counts a call that was made, and no other, and whether all have receipts
-abbrev pub Counted : {P K : Type 0} → Call P → SeatValue → Called P K → SeatValue → Type 0
+abbrev pub Counted : {P K A : Type 0} → Call P → SeatValue → Called P K A → SeatValue → Type 0
 Counted call seat (Done answer back receipt) after = after ≡ record seat { calls = seat.calls + 1; shown = seat.shown && is_some receipt }
 Counted call seat (NoRoom same) after = after ≡ seat
 
@@ -73,24 +73,24 @@ HandsBackMade call (Answers.Refused refusal) back = back ≡ pushed_of call.requ
 HandsBackMade call (Answers.Done reply) back = HandsOut call.request (Answers.Done reply) back
 HandsBackMade call Answers.Broke back = HandsOut call.request Answers.Broke back
 
--- a call that was not made comes back
-abbrev pub HandsBack : {K : Type 0} → Call (Shape K) → Called (Shape K) K → Type 0
-HandsBack call (Done answer back receipt) = HandsBackMade call answer back.items
-HandsBack call (NoRoom same) = same ≡ call
+-- so it is of a call that was made, by an answer with which what the caller has of it agrees; a call that was not made comes back
+abbrev pub HandsBack : {K A : Type 0} → (A → Answer → Type 0) → Call (Shape K) → Called (Shape K) K A → Type 0
+HandsBack Agrees call (Done has back receipt) = (answer : Answer) × Agrees has answer × HandsBackMade call answer back.items
+HandsBack Agrees call (NoRoom same) = same ≡ call
 
--- a receipt of a seat's next call: the entry that it shows has this caller, end, request and answer, and accounts for what came back
-pub record IsReceiptOf {K : Type 0} (seat : SeatValue) (call : Call (Shape K)) (answer : Answer) (back : List (Option (Shape K))) (receipt : ReceiptValue K) : Type 0 where
+-- a receipt of a seat's next call: the entry that it shows has this caller, end and request, and accounts for what came back
+pub record IsReceiptOf {K : Type 0} (seat : SeatValue) (call : Call (Shape K)) (back : List (Option (Shape K))) (receipt : ReceiptValue K) : Type 0 where
   pub caller : receipt.caller ≡ seat.caller
   pub number : receipt.number ≡ seat.calls + 1
   pub by : receipt.entry.who ≡ Caller seat.caller
   pub asked : asked_of receipt.entry ≡ (call.end, Asked call.request)
-  pub answers : receipt.entry.answer ≡ answer
-  pub handed : flat_map serial_of back ≡ due_back receipt.entry.event answer receipt.entry.out.items
+  pub handed : flat_map serial_of back ≡ due_back receipt.entry.event receipt.entry.answer receipt.entry.out.items
 
--- so is the receipt of a call that was made, if it has one
-abbrev pub Shows : {K : Type 0} → SeatValue → Call (Shape K) → Called (Shape K) K → Type 0
-Shows seat call (Done answer back receipt) = IfSome receipt (λ r. IsReceiptOf seat call answer back.items r)
-Shows seat call (NoRoom same) = ⊤
+-- so is the receipt of a call that was made, if it has one, and what the caller has of the answer agrees with that of the entry
+abbrev pub Shows : {K A : Type 0} → (A → Answer → Type 0) → SeatValue → Call (Shape K) → Called (Shape K) K A → Type 0
+Shows Agrees seat call (Done has back receipt) =
+    IfSome receipt (λ r. Agrees has r.entry.answer × IsReceiptOf seat call back.items r)
+Shows Agrees seat call (NoRoom same) = ⊤
 
 -- each caller has made as many calls as its seat counts
 abbrev pub CountsAgree : {K : Type 0} → List (Entry K) → List SeatValue → Type 0

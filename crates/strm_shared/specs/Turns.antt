@@ -47,7 +47,7 @@ counted number seat turns =
     if is_next number seat turns.counts then record { counts = set turns.counts seat.caller (seat.calls + 1); in_turn = turns.in_turn } else record { counts = turns.counts; in_turn = false }
 
 -- so is each call that was made, and no other
-abbrev pub turned : {P K : Type 0} → ℕ → SeatValue → Called P K → TurnsValue → TurnsValue
+abbrev pub turned : {P K A : Type 0} → ℕ → SeatValue → Called P K A → TurnsValue → TurnsValue
 turned number seat (Done answer back receipt) turns = counted number seat turns
 turned number seat (NoRoom same) turns = turns
 

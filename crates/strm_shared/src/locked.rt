@@ -16,6 +16,7 @@ use crate::seat::Seat;
 use crate::turns::Turns;
 use std::alloc::Global;
 use std::marker::Model;
+use strm_call::Replied;
 use strm_history::{Call, Called, Landed, Log, Room, Setup};
 use strm_line::{Inlet, Runs};
 use strm_module::{Boxed, ModuleOf};
@@ -126,6 +127,9 @@ impl<M: ModuleOf, N: Runs<M::Kind>> Locked<M, N> {
         ensures log { ComesIn M.Kind.means self.old.log self.new.log }
         ensures turns { self.new.turns ≡ self.old.turns }
     {
+        if !self.log.setup().is_line() {
+            return true;
+        }
         for _at in 0..self.log.setup().ring {
             match self.take_next() {
                 Intake::Entered => {}
@@ -137,22 +141,22 @@ impl<M: ModuleOf, N: Runs<M::Kind>> Locked<M, N> {
     }
 
     /// One call of a seat, as `Log::enter` makes it, which the seat counts, and which is counted in its turn.
-    fn enter(
+    fn enter<A: Replied>(
         &mut self,
         seat: &mut Seat,
         call: Call<Boxed<M>>,
         room: Room<M::Kind>,
-    ) -> Called<Boxed<M>, M::Kind>
+    ) -> Called<Boxed<M>, M::Kind, A::Beside>
         requires room { room ≡ room_of seat.old call }
         requires next { IsNextOf (N.calls seat.old.number seat.old.caller) seat.old.calls (call.end, Asked call.request) }
         requires counts { seat.old.calls + 1 < 2 ^ 64 }
         ensures number { self.new.number ≡ self.old.number }
-        ensures log { CallsBy M.Kind.means self.old.log seat.old.caller (seat.old.calls + 1) call result self.new.log }
+        ensures log { CallsBy M.Kind.means A.Agrees self.old.log seat.old.caller (seat.old.calls + 1) call result self.new.log }
         ensures counts { Counted call seat.old result seat.new }
         ensures turns { self.new.turns ≡ turned self.old.number seat.old result self.old.turns }
     {
         let is_next = self.turns.is_next(self.number, seat);
-        let called = self.log.enter(call, room);
+        let called = self.log.enter::<A>(call, room);
         if called.is_done() {
             seat.count(called.has_receipt());
             self.turns.count(is_next, seat);
@@ -164,17 +168,17 @@ impl<M: ModuleOf, N: Runs<M::Kind>> Locked<M, N> {
     /// wanting for a message, those before it came in, and the call comes back.
     ///
     /// To be called with the call that the run has next for the seat, which can count one more.
-    pub(crate) fn call(
+    pub(crate) fn call<A: Replied>(
         &mut self,
         seat: &mut Seat,
         call: Call<Boxed<M>>,
         room: Room<M::Kind>,
-    ) -> Called<Boxed<M>, M::Kind>
+    ) -> Called<Boxed<M>, M::Kind, A::Beside>
         requires room { room ≡ room_of seat.old call }
         requires next { IsNextOf (N.calls seat.old.number seat.old.caller) seat.old.calls (call.end, Asked call.request) }
         requires counts { seat.old.calls + 1 < 2 ^ 64 }
         ensures number { self.new.number ≡ self.old.number }
-        ensures log { CallsAfter M.Kind.means self.old.log seat.old.caller (seat.old.calls + 1) call result self.new.log }
+        ensures log { CallsAfter M.Kind.means A.Agrees self.old.log seat.old.caller (seat.old.calls + 1) call result self.new.log }
         ensures counts { Counted call seat.old result seat.new }
         ensures turns { self.new.turns ≡ turned self.old.number seat.old result self.old.turns }
     {
@@ -182,7 +186,7 @@ impl<M: ModuleOf, N: Runs<M::Kind>> Locked<M, N> {
             drop(room);
             return Called::NoRoom(call);
         }
-        self.enter(seat, call, room)
+        self.enter::<A>(seat, call, room)
     }
 
     /// The stream with its history, the counts, and the inlet.

@@ -4,6 +4,7 @@ ghost use Rattle.strm_call.specs.Setup.{is_fit};
 ghost use Rattle.strm_call.specs.declared.event.Event.TheVariants.{Asked};
 ghost use Rattle.strm_entry.specs.Own.{arrivals, own};
 ghost use Rattle.strm_history.specs.History.{Legal};
+ghost use Rattle.strm_history.specs.Log.{Equals};
 ghost use Rattle.strm_history.specs.Serials.{AreAccounted};
 ghost use Rattle.strm_history.specs.Opened.{opened};
 ghost use Rattle.strm_line.specs.Feed.{accepted_of, fresh_feeder};
@@ -19,6 +20,7 @@ use crate::seat::Seat;
 use std::alloc::Global;
 use std::marker::Model;
 use std::sync::{Mutex, Wait};
+use strm_call::{Replied, Twins};
 use strm_ended::Ended;
 use strm_history::{Call, Called, Setup, room_for};
 use strm_line::{AnyCalls, FeedEnd, Feeder, Ring, Runs};
@@ -127,8 +129,25 @@ impl<M: ModuleOf, N: Runs<M::Kind>> Shared<M, N> {
         requires number { seat.old.number ≡ self.now.number }
         requires next { IsNextOf (N.calls seat.old.number seat.old.caller) seat.old.calls (call.end, Asked call.request) }
         ensures counts { Counted call seat.old result seat.new }
-        ensures back { HandsBack call result }
-        ensures shown { Shows seat.old call result }
+        ensures back { HandsBack Equals call result }
+        ensures shown { Shows Equals seat.old call result }
+    {
+        self.enter::<Twins, R>(rt, seat, call)
+    }
+
+    /// One call of a caller, as `call` makes it, of whose answer the caller has what is made beside it: with `Twins` an equal
+    /// one; with `Reply` nothing, and the receipt shows the answer.
+    pub fn enter<A: Replied, R: Wait>(
+        &self,
+        rt: &R,
+        seat: &mut Seat,
+        call: Call<Boxed<M>>,
+    ) -> Called<Boxed<M>, M::Kind, A::Beside>
+        requires number { seat.old.number ≡ self.now.number }
+        requires next { IsNextOf (N.calls seat.old.number seat.old.caller) seat.old.calls (call.end, Asked call.request) }
+        ensures counts { Counted call seat.old result seat.new }
+        ensures back { HandsBack A.Agrees call result }
+        ensures shown { Shows A.Agrees seat.old call result }
     {
         if seat.calls() == u64::MAX {
             return Called::NoRoom(call);
@@ -136,7 +155,7 @@ impl<M: ModuleOf, N: Runs<M::Kind>> Shared<M, N> {
         let Ok(room) = room_for(self.alloc, seat.caller(), seat.calls() + 1, &call) else {
             return Called::NoRoom(call);
         };
-        self.locked.lock(rt).call(seat, call, room)
+        self.locked.lock(rt).call::<A>(seat, call, room)
     }
 
     /// Ends the stream, when no caller and no feeder has it any more: its whole history, the stream

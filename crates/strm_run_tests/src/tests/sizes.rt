@@ -21,11 +21,16 @@ fn what_a_call_moves_is_small(rt: HostRuntime) {
         ("an entry", size_of::<Entry<Kind>>(), 264),
         ("an entry in its place", size_of::<Kept<Kind>>(), 24),
         ("a receipt", size_of::<Receipt<Kind>>(), 32),
-        ("an outcome", size_of::<Outcome<Plain>>(), 392),
+        ("an outcome", size_of::<Outcome<Plain>>(), 280),
         (
             "what becomes of a call",
             size_of::<Called<Boxed<Plain>, Kind>>(),
             296,
+        ),
+        (
+            "what becomes of a call whose answer its receipt shows",
+            size_of::<Called<Boxed<Plain>, Kind, ()>>(),
+            184,
         ),
         (
             "a call of a script",

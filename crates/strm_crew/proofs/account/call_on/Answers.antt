@@ -3,10 +3,10 @@ use Rattle.strm_crew.specs.Play.{Fits}
 use Rattle.strm_crew.proofs.AccountLemmas.{receipts_more}
 use Rattle.strm_crew.proofs.account.call_on.Goals as goal
 
-pub call-requires-after_bounds : goal.call-requires-after_bounds
+pub enter-requires-after_bounds : goal.enter-requires-after_bounds
 unfolding Fits
-call-requires-after_bounds g c κs within = let fits = c.requires.fits in search rules
+enter-requires-after_bounds g c κs within = let fits = c.requires.fits in search rules
 
 pub invariant_of-account-in-Some : goal.invariant_of-account-in-Some
 invariant_of-account-in-Some g c =
-    receipts_more g.N.Plays.run c.account.inside.seat c.call.new.seat c.args.call c.in-Done.answer c.in-Done.back.items c.account.inside.receipts.items c.push_reserved.new.self.items c.in-Some.receipt (rw c.in-Some.is at c.in-Done.ensures.counts) (rw c.in-Some.is at c.in-Done.ensures.shown) (rw c.account.view_is c.requires.next) c.account.invariant (rw c.in_ok-reserve.ensures.items at c.push_reserved.ensures.items)
+    receipts_more g.N.Plays.run c.account.inside.seat c.enter.new.seat c.args.call c.in-Done.back.items c.account.inside.receipts.items c.push_reserved.new.self.items c.in-Some.receipt (rw c.in-Some.is at c.in-Done.ensures.counts) ((rw c.in-Some.is at c.in-Done.ensures.shown).1) (rw c.account.view_is c.requires.next) c.account.invariant (rw c.in_ok-reserve.ensures.items at c.push_reserved.ensures.items)

@@ -6,4 +6,4 @@ use Rattle.strm_head.proofs.beginning.begin_getmsg.Goals as goal
 pub returns : goal.returns
 returns g c =
     rw c.taken.ensures
-    (taken_begins g.M.Kind.Kinds.means c.args.chain.now.image c.args.end (Requests.Getmsg c.args.maxctl c.args.maxdat c.args.flag) c.getmsg.result c.getmsg.new.chain.image c.getmsg.ensures.reply c.getmsg.ensures.image c.getmsg.ensures.err refl refl c.requires.whole)
+    (taken_begins g.M.Kind.Kinds.means c.args.chain.now.image c.args.end (Requests.Getmsg c.args.maxctl c.args.maxdat c.args.flag) g.A.Replied.says c.getmsg.result c.getmsg.new.chain.image c.getmsg.ensures.reply c.getmsg.ensures.image c.getmsg.ensures.err refl refl c.requires.whole)

@@ -6,4 +6,4 @@ use Rattle.strm_head.proofs.beginning.begin_getpmsg.Goals as goal
 pub returns : goal.returns
 returns g c =
     rw c.taken.ensures
-    (taken_begins g.M.Kind.Kinds.means c.args.chain.now.image c.args.end (Requests.Getpmsg c.args.maxctl c.args.maxdat c.args.band c.args.flag) c.getpmsg.result c.getpmsg.new.chain.image c.getpmsg.ensures.reply c.getpmsg.ensures.image c.getpmsg.ensures.err refl refl c.requires.whole)
+    (taken_begins g.M.Kind.Kinds.means c.args.chain.now.image c.args.end (Requests.Getpmsg c.args.maxctl c.args.maxdat c.args.band c.args.flag) g.A.Replied.says c.getpmsg.result c.getpmsg.new.chain.image c.getpmsg.ensures.reply c.getpmsg.ensures.image c.getpmsg.ensures.err refl refl c.requires.whole)

@@ -6,4 +6,4 @@ use Rattle.strm_head.proofs.beginning.begin_read.Goals as goal
 pub returns : goal.returns
 returns g c =
     rw c.taken.ensures
-    (taken_begins g.M.Kind.Kinds.means c.args.chain.now.image c.args.end (Requests.Read c.args.max) c.read.result c.read.new.chain.image c.read.ensures.reply c.read.ensures.image c.read.ensures.err refl refl c.requires.whole)
+    (taken_begins g.M.Kind.Kinds.means c.args.chain.now.image c.args.end (Requests.Read c.args.max) g.A.Replied.says c.read.result c.read.new.chain.image c.read.ensures.reply c.read.ensures.image c.read.ensures.err refl refl c.requires.whole)

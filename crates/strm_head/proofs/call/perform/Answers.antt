@@ -14,7 +14,7 @@ finish_ioctl-requires-after_bounds g c κs within =
 
 pub returns-in-Ok-clause-answers : goal.returns-in-Ok-clause-answers
 returns-in-Ok-clause-answers g c =
-    quiet_answers g.M.Kind.Kinds.means c.args.chain.now.image c.args.end c.args.request c.in-Ok.reply c.done.result.answer c.done.result.moves c.begin.new.chain.image c.requires.kept
+    quiet_answers g.M.Kind.Kinds.means c.args.chain.now.image c.args.end c.args.request (g.A.Replied.says c.in-Ok.reply) c.done.result.answer c.done.result.moves c.begin.new.chain.image c.requires.kept
     c.requires.unrefused
     (sym c.if-is_quiet.ensures) c.in-Ok.ensures.begins.image_is c.in-Ok.ensures.begins.reply_is c.done.ensures.answer
     (c.done.ensures.moves ∙ c.none.ensures.moves)
@@ -36,7 +36,7 @@ returns-in-Ok-2-clause-memory g c =
 
 pub returns-in-Ok-3-clause-answers : goal.returns-in-Ok-3-clause-answers
 returns-in-Ok-3-clause-answers g c =
-    finished_answers g.M.Kind.Kinds.means c.args.chain.now.image c.args.end c.args.request c.begin.new.chain.image c.in-Ok.reply c.finish.result.answer c.finish.result.moves c.finish.new.chain.image
+    finished_answers g.M.Kind.Kinds.means c.args.chain.now.image c.args.end c.args.request c.begin.new.chain.image (g.A.Replied.says c.in-Ok.reply) c.finish.result.answer c.finish.result.moves c.finish.new.chain.image
     c.requires.unrefused
     (sym c.if-is_quiet.ensures)
     (sym c.if-awaits.ensures) c.in-Ok.ensures.begins.image_is c.in-Ok.ensures.begins.reply_is c.finish.ensures.broken c.finish.ensures.finishes

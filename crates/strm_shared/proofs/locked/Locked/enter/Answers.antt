@@ -10,13 +10,13 @@ pub invariant_of-self : goal.invariant_of-self
 invariant_of-self g c =
     let by = rw c.requires.room at c.enter-called.ensures in
     let done = sym c.if-is_done.true ∙ c.is_done.ensures in
-    call_locked g.M.Kind.Kinds.means g.N.Runs.calls _ _ _ c.args.seat.now c.args.call c.enter-called.result _ _ _ by (done_turned _ c.args.seat.now _ (c.args.seat.now.shown && c.has_receipt.result) c.enter-called.result _ _ _ done c.is_next-is_next.ensures c.count.ensures c.count-then-is_done.ensures) c.requires.next c.self.invariant
+    call_locked g.M.Kind.Kinds.means g.N.Runs.calls _ g.A.Replied.Agrees _ _ c.args.seat.now c.args.call c.enter-called.result _ _ _ by (done_turned _ c.args.seat.now _ (c.args.seat.now.shown && c.has_receipt.result) c.enter-called.result _ _ _ done c.is_next-is_next.ensures c.count.ensures c.count-then-is_done.ensures) c.requires.next c.self.invariant
 
 pub invariant_of-self-else-is_done : goal.invariant_of-self-else-is_done
 invariant_of-self-else-is_done g c =
     let by = rw c.requires.room at c.enter-called.ensures in
     let none = sym c.if-is_done.false ∙ c.is_done.ensures in
-    call_locked g.M.Kind.Kinds.means g.N.Runs.calls _ _ _ c.args.seat.now c.args.call c.enter-called.result _ _ _ by (none_turned _ c.args.seat.now c.enter-called.result _ none) c.requires.next c.self.invariant
+    call_locked g.M.Kind.Kinds.means g.N.Runs.calls _ g.A.Replied.Agrees _ _ c.args.seat.now c.args.call c.enter-called.result _ _ _ by (none_turned _ c.args.seat.now c.enter-called.result _ none) c.requires.next c.self.invariant
 
 pub returns-then-is_done-clause-log : goal.returns-then-is_done-clause-log
 returns-then-is_done-clause-log g c = rw (← c.self.view_is) (rw c.requires.room at c.enter-called.ensures)

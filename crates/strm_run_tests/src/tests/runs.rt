@@ -1,6 +1,7 @@
 //! Runs: what each stream's history has, whatever the threads do, and when a run is refused.
 ghost use Rattle.std.specs.Prelude.{◌<◌, length};
 ghost use Rattle.std.specs.Mem.{FitsInMemory};
+ghost use denote.Plain.{Nothing};
 ghost use Rattle.strm_module.specs.contracts.boxed.Boxed as boxed_type;
 ghost use Rattle.strm_entry.specs.contracts.call.Called as called_type;
 
@@ -181,7 +182,7 @@ fn run_of<M: ModuleOf, G: Gate, R: Abort + Threads + Wait + Sync>(
 ) -> Result<Transcript<M::Kind>, RunFault>
 where
     M::Kind: SameKind + Send + Sync,
-    requires { FitsInMemory (called_type.the_row (boxed_type.the_row M.row M.Kind.row M.Kind.Kinds) M.Kind.row) }
+    requires { FitsInMemory (called_type.the_row (boxed_type.the_row M.row M.Kind.row M.Kind.Kinds) M.Kind.row Nothing) }
 {
     let setups = Vec::from_slice(alloc, setups).expect(rt, "no memory");
     let feeds = feeds_of(rt, alloc, feeds);

@@ -2,12 +2,11 @@
 ghost use Rattle.std.specs.Prelude.{◌≡◌, false, IfOk, IsOk};
 ghost use Rattle.strm_call.specs.Reply.{has_bytes};
 
-use crate::name::{MOST_NAMES, Name};
+use crate::name::Name;
+use crate::name_list::NameList;
 use crate::refusal::Refusal;
 use crate::request::Priority;
-use arrayvec::ArrayVec;
 use std::alloc::Global;
-use strm_module::MOST_MODULES;
 use strm_msg::{Bytes, Errno, NoMem, Prot, ReadMode};
 
 /// Which parts of a message stay at the stream head, whether or not they were asked for.
@@ -29,7 +28,7 @@ pub enum Received {
     /// An ordinary message (MSG_BAND).
     Band {
         /// Its band.
-        band: u64,
+        band: u8,
     },
     /// A high-priority message (MSG_HIPRI).
     Hipri,
@@ -156,7 +155,7 @@ pub enum Reply {
     /// What stands there.
     List {
         /// The names of the modules, topmost first, and then of the driver.
-        names: ArrayVec<Name, MOST_NAMES>,
+        names: NameList,
     },
     /// Whether a module of the name stands there.
     Find {
@@ -175,7 +174,7 @@ pub enum Reply {
     /// The end was closed.
     Close {
         /// The names of the modules that stood there, topmost first.
-        names: ArrayVec<Name, MOST_MODULES>,
+        names: NameList,
     },
     /// A message that came in from a line was taken.
     Line,
@@ -218,17 +217,6 @@ impl Acknowledged {
             Acknowledged::Timeout => Ok(Acknowledged::Timeout),
         }
     }
-}
-
-/// A copy of the names in a list. Takes no memory.
-fn copy_names<const N: usize>(names: &ArrayVec<Name, N>) -> ArrayVec<Name, N>
-    ensures { result ≡ names.now }
-{
-    let mut copy = ArrayVec::new();
-    for name in names.as_slice() {
-        copy.push(name.copy());
-    }
-    copy
 }
 
 impl Reply {
@@ -298,13 +286,13 @@ impl Reply {
             Reply::Pop { name } => Reply::Pop { name: name.copy() },
             Reply::Look { name } => Reply::Look { name: name.copy() },
             Reply::List { names } => Reply::List {
-                names: copy_names(names),
+                names: names.copy(),
             },
             Reply::Find { found } => Reply::Find { found: *found },
             Reply::Flush => Reply::Flush,
             Reply::FlushBand => Reply::FlushBand,
             Reply::Close { names } => Reply::Close {
-                names: copy_names(names),
+                names: names.copy(),
             },
             Reply::Line => Reply::Line,
             Reply::Peek { .. } => Reply::Peek { found: None },

@@ -3,53 +3,50 @@ ghost use Rattle.std.specs.Prelude.{◌≡◌, IfOk};
 ghost use Rattle.strm_call.specs.declared.request.Request.TheVariants as Requests;
 
 use crate::answer::copy_part;
+use crate::part::Part;
 use crate::request::{Priority, PutFlag, Request};
 use std::alloc::Global;
 use strm_module::{Boxed, BoxedShape, ModuleOf};
 use strm_msg::{Bytes, NoMem};
 
 /// Copies of the control and of the data of a call. Refused for want of memory alone.
-fn copy_parts(
-    alloc: Global,
-    ctl: &Option<Bytes>,
-    dat: &Option<Bytes>,
-) -> Result<(Option<Bytes>, Option<Bytes>), NoMem>
+fn copy_parts(alloc: Global, ctl: &Part, dat: &Part) -> Result<(Part, Part), NoMem>
     ensures { IfOk result (λ copies. (copies.0 ≡ ctl.now) × (copies.1 ≡ dat.now)) }
 {
-    let ctl = copy_part(alloc, ctl)?;
-    let dat = copy_part(alloc, dat)?;
+    let ctl = ctl.copy(alloc)?;
+    let dat = dat.copy(alloc)?;
     Ok((ctl, dat))
 }
 
 /// A putmsg of copies. Refused for want of memory alone.
 fn copy_putmsg<P>(
     alloc: Global,
-    ctl: &Option<Bytes>,
-    dat: &Option<Bytes>,
     flag: Priority,
+    ctl: &Part,
+    dat: &Part,
 ) -> Result<Request<P>, NoMem>
-    ensures { IfOk result (λ copy. copy ≡ Requests.Putmsg ctl.now dat.now flag) }
+    ensures { IfOk result (λ copy. copy ≡ Requests.Putmsg flag ctl.now dat.now) }
 {
     let (ctl, dat) = copy_parts(alloc, ctl, dat)?;
-    Ok(Request::Putmsg { ctl, dat, flag })
+    Ok(Request::Putmsg { flag, ctl, dat })
 }
 
 /// A putpmsg of copies. Refused for want of memory alone.
 fn copy_putpmsg<P>(
     alloc: Global,
-    ctl: &Option<Bytes>,
-    dat: &Option<Bytes>,
     band: u8,
     flag: PutFlag,
+    ctl: &Part,
+    dat: &Part,
 ) -> Result<Request<P>, NoMem>
-    ensures { IfOk result (λ copy. copy ≡ Requests.Putpmsg ctl.now dat.now band flag) }
+    ensures { IfOk result (λ copy. copy ≡ Requests.Putpmsg band flag ctl.now dat.now) }
 {
     let (ctl, dat) = copy_parts(alloc, ctl, dat)?;
     Ok(Request::Putpmsg {
-        ctl,
-        dat,
         band,
         flag,
+        ctl,
+        dat,
     })
 }
 
@@ -98,13 +95,13 @@ pub fn copy_request<M: ModuleOf>(
     ensures { IfOk result (λ copy. copy ≡ request.now) }
 {
     match request {
-        Request::Putmsg { ctl, dat, flag } => copy_putmsg(alloc, ctl, dat, *flag),
+        Request::Putmsg { flag, ctl, dat } => copy_putmsg(alloc, *flag, ctl, dat),
         Request::Putpmsg {
-            ctl,
-            dat,
             band,
             flag,
-        } => copy_putpmsg(alloc, ctl, dat, *band, *flag),
+            ctl,
+            dat,
+        } => copy_putpmsg(alloc, *band, *flag, ctl, dat),
         Request::Getmsg {
             maxctl,
             maxdat,

@@ -1,4 +1,5 @@
 //! What is asked of a stream.
+use crate::part::Part;
 use strm_msg::{Bytes, Prot, ReadMode};
 
 /// The most bytes of control that a call sends; more is refused with ERANGE.
@@ -53,7 +54,8 @@ pub enum GetFlag {
 
 /// One call on an end of a stream.
 ///
-/// A push carries `P`: the module when the call is made, and the module's shape in a history.
+/// A push carries `P`: the module when the call is made, and the module's shape in a history. What is small stands first in each call, so
+/// that a request has 40 bytes.
 ///
 /// Beside the refusals that it names, each call but a close is refused where its end is closed, the
 /// stream is broken, or an error came up for a side that it looks at; these three are looked at first. Want of memory is looked at
@@ -66,12 +68,12 @@ pub enum Request<P> {
     /// Refused with EINVAL (`Hipri` without control), ERANGE (a part over its greatest size), ENXIO
     /// (hung up) and EAGAIN (an ordinary message, and the first write queue is full), in this order.
     Putmsg {
-        /// The control part, if the message has one.
-        ctl: Option<Bytes>,
-        /// The data part, if the message has one.
-        dat: Option<Bytes>,
         /// The priority with which it is sent.
         flag: Priority,
+        /// The control part, if the message has one.
+        ctl: Part,
+        /// The data part, if the message has one.
+        dat: Part,
     },
     /// Sends a message of a band (putpmsg(2)): with `Band` an `MProto` or an `MData` of that band,
     /// and nothing without a part; with `Hipri` as putmsg does.
@@ -79,14 +81,14 @@ pub enum Request<P> {
     /// Refused with EINVAL (`Zero`, and `Hipri` without control or with a band other than 0), ERANGE,
     /// ENXIO and EAGAIN as putmsg is, in this order.
     Putpmsg {
-        /// The control part, if the message has one.
-        ctl: Option<Bytes>,
-        /// The data part, if the message has one.
-        dat: Option<Bytes>,
         /// The band of an ordinary message, and 0 for a high one.
         band: u8,
         /// The priority with which it is sent.
         flag: PutFlag,
+        /// The control part, if the message has one.
+        ctl: Part,
+        /// The data part, if the message has one.
+        dat: Part,
     },
     /// Takes the first message, or a part of it (getmsg(2)). Of an empty list at a hung up end it
     /// takes two parts of no bytes.

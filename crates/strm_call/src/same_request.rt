@@ -3,6 +3,7 @@ ghost use Rattle.std.specs.Prelude.{◌≡◌, ◌↔◌, true};
 ghost use Rattle.strm_call.specs.declared.request.Request.TheVariants as Requests;
 ghost use Rattle.strm_call.specs.Request.{changes_no_queue};
 
+use crate::part::Part;
 use crate::request::{GetFlag, Priority, PutFlag, Request, Wanted};
 use crate::same::is_same_part;
 use strm_module::{BoxedShape, Kind, Shape};
@@ -69,41 +70,30 @@ fn are_same_bounds(
 }
 
 /// Whether a request is a putmsg of these parts.
-fn is_putmsg<P>(
-    request: &Request<P>,
-    ctl: &Option<Bytes>,
-    dat: &Option<Bytes>,
-    flag: Priority,
-) -> bool
-    ensures { result ≡ true ↔ Requests.Putmsg ctl.now dat.now flag ≡ request.now }
+fn is_putmsg<P>(request: &Request<P>, flag: Priority, ctl: &Part, dat: &Part) -> bool
+    ensures { result ≡ true ↔ Requests.Putmsg flag ctl.now dat.now ≡ request.now }
 {
     match request {
         Request::Putmsg {
+            flag: f,
             ctl: c,
             dat: d,
-            flag: f,
-        } => is_same_part(ctl, c) && is_same_part(dat, d) && flag == *f,
+        } => flag == *f && ctl.is_same(c) && dat.is_same(d),
         _ => false,
     }
 }
 
 /// Whether a request is a putpmsg of these parts.
-fn is_putpmsg<P>(
-    request: &Request<P>,
-    ctl: &Option<Bytes>,
-    dat: &Option<Bytes>,
-    band: u8,
-    flag: PutFlag,
-) -> bool
-    ensures { result ≡ true ↔ Requests.Putpmsg ctl.now dat.now band flag ≡ request.now }
+fn is_putpmsg<P>(request: &Request<P>, band: u8, flag: PutFlag, ctl: &Part, dat: &Part) -> bool
+    ensures { result ≡ true ↔ Requests.Putpmsg band flag ctl.now dat.now ≡ request.now }
 {
     match request {
         Request::Putpmsg {
-            ctl: c,
-            dat: d,
             band: b,
             flag: f,
-        } => is_same_part(ctl, c) && is_same_part(dat, d) && band == *b && flag == *f,
+            ctl: c,
+            dat: d,
+        } => band == *b && flag == *f && ctl.is_same(c) && dat.is_same(d),
         _ => false,
     }
 }
@@ -236,13 +226,13 @@ pub fn is_same_request<K: SameKind + Drop>(
     ensures { result ≡ true ↔ one.now ≡ other.now }
 {
     match one {
-        Request::Putmsg { ctl, dat, flag } => is_putmsg(other, ctl, dat, *flag),
+        Request::Putmsg { flag, ctl, dat } => is_putmsg(other, *flag, ctl, dat),
         Request::Putpmsg {
-            ctl,
-            dat,
             band,
             flag,
-        } => is_putpmsg(other, ctl, dat, *band, *flag),
+            ctl,
+            dat,
+        } => is_putpmsg(other, *band, *flag, ctl, dat),
         Request::Getmsg {
             maxctl,
             maxdat,

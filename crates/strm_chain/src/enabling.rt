@@ -87,6 +87,7 @@ impl Enabling {
     }
 
     /// Enables a place that holds a message.
+    #[inline(always)]
     fn enable(&mut self, place: Place)
         requires { place_number place < QUEUES }
         ensures items { self.new.run.items ≡ with_place self.old.run.items (place_number place) }

@@ -1,17 +1,21 @@
 //! Lists of moves, and what a service did.
-ghost use Rattle.std.specs.Prelude.{◌≡◌, ◌++◌, ◌∷◌, [], OnOk, IsTrue, ◌↔◌, length};
+ghost use Rattle.std.specs.Prelude.{◌≡◌, ◌++◌, ◌∷◌, [], IfOk, OnOk, IsTrue, ◌↔◌, length};
 
+use smallvec::SmallVec;
 use std::alloc::Global;
 use std::marker::Model;
 use strm_ends::Place;
 use strm_msg::NoMem;
 
+/// How many moves are kept without memory of their own. With more the list would be larger than a vector and a word.
+const FEW: usize = 5;
+
 /// Places in the order in which they moved, which contracts see as a list.
 ///
-/// Made from a `Vec` and turned back into it without taking memory.
+/// Few moves take no memory of their own, as most calls move a message or none. Made from a `Vec` without taking memory.
 #[derive(Debug, Drop)]
 pub struct Moves {
-    items: Vec<Place>,
+    items: SmallVec<Place, FEW>,
 }
 
 impl Model for Moves {
@@ -27,7 +31,9 @@ impl From<Vec<Place>> for Moves {
     ghost from_gives = { λ items moves. moves ≡ items.items };
 
     fn from(items: Vec<Place>) -> Self {
-        Moves { items }
+        Moves {
+            items: SmallVec::from(items),
+        }
     }
 }
 
@@ -37,16 +43,18 @@ impl Moves {
         ensures { result ≡ [] }
     {
         Moves {
-            items: Vec::new(alloc),
+            items: SmallVec::new(alloc),
         }
     }
 
-    /// The vector that these moves were made from. Takes no memory.
-    pub fn into_vec(self) -> Vec<Place>
-        ensures { result.items ≡ self }
+    /// A vector of these moves, which takes memory where they are few. Refused for want of memory alone.
+    pub fn into_vec(self) -> Result<Vec<Place>, NoMem>
+        ensures { IfOk result (λ vector. vector.items ≡ self) }
     {
-        let Moves { items } = self;
-        items
+        match self.items.into_vec() {
+            Ok(vector) => Ok(vector),
+            Err(_) => Err(NoMem),
+        }
     }
 
     /// The places in order.

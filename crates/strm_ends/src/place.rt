@@ -1,4 +1,8 @@
 //! The places of a stream, and the queues that messages wait for.
+ghost use Rattle.std.specs.Prelude.{◌≡◌};
+ghost use Rattle.strm_msg.specs.declared.words.End.TheVariants as Ends;
+ghost use Rattle.strm_ends.specs.declared.place.Place.TheVariants as Places;
+
 use strm_msg::End;
 
 /// A queue that is serviced. Modules are counted from 1, which is the topmost.
@@ -23,6 +27,15 @@ pub enum Place {
         /// Which module it is.
         i: u8,
     },
+}
+
+/// The list of the driver for end A. It stands where a list of places has room and no place yet.
+impl Default for Place {
+    ghost is_default = { λ place. place ≡ Places.Drv Ends.A };
+
+    fn default() -> Self {
+        Place::Drv { end: End::A }
+    }
 }
 
 /// A queue in which a message comes to wait after it has left a place.

@@ -11,7 +11,7 @@ abbrev pub entry_of : {K : Type 0} → Stored K → Entry K
 entry_of (InCell caller entry) = entry
 entry_of (Plain entry) = entry.value
 
--- what stands beside a cell is told of its entry: it is of a call, and of that caller (no public clause cites it)
-abbrev pub IsTold : {K : Type 0} → Stored K → Type 0
-IsTold (InCell caller entry) = (entry.who ≡ Caller caller) × (has_come_in entry.event ≡ false)
-IsTold (Plain entry) = ⊤
+-- a place with a cell tells whose call its entry is: the entry is of a call, and of that caller (no public clause cites it)
+abbrev pub TellsItsCaller : {K : Type 0} → Stored K → Type 0
+TellsItsCaller (InCell caller entry) = (entry.who ≡ Caller caller) × (has_come_in entry.event ≡ false)
+TellsItsCaller (Plain entry) = ⊤

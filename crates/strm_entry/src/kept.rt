@@ -29,13 +29,13 @@ pub struct Kept<K> {
 
 impl<K> Model for Kept<K> {
     ghost use Rattle.strm_entry.specs.declared.entry.Entry.{Entry};
-    ghost use Rattle.strm_entry.specs.Kept.{entry_of, IsTold};
+    ghost use Rattle.strm_entry.specs.Kept.{entry_of, TellsItsCaller};
 
     ghost Value = { Entry K };
 
     ghost view = { λ k. entry_of k.stored };
 
-    ghost invariant = { λ k. IsTold k.stored };
+    ghost invariant = { λ k. TellsItsCaller k.stored };
 }
 
 impl<K> Kept<K> {

@@ -38,11 +38,11 @@ band_of band = if nat_le band 255 then Some band else None
 
 abbrev pub putmsg_of : Bool → List ℕ → Bool → List ℕ → ℕ → Asked
 putmsg_of has_ctl ctl has_dat dat flags =
-    ask (priority_of flags) (λ flag. Ok (Requests.Putmsg (part_of has_ctl ctl) (part_of has_dat dat) flag))
+    ask (priority_of flags) (λ flag. Ok (Requests.Putmsg flag (part_of has_ctl ctl) (part_of has_dat dat)))
 
 abbrev pub putpmsg_of : Bool → List ℕ → Bool → List ℕ → ℕ → ℕ → Asked
 putpmsg_of has_ctl ctl has_dat dat band flags =
-    ask (put_flag_of flags) (λ flag. ask (band_of band) (λ b. Ok (Requests.Putpmsg (part_of has_ctl ctl) (part_of has_dat dat) b flag)))
+    ask (put_flag_of flags) (λ flag. ask (band_of band) (λ b. Ok (Requests.Putpmsg b flag (part_of has_ctl ctl) (part_of has_dat dat))))
 
 abbrev pub getmsg_of : Bool → List ℕ → Bool → List ℕ → ℕ → Asked
 getmsg_of has_ctl ctl has_dat dat flags =

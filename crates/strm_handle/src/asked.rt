@@ -6,7 +6,7 @@ ghost use Rattle.strm_handle.specs.Asked as asks;
 use crate::codes::{get_flag_of, priority_of, put_flag_of, wanted_of};
 use std::alloc::Global;
 use strm_abi::{mode_of, prot_of, sides_of};
-use strm_call::{Refusal, Request};
+use strm_call::{Part, Refusal, Request};
 use strm_module::{Boxed, Instance, Kind, MOST_SPLIT, Plain, Shape};
 use strm_msg::{Bytes, NoMem};
 
@@ -42,6 +42,13 @@ pub fn part_of(alloc: Global, has: bool, bytes: &[u8]) -> Result<Option<Bytes>, 
     }
 }
 
+/// A part that a call sends, copied if it is there. Refused for want of memory alone.
+fn sent_of(alloc: Global, has: bool, bytes: &[u8]) -> Result<Part, NoMem>
+    ensures { IfOk result (λ part. part ≡ asks.part_of has bytes.now) }
+{
+    Part::new(alloc, part_of(alloc, has, bytes)?)
+}
+
 /// The putmsg of these arguments.
 pub fn putmsg_of(
     alloc: Global,
@@ -56,14 +63,14 @@ pub fn putmsg_of(
     let Some(flag) = priority_of(flags) else {
         return Err(Refusal::Invalid);
     };
-    let Ok(ctl) = part_of(alloc, has_ctl, ctl) else {
+    let Ok(ctl) = sent_of(alloc, has_ctl, ctl) else {
         return Err(Refusal::NoMemory);
     };
-    let Ok(dat) = part_of(alloc, has_dat, dat) else {
+    let Ok(dat) = sent_of(alloc, has_dat, dat) else {
         drop(ctl);
         return Err(Refusal::NoMemory);
     };
-    Ok(Request::Putmsg { ctl, dat, flag })
+    Ok(Request::Putmsg { flag, ctl, dat })
 }
 
 /// The putpmsg of these arguments.
@@ -84,18 +91,18 @@ pub fn putpmsg_of(
     let Some(band) = band_of(band) else {
         return Err(Refusal::Invalid);
     };
-    let Ok(ctl) = part_of(alloc, has_ctl, ctl) else {
+    let Ok(ctl) = sent_of(alloc, has_ctl, ctl) else {
         return Err(Refusal::NoMemory);
     };
-    let Ok(dat) = part_of(alloc, has_dat, dat) else {
+    let Ok(dat) = sent_of(alloc, has_dat, dat) else {
         drop(ctl);
         return Err(Refusal::NoMemory);
     };
     Ok(Request::Putpmsg {
-        ctl,
-        dat,
         band,
         flag,
+        ctl,
+        dat,
     })
 }
 

@@ -60,7 +60,7 @@ fn received(flag: Received) -> (i32, i32)
     ensures { result ≡ (pos (received_flags flag), numbers.int_of (received_band flag)) }
 {
     match flag {
-        Received::Band { band } => (4, int_of(band)),
+        Received::Band { band } => (4, int_of(u64::from(band))),
         Received::Hipri => (1, 0),
     }
 }
@@ -213,6 +213,7 @@ fn tell_name(reply: &Reply, i: u64, buffer: &mut [u8]) -> u64
             1
         }
         Reply::List { names } => {
+            let names = names.as_slice();
             if i < names.len() as u64 {
                 fill_name(buffer, &names[i as usize]);
             }

@@ -42,7 +42,7 @@ broken_before_an_error = refl
 abbrev unbroken : Image ℕ
 unbroken = record with_error { broken = start.broken }
 
-error_before_an_argument : refusal_of unbroken A (Putmsg None (Some []) Hipri) ≡ Some (WriteError EPROTO)
+error_before_an_argument : refusal_of unbroken A (Putmsg Hipri None (Some [])) ≡ Some (WriteError EPROTO)
 error_before_an_argument = refl
 
 -- calls that receive look at the error of the read side alone, those that send at that of the write side, and others at both, that
@@ -65,16 +65,16 @@ write_error_before_an_argument = refl
 reading_goes_on_after_a_write_error : refusal_of unwritable A Nread ≡ None
 reading_goes_on_after_a_write_error = refl
 
-high_message_lacks_control : refusal_of hung_up A (Putmsg None (Some (replicate 5000 97)) Hipri) ≡ Some Invalid
+high_message_lacks_control : refusal_of hung_up A (Putmsg Hipri None (Some (replicate 5000 97))) ≡ Some Invalid
 high_message_lacks_control = refl
 
-high_message_of_a_band : refusal_of start A (Putpmsg (Some []) None 1 PutFlag.Hipri) ≡ Some Invalid
+high_message_of_a_band : refusal_of start A (Putpmsg 1 PutFlag.Hipri (Some []) None) ≡ Some Invalid
 high_message_of_a_band = refl
 
-too_long_before_hung_up : refusal_of hung_up A (Putmsg (Some (replicate 1025 97)) None Norm) ≡ Some TooLong
+too_long_before_hung_up : refusal_of hung_up A (Putmsg Norm (Some (replicate 1025 97)) None) ≡ Some TooLong
 too_long_before_hung_up = refl
 
-greatest_control_is_taken : refusal_of start A (Putmsg (Some (replicate 1024 97)) None Norm) ≡ None
+greatest_control_is_taken : refusal_of start A (Putmsg Norm (Some (replicate 1024 97)) None) ≡ None
 greatest_control_is_taken = refl
 
 greatest_data_is_taken : refusal_of start A (Write (replicate 4096 97)) ≡ None
@@ -83,16 +83,16 @@ greatest_data_is_taken = refl
 data_that_is_too_long : refusal_of start A (Write (replicate 4097 97)) ≡ Some TooLong
 data_that_is_too_long = refl
 
-hung_up_without_a_part : refusal_of hung_up A (Putmsg None None Norm) ≡ Some HungUp
+hung_up_without_a_part : refusal_of hung_up A (Putmsg Norm None None) ≡ Some HungUp
 hung_up_without_a_part = refl
 
-full_driver_refuses : refusal_of (holding [] (data_of 16 ∷ [])) A (Putmsg (Some (replicate 1024 97)) None Norm) ≡ Some WouldWait
+full_driver_refuses : refusal_of (holding [] (data_of 16 ∷ [])) A (Putmsg Norm (Some (replicate 1024 97)) None) ≡ Some WouldWait
 full_driver_refuses = refl
 
-full_driver_takes_another_band : refusal_of (holding [] (data_of 16 ∷ [])) A (Putpmsg None (Some []) 1 PutFlag.Band) ≡ None
+full_driver_takes_another_band : refusal_of (holding [] (data_of 16 ∷ [])) A (Putpmsg 1 PutFlag.Band None (Some [])) ≡ None
 full_driver_takes_another_band = refl
 
-nothing_to_send_does_not_wait : refusal_of (holding [] (data_of 16 ∷ [])) A (Putmsg None None Norm) ≡ None
+nothing_to_send_does_not_wait : refusal_of (holding [] (data_of 16 ∷ [])) A (Putmsg Norm None None) ≡ None
 nothing_to_send_does_not_wait = refl
 
 no_message_to_get : refusal_of start A (Getmsg (Some 64) (Some 64) Wanted.Any) ≡ Some WouldWait

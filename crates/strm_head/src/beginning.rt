@@ -12,7 +12,7 @@ ghost use Rattle.strm_head.specs.Inside.{HasItsEnds};
 
 use crate::call::Back;
 use std::alloc::Global;
-use strm_call::{Acknowledged, GetFlag, Priority, PutFlag, Replied, Reply, Request, Wanted};
+use strm_call::{Acknowledged, GetFlag, Part, Priority, PutFlag, Replied, Reply, Request, Wanted};
 use strm_chain::{Chain, ChainFault};
 use strm_ioctl::{
     canput, ckband, close, find, flush, get_read, getband, list, look, nread, pop, push,
@@ -116,12 +116,12 @@ fn begin_close<M: ModuleOf, A: Replied>(
 fn begin_putmsg<M: ModuleOf, A: Replied>(
     chain: &mut Chain<M>,
     end: End,
-    ctl: Option<Bytes>,
-    dat: Option<Bytes>,
+    ctl: Part,
+    dat: Part,
     flag: Priority,
 ) -> Result<A, ChainFault>
     requires { IsReady chain.old.image end }
-    ensures { Begins M.Kind.means chain.old.image end (Requests.Putmsg ctl dat flag) (said A.says result) chain.new.image }
+    ensures { Begins M.Kind.means chain.old.image end (Requests.Putmsg flag ctl dat) (said A.says result) chain.new.image }
 {
     sent(putmsg(chain, end, ctl, dat, flag))
 }
@@ -130,13 +130,13 @@ fn begin_putmsg<M: ModuleOf, A: Replied>(
 fn begin_putpmsg<M: ModuleOf, A: Replied>(
     chain: &mut Chain<M>,
     end: End,
-    ctl: Option<Bytes>,
-    dat: Option<Bytes>,
+    ctl: Part,
+    dat: Part,
     band: u8,
     flag: PutFlag,
 ) -> Result<A, ChainFault>
     requires { IsReady chain.old.image end }
-    ensures { Begins M.Kind.means chain.old.image end (Requests.Putpmsg ctl dat band flag) (said A.says result) chain.new.image }
+    ensures { Begins M.Kind.means chain.old.image end (Requests.Putpmsg band flag ctl dat) (said A.says result) chain.new.image }
 {
     sent(putpmsg(chain, end, ctl, dat, band, flag))
 }
@@ -305,12 +305,12 @@ pub(crate) fn begin<M: ModuleOf, A: Replied>(
     ensures back { back.new.items ≡ handed_out (begun_of M.Kind.means chain.old.image end request).out }
 {
     match request {
-        Request::Putmsg { ctl, dat, flag } => begin_putmsg(chain, end, ctl, dat, flag),
+        Request::Putmsg { flag, ctl, dat } => begin_putmsg(chain, end, ctl, dat, flag),
         Request::Putpmsg {
-            ctl,
-            dat,
             band,
             flag,
+            ctl,
+            dat,
         } => begin_putpmsg(chain, end, ctl, dat, band, flag),
         Request::Getmsg {
             maxctl,

@@ -106,12 +106,12 @@ fn own_refusal<M: ModuleOf>(
     ensures { result ≡ first_that_holds (own_refusals chain.now.image end request.now) }
 {
     match request {
-        Request::Putmsg { ctl, dat, flag } => putmsg_refusal(chain, end, ctl, dat, *flag),
+        Request::Putmsg { flag, ctl, dat } => putmsg_refusal(chain, end, ctl, dat, *flag),
         Request::Putpmsg {
-            ctl,
-            dat,
             band,
             flag,
+            ctl,
+            dat,
         } => putpmsg_refusal(chain, end, ctl, dat, *band, *flag),
         Request::Getmsg { flag, .. } => getmsg_refusal(chain, end, *flag),
         Request::Getpmsg { band, flag, .. } => getpmsg_refusal(chain, end, *band, *flag),

@@ -43,8 +43,8 @@ module _ {K : Type 0} (means : Meaning K) where
   out_serials (s ∷ shapes) = ap (λ l. s.serial ∷ l) (out_serials shapes)
 
   nothing_out : (image : Image K) (e : End) (request : Request (Shape K)) → changes_modules request ≡ false → (begun_of means image e request).out ≡ []
-  nothing_out image e (Putmsg ctl dat flag) same = refl
-  nothing_out image e (Putpmsg ctl dat band flag) same = refl
+  nothing_out image e (Putmsg flag ctl dat) same = refl
+  nothing_out image e (Putpmsg band flag ctl dat) same = refl
   nothing_out image e (Getmsg maxctl maxdat flag) same = refl
   nothing_out image e (Getpmsg maxctl maxdat band flag) same = refl
   nothing_out image e (Read zero) same = refl

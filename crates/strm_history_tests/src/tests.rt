@@ -5,8 +5,8 @@ use arrayvec::ArrayVec;
 use std::alloc::Global;
 use std::process::Abort;
 use strm_head::{
-    Answer, Driver, GetFlag, More, Name, Outcome, Priority, Received, Refusal, Reply, Request,
-    Stream, Wanted,
+    Answer, Driver, GetFlag, MOST_NAMES, More, Name, NameList, Outcome, Priority, Received,
+    Refusal, Reply, Request, Stream, Wanted,
 };
 use strm_module::{Boxed, Instance, Kind, Module, ModuleOf, Plain, Shape};
 use strm_msg::{Bytes, End, Errno, Message, NoMem};
@@ -195,13 +195,14 @@ fn name_of(rt: &impl Abort, name: &[u8]) -> Name {
     Name::new(&ArrayVec::try_from(name).ok().expect(rt, "a short name"))
 }
 
-fn names_of<const N: usize>(rt: &impl Abort, names: &[&[u8]]) -> ArrayVec<Name, N> {
-    let mut all = ArrayVec::new();
+fn list_of(rt: &impl Abort, names: &[&[u8]]) -> NameList {
+    let mut all: ArrayVec<Name, MOST_NAMES> = ArrayVec::new();
     for name in names {
         let pushed = all.try_push(name_of(rt, name));
         pushed.ok().expect(rt, "few names");
     }
-    all
+    assert!(rt; all.len() <= MOST_NAMES);
+    NameList::new(all.as_slice())
 }
 
 /// A reply with control of high priority.
@@ -219,9 +220,7 @@ fn data_of_band(rt: &impl Abort, alloc: Global, band: u8, dat: &[u8]) -> Reply {
     Reply::Getpmsg {
         ctl: None,
         dat: Some(bytes(rt, alloc, dat)),
-        flag: Received::Band {
-            band: u64::from(band),
-        },
+        flag: Received::Band { band },
         more: More::Nothing,
     }
 }
@@ -240,13 +239,13 @@ fn popped(rt: &impl Abort, name: &[u8]) -> Reply {
 
 fn listed(rt: &impl Abort, names: Names) -> Reply {
     Reply::List {
-        names: names_of(rt, names),
+        names: list_of(rt, names),
     }
 }
 
 fn closed(rt: &impl Abort, names: Names) -> Reply {
     Reply::Close {
-        names: names_of(rt, names),
+        names: list_of(rt, names),
     }
 }
 

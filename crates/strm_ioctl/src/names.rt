@@ -9,7 +9,7 @@ ghost use Rattle.strm_ioctl.specs.Modules.{look_refusals, look_begun};
 ghost use Rattle.strm_ioctl.specs.Names.{names_of, driver_name, has_name, list_begun, find_refusals, find_begun};
 
 use arrayvec::ArrayVec;
-use strm_call::{MOST_NAMES, Name, Refusal, Reply};
+use strm_call::{MOST_NAMES, Name, NameList, Refusal, Reply};
 use strm_chain::{Chain, Driver, MOST_MODULES};
 use strm_module::{LONGEST_NAME, ModuleOf};
 use strm_msg::{Bytes, End};
@@ -70,7 +70,9 @@ pub fn list<M: ModuleOf>(chain: &Chain<M>, end: End) -> Reply
 {
     let mut names: ArrayVec<Name, MOST_NAMES> = names_of(chain, end);
     names.push(driver_name(chain.driver()));
-    Reply::List { names }
+    Reply::List {
+        names: NameList::new(names.as_slice()),
+    }
 }
 
 /// The refusal of a find's own: EINVAL for a name of no byte or of more than `LONGEST_NAME`

@@ -7,16 +7,16 @@ ghost use Rattle.strm_chain.specs.Fault.{Fails};
 ghost use Rattle.strm_call.specs.Refusal.{first_that_holds};
 ghost use Rattle.strm_msgio.specs.Send.{putmsg_refusals, putpmsg_refusals, write_refusals, putmsg_begun, putpmsg_begun, write_begun, putmsg_message, putpmsg_message, ordinary_message, high_message, ordinary_band, waiting_refusals, sending_refusals, sent_of};
 
-use strm_call::{MAX_CONTROL, MAX_DATA, Priority, PutFlag, Refusal, Reply};
+use strm_call::{MAX_CONTROL, MAX_DATA, Part, Priority, PutFlag, Refusal, Reply};
 use strm_chain::{Chain, ChainFault, Spot, deliver};
 use strm_module::ModuleOf;
 use strm_msg::{Bytes, End, Message, MsgKind};
 
 /// Whether a part has more bytes than `most`.
-fn is_longer(part: &Option<Bytes>, most: usize) -> bool
+fn is_longer(part: &Part, most: usize) -> bool
     ensures { result ≡ nat_lt most (part_len part.now) }
 {
-    match part {
+    match part.as_bytes() {
         Some(bytes) => bytes.len() > most,
         None => false,
     }
@@ -40,8 +40,8 @@ fn waiting_refusal<M: ModuleOf>(chain: &Chain<M>, end: End, band: Option<u8>) ->
 fn sending_refusal<M: ModuleOf>(
     chain: &Chain<M>,
     end: End,
-    ctl: &Option<Bytes>,
-    dat: &Option<Bytes>,
+    ctl: &Part,
+    dat: &Part,
     band: Option<u8>,
 ) -> Option<Refusal>
     ensures { result ≡ first_that_holds (sending_refusals chain.now.image end ctl.now dat.now band) }
@@ -53,13 +53,13 @@ fn sending_refusal<M: ModuleOf>(
 }
 
 /// The band of an ordinary message of these parts, if they make one.
-fn ordinary_band(band: u8, ctl: &Option<Bytes>, dat: &Option<Bytes>) -> Option<u8>
+fn ordinary_band(band: u8, ctl: &Part, dat: &Part) -> Option<u8>
     ensures { result ≡ ordinary_band (ordinary_message band ctl.now dat.now) }
 {
-    match (ctl, dat) {
-        (None, None) => None,
-        _ => Some(band),
+    if ctl.is_none() && dat.is_none() {
+        return None;
     }
+    Some(band)
 }
 
 /// The ordinary message of a band that these parts make, if they make one.
@@ -114,8 +114,8 @@ fn send<M: ModuleOf>(chain: &mut Chain<M>, end: End, m: Option<Message>) -> Resu
 pub fn putmsg_refusal<M: ModuleOf>(
     chain: &Chain<M>,
     end: End,
-    ctl: &Option<Bytes>,
-    dat: &Option<Bytes>,
+    ctl: &Part,
+    dat: &Part,
     flag: Priority,
 ) -> Option<Refusal>
     ensures { result ≡ first_that_holds (putmsg_refusals chain.now.image end ctl.now dat.now flag) }
@@ -136,8 +136,8 @@ pub fn putmsg_refusal<M: ModuleOf>(
 pub fn putmsg<M: ModuleOf>(
     chain: &mut Chain<M>,
     end: End,
-    ctl: Option<Bytes>,
-    dat: Option<Bytes>,
+    ctl: Part,
+    dat: Part,
     flag: Priority,
 ) -> Result<Reply, ChainFault>
     requires there { is_there chain.old.image (Spots.Down end 1) ≡ true }
@@ -148,8 +148,8 @@ pub fn putmsg<M: ModuleOf>(
     ensures nothing { IsNone (putmsg_message ctl dat flag) → IsOk result }
 {
     let m = match flag {
-        Priority::Norm => ordinary_message(0, ctl, dat),
-        Priority::Hipri => high_message(ctl, dat),
+        Priority::Norm => ordinary_message(0, ctl.into_bytes(), dat.into_bytes()),
+        Priority::Hipri => high_message(ctl.into_bytes(), dat.into_bytes()),
     };
     send(chain, end, m)?;
     Ok(Reply::Putmsg)
@@ -162,8 +162,8 @@ pub fn putmsg<M: ModuleOf>(
 pub fn putpmsg_refusal<M: ModuleOf>(
     chain: &Chain<M>,
     end: End,
-    ctl: &Option<Bytes>,
-    dat: &Option<Bytes>,
+    ctl: &Part,
+    dat: &Part,
     band: u8,
     flag: PutFlag,
 ) -> Option<Refusal>
@@ -185,8 +185,8 @@ pub fn putpmsg_refusal<M: ModuleOf>(
 pub fn putpmsg<M: ModuleOf>(
     chain: &mut Chain<M>,
     end: End,
-    ctl: Option<Bytes>,
-    dat: Option<Bytes>,
+    ctl: Part,
+    dat: Part,
     band: u8,
     flag: PutFlag,
 ) -> Result<Reply, ChainFault>
@@ -199,8 +199,8 @@ pub fn putpmsg<M: ModuleOf>(
 {
     let m = match flag {
         PutFlag::Zero => None,
-        PutFlag::Band => ordinary_message(band, ctl, dat),
-        PutFlag::Hipri => high_message(ctl, dat),
+        PutFlag::Band => ordinary_message(band, ctl.into_bytes(), dat.into_bytes()),
+        PutFlag::Hipri => high_message(ctl.into_bytes(), dat.into_bytes()),
     };
     send(chain, end, m)?;
     Ok(Reply::Putpmsg)

@@ -62,9 +62,7 @@ fn received_of(m: &Message) -> Received
     if m.is_high() {
         Received::Hipri
     } else {
-        Received::Band {
-            band: u64::from(m.band),
-        }
+        Received::Band { band: m.band }
     }
 }
 

@@ -1,10 +1,8 @@
 -- What a script says: streams in order, processes with their calls, and feeds with their messages.
 use Rattle.std.specs.Prelude.{ℕ, List, map}
-use Rattle.arrayvec.specs.ArrayVec.{ArrayVec}
 use Rattle.strm_msg.specs.Message.{Msg}
 use Rattle.strm_msg.specs.declared.words.End.{End}
 use Rattle.strm_module.specs.declared.shape.Shape.{Shape}
-use Rattle.strm_call.specs.declared.setup.Setup.{Setup}
 use Rattle.strm_verb.specs.Table.{Asked, asked_of}
 use Rattle.strm_job.specs.declared.script.ScriptCall.{ScriptCall}
 use Rattle.strm_job.specs.declared.script.Feed.{Feed}

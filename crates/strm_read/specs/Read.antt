@@ -1,5 +1,5 @@
 -- What a read gives of the messages at the head, and what stays of them (read(2); streamio(7), I_SRDOPT).
-use Rattle.std.specs.Prelude.{◌≡◌, ◌≤◌, ℕ, ◌-◌, ◌&&◌, not, nat_le, nat_lt, Bool, true, false, Option, Some, None, List, [], ◌∷◌, ◌++◌, length, take, drop, take_while, flat_map, slice_get, option_map, suc, zero, if◌then◌else◌, is_some}
+use Rattle.std.specs.Prelude.{◌≡◌, ◌≤◌, ℕ, ◌-◌, ◌&&◌, not, nat_le, nat_lt, Bool, true, false, Option, Some, None, List, [], ◌∷◌, ◌++◌, length, take, drop, take_while, flat_map, slice_get, suc, zero, if◌then◌else◌, is_some}
 use Rattle.strm_msg.specs.Message.{Msg, Part, part_len}
 use Rattle.strm_msg.specs.declared.words.End.{End}
 use Rattle.strm_msg.specs.declared.words.Prot.{Prot}
@@ -64,10 +64,6 @@ abbrev pub cut_first : ReadMode → Prot → ℕ → Option Msg → List Msg →
 cut_first mode prot n None q = q
 cut_first mode prot zero (Some m) q = q
 cut_first mode prot (suc n) (Some m) q = put_back_if (drop 1 q) (rest_of mode prot (suc n) m)
-
--- the data of the first message (no public clause cites it)
-abbrev pub data_of_first : List Msg → Option Part
-data_of_first q = option_map (λ m. m.dat) (slice_get q 0)
 
 -- the bytes of the first message's data (no public clause cites it)
 abbrev pub bytes_of_first : List Msg → Option (List ℕ)

@@ -5,7 +5,7 @@ ghost use Rattle.strm_ends.specs.Image.{end_of, with_head, KeepsHeadRoom};
 ghost use Rattle.strm_call.specs.declared.answer.Reply.TheVariants as Replies;
 ghost use Rattle.strm_call.specs.Refusal.{first_that_holds};
 ghost use Rattle.strm_cut.specs.First.{put_back_if};
-ghost use Rattle.strm_read.specs.Read.{bytes_of_first, data_of_first, IsAlone, bytes_in, bytes_read, bytes_of_all, is_unread, goes_on_to, reached, whole_in, rest_of, read_of, read_refusals, read_begun};
+ghost use Rattle.strm_read.specs.Read.{bytes_of_first, IsAlone, bytes_in, bytes_read, bytes_of_all, is_unread, goes_on_to, reached, whole_in, rest_of, read_of, read_refusals, read_begun};
 
 use std::alloc::Global;
 use strm_call::{Refusal, Replied, Reply};
@@ -267,7 +267,7 @@ fn nothing_read<A: Replied>(alloc: Global) -> A
 
 /// Whether the first message has data, which are these bytes.
 fn is_data_of_first(queue: &BandQueue, bytes: &[u8]) -> bool
-    ensures { result ≡ true ↔ (data_of_first queue.now.messages ≡ Some (Some bytes.now)) }
+    ensures { result ≡ true ↔ (bytes_of_first queue.now.messages ≡ Some bytes.now) }
 {
     let Some(first) = queue.first() else {
         return false;
@@ -278,11 +278,10 @@ fn is_data_of_first(queue: &BandQueue, bytes: &[u8]) -> bool
     }
 }
 
-/// Takes the first message of a head away, and gives its data, which a read has found. The reply has what the
-/// message had, an equal one what was found. Takes no memory.
-fn give_first<M: ModuleOf, A: Replied>(chain: &mut Chain<M>, end: End, bytes: Vec<u8>) -> A
-    requires { data_of_first (end_of chain.old.image end).head ≡ Some (Some bytes.items) }
-    ensures reply { A.says result ≡ Replies.Read bytes.items }
+/// Takes the first message of a head away, which has data, and gives these as they stand. Takes no memory.
+fn take_data<M: ModuleOf>(chain: &mut Chain<M>, end: End) -> Bytes
+    requires { is_some (bytes_of_first (end_of chain.old.image end).head) ≡ true }
+    ensures data { bytes_of_first (end_of chain.old.image end).head ≡ Some result }
     ensures image { chain.new.image ≡ with_head chain.old.image end (drop 1 (end_of chain.old.image end).head) }
 {
     let dat = match chain.take_head(end) {
@@ -290,9 +289,20 @@ fn give_first<M: ModuleOf, A: Replied>(chain: &mut Chain<M>, end: End, bytes: Ve
         None => unreachable!(),
     };
     match dat {
-        Some(dat) => A::new(Reply::Read { dat }, reply_of(bytes)),
+        Some(dat) => dat,
         None => unreachable!(),
     }
+}
+
+/// Gives the data of the first message, which a read has found, and takes it away. The reply has what the message had, an
+/// equal one what was found. Takes no memory.
+fn give_first<M: ModuleOf, A: Replied>(chain: &mut Chain<M>, end: End, bytes: Vec<u8>) -> A
+    requires { bytes_of_first (end_of chain.old.image end).head ≡ Some bytes.items }
+    ensures reply { A.says result ≡ Replies.Read bytes.items }
+    ensures image { chain.new.image ≡ with_head chain.old.image end (drop 1 (end_of chain.old.image end).head) }
+{
+    let dat = take_data(chain, end);
+    A::new(Reply::Read { dat }, reply_of(bytes))
 }
 
 /// Whether one message waits, which has data alone, and a read of at most `max` bytes gives them all.
@@ -319,14 +329,8 @@ fn give_alone<M: ModuleOf, A: Replied>(chain: &mut Chain<M>, end: End) -> Result
     ensures image { chain.new.image ≡ with_head chain.old.image end (drop 1 (end_of chain.old.image end).head) }
     ensures ok { IsOk result }
 {
-    let dat = match chain.take_head(end) {
-        Some(m) => m.into_message().dat,
-        None => unreachable!(),
-    };
-    match dat {
-        Some(dat) => A::of(chain.alloc(), Reply::Read { dat }),
-        None => unreachable!(),
-    }
+    let dat = take_data(chain, end);
+    A::of(chain.alloc(), Reply::Read { dat })
 }
 
 /// Gives what a read has found, takes it away from the head, and puts back what stays.

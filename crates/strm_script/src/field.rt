@@ -12,7 +12,7 @@ ghost use Rattle.strm_script.specs.Replies.{name_fields};
 use crate::gathered::Gathered;
 use itoa::Buffer;
 use std::io::{self, Write};
-use strm_call::Name;
+use strm_call::{Name, Part};
 use strm_msg::Bytes;
 use strm_text::{are_plain, write_part};
 
@@ -39,6 +39,16 @@ pub(crate) fn part_field(part: &Option<Bytes>) -> Field<'_>
     match part {
         None => Field::Word(b"-"),
         Some(part) => Field::Bytes(part.as_slice()),
+    }
+}
+
+/// A part that a call sends, or `-` where there is none.
+pub(crate) fn sent_field(part: &Part) -> Field<'_>
+    ensures { said result ≡ says.part_field part.now }
+{
+    match part.as_bytes() {
+        None => Field::Word(b"-"),
+        Some(bytes) => Field::Bytes(bytes.as_slice()),
     }
 }
 

@@ -46,7 +46,11 @@ fn add_taken<'a, W: Write>(
 {
     let (ctl, dat, more) = (part_field(ctl), part_field(dat), Word(more_word(more)));
     match flag {
-        Received::Band { band } => add_all(w, out, &[ctl, dat, Word(b"band"), Number(band), more]),
+        Received::Band { band } => add_all(
+            w,
+            out,
+            &[ctl, dat, Word(b"band"), Number(u64::from(band)), more],
+        ),
         Received::Hipri => add_all(w, out, &[ctl, dat, Word(b"hipri"), more]),
     }
 }

@@ -5,7 +5,7 @@ ghost use Rattle.strm_script.specs.Fields as text;
 ghost use Rattle.strm_script.specs.Gathered.{Puts};
 
 use crate::field::Field::{Number, Word};
-use crate::field::{Field, add_all, add_number, add_part, maximum_field, part_field};
+use crate::field::{Field, add_all, add_number, add_part, maximum_field, part_field, sent_field};
 use crate::gathered::Gathered;
 use crate::module::{PrintKind, add_module};
 use std::io::Write;
@@ -55,24 +55,24 @@ fn add_listed<W: Write, K: PrintKind + Drop>(
     ensures { Puts (W.contents w.old) (W.contents w.new) out.old out.new (text.spaced (text.fields_of K.spelling (asked_of request.now))) }
 {
     match request {
-        Request::Putmsg { ctl, dat, flag } => {
+        Request::Putmsg { flag, ctl, dat } => {
             add_all(
                 w,
                 out,
-                &[part_field(ctl), part_field(dat), Word(flag.word())],
+                &[sent_field(ctl), sent_field(dat), Word(flag.word())],
             )
         }
         Request::Putpmsg {
-            ctl,
-            dat,
             band,
             flag,
+            ctl,
+            dat,
         } => add_all(
             w,
             out,
             &[
-                part_field(ctl),
-                part_field(dat),
+                sent_field(ctl),
+                sent_field(dat),
                 Number(u64::from(*band)),
                 Word(flag.word()),
             ],

@@ -64,8 +64,8 @@ module _ {K : Type 0} (means : Meaning K) where
       (second_none (first_that_holds (common_refusals image e Requests.Pop)) (first_that_holds (pop_refusals image e)) (sym (first_of_all image e Requests.Pop (λ same. cc)) ∙ none))
       replies comes
   hands_out image e Requests.Close answer back kept none replies comes = close_out (end_of image e).modules answer back replies comes
-  hands_out image e (Requests.Putmsg ctl dat flag) answer back kept none replies comes = comes
-  hands_out image e (Requests.Putpmsg ctl dat band flag) answer back kept none replies comes = comes
+  hands_out image e (Requests.Putmsg flag ctl dat) answer back kept none replies comes = comes
+  hands_out image e (Requests.Putpmsg band flag ctl dat) answer back kept none replies comes = comes
   hands_out image e (Requests.Getmsg maxctl maxdat flag) answer back kept none replies comes = comes
   hands_out image e (Requests.Getpmsg maxctl maxdat band flag) answer back kept none replies comes = comes
   hands_out image e (Requests.Read zero) answer back kept none replies comes = comes
@@ -119,6 +119,7 @@ module _ {K : Type 0} (means : Meaning K) where
           number = ap (λ (r : ReceiptValue K). r.number) made.shown;
           by = ap (λ (e : Entry K). e.who) entry ∙ enters.by;
           asked = ap (λ (e : Entry K). asked_of e) entry ∙ (λ i. (enters.at i, enters.has i));
+          made = subst (λ (a : Answer). HandsBackMade call a back.items) (sym answers) (called_back old new seat.caller (seat.calls + 1) call is.0 back.items (Some r) made);
           handed = subst (λ (a : Answer). flat_map serial_of back.items ≡ due_back r.entry.event a r.entry.out.items) (sym answers) (subst (λ (e : Entry K). flat_map serial_of back.items ≡ due_back e.event is.0 e.out.items) (sym entry) made.handed);
         },
       )

@@ -78,12 +78,14 @@ abbrev pub HandsBack : {K A : Type 0} → (A → Answer → Type 0) → Call (Sh
 HandsBack Agrees call (Done has back receipt) = (answer : Answer) × Agrees has answer × HandsBackMade call answer back.items
 HandsBack Agrees call (NoRoom same) = same ≡ call
 
--- a receipt of a seat's next call: the entry that it shows has this caller, end and request, and accounts for what came back
+-- a receipt of a seat's next call: the entry that it shows has this caller, end and request, and what came back is what a call
+-- with the entry's answer hands back, with the serials for which the entry accounts
 pub record IsReceiptOf {K : Type 0} (seat : SeatValue) (call : Call (Shape K)) (back : List (Option (Shape K))) (receipt : ReceiptValue K) : Type 0 where
   pub caller : receipt.caller ≡ seat.caller
   pub number : receipt.number ≡ seat.calls + 1
   pub by : receipt.entry.who ≡ Caller seat.caller
   pub asked : asked_of receipt.entry ≡ (call.end, Asked call.request)
+  pub made : HandsBackMade call receipt.entry.answer back
   pub handed : flat_map serial_of back ≡ due_back receipt.entry.event receipt.entry.answer receipt.entry.out.items
 
 -- so is the receipt of a call that was made, if it has one, and what the caller has of the answer agrees with that of the entry

@@ -4,7 +4,7 @@ ghost use Rattle.strm_verb.specs.Fault.{Gives, Tells};
 ghost use Rattle.strm_verb.specs.Table as table;
 
 use crate::fault::{Cause, ReadError};
-use crate::field::{byte_at, maximum_at, optional_at, part_at, short_at, word_at};
+use crate::field::{byte_at, maximum_at, optional_at, part_at, sent_at, short_at, word_at};
 use crate::kinds::{PlayModule, ReadKind, shape_at};
 use crate::verb::Verb;
 use crate::worded::choice_at;
@@ -19,10 +19,10 @@ fn putmsg<M: ModuleOf>(alloc: Global, texts: &[&[u8]]) -> Result<Request<Boxed<M
     let [ctl, dat, flag] = texts else {
         return Err(ReadError::Fault(Cause::Fields));
     };
-    let ctl = optional_at(alloc, ctl)?;
-    let dat = optional_at(alloc, dat)?;
+    let ctl = sent_at(alloc, ctl)?;
+    let dat = sent_at(alloc, dat)?;
     let flag = choice_at(flag)?;
-    Ok(Request::Putmsg { ctl, dat, flag })
+    Ok(Request::Putmsg { flag, ctl, dat })
 }
 
 /// `putpmsg CTL DAT BAND FLAG`.
@@ -32,15 +32,15 @@ fn putpmsg<M: ModuleOf>(alloc: Global, texts: &[&[u8]]) -> Result<Request<Boxed<
     let [ctl, dat, band, flag] = texts else {
         return Err(ReadError::Fault(Cause::Fields));
     };
-    let ctl = optional_at(alloc, ctl)?;
-    let dat = optional_at(alloc, dat)?;
+    let ctl = sent_at(alloc, ctl)?;
+    let dat = sent_at(alloc, dat)?;
     let band = byte_at(band)?;
     let flag = choice_at(flag)?;
     Ok(Request::Putpmsg {
-        ctl,
-        dat,
         band,
         flag,
+        ctl,
+        dat,
     })
 }
 

@@ -70,6 +70,9 @@ impl<M: ModuleOf> Chain<M> {
             return Err(ChainFault::Broken);
         }
         self.restart();
+        if self.enabling.len() == 0 {
+            return Ok(Settled::none(self.ends.alloc()));
+        }
         let mut moves = Moves::new(self.ends.alloc());
         let mut hops = self.take_hops();
         while let Some((place, may)) = self.look() {

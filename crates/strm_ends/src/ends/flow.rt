@@ -82,6 +82,7 @@ impl<M: ModuleOf> Ends<M> {
     }
 
     /// The queue ahead of a place, if there is one.
+    #[inline(always)]
     fn queue_ahead(&self, place: Place) -> Option<&BandQueue>
         ensures { option_map fill_of (option_copied result) ≡ ahead self.now.image place }
     {

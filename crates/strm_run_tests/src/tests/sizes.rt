@@ -14,18 +14,18 @@ fn what_a_call_moves_is_small(rt: HostRuntime) {
         ("a message", size_of::<Message>(), 96),
         ("a message in its box", size_of::<BoxedMessage>(), 8),
         ("what a module sends", size_of::<Outs>(), 48),
-        ("a reply", size_of::<Reply>(), 104),
-        ("an answer", size_of::<Answer>(), 112),
-        ("a request", size_of::<Request<Boxed<Plain>>>(), 80),
-        ("an event", size_of::<Event<BoxedShape<Kind>>>(), 88),
-        ("an entry", size_of::<Entry<Kind>>(), 264),
+        ("a reply", size_of::<Reply>(), 88),
+        ("an answer", size_of::<Answer>(), 96),
+        ("a request", size_of::<Request<Boxed<Plain>>>(), 40),
+        ("an event", size_of::<Event<BoxedShape<Kind>>>(), 48),
+        ("an entry", size_of::<Entry<Kind>>(), 216),
         ("an entry in its place", size_of::<Kept<Kind>>(), 24),
         ("a receipt", size_of::<Receipt<Kind>>(), 32),
-        ("an outcome", size_of::<Outcome<Plain>>(), 280),
+        ("an outcome", size_of::<Outcome<Plain>>(), 272),
         (
             "what becomes of a call",
             size_of::<Called<Boxed<Plain>, Kind>>(),
-            296,
+            280,
         ),
         (
             "what becomes of a call whose answer its receipt shows",
@@ -35,7 +35,7 @@ fn what_a_call_moves_is_small(rt: HostRuntime) {
         (
             "a call of a script",
             size_of::<ScriptCall<Boxed<Plain>>>(),
-            96,
+            56,
         ),
     ] {
         check(&rt, (what, size), size == wanted);

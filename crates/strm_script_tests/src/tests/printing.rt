@@ -7,7 +7,7 @@ use arrayvec::ArrayVec;
 use std::alloc::Global;
 use std::io::{self, ErrorKind, Write};
 use std::process::Abort;
-use strm_call::{Acknowledged, Answer, Name, Refusal, Reply, Request};
+use strm_call::{Acknowledged, Answer, Name, NameList, Refusal, Reply, Request};
 use strm_head::{Event, MOST_MODULES, Moves};
 use strm_history::{Entry, Kept, Serials, Who};
 use strm_module::{BoxedShape, Kind};
@@ -322,7 +322,7 @@ const PLAN: &[u8] = b"stream one loop 16/4 16/4\nstream two echo 16/4 16/4\nproc
 /// What is left of the plan's run, in which `p` closed end A of the second stream.
 fn transcript(rt: &impl Abort, alloc: Global) -> Transcript<Kind> {
     let reply = Reply::Close {
-        names: ArrayVec::new(),
+        names: NameList::new(&[]),
     };
     let event = Event::Asked(Request::Close);
     let entry = step(rt, alloc, (Who::Caller(0), A), event, Answer::Done(reply));

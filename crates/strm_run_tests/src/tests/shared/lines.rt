@@ -8,7 +8,7 @@ use std::alloc::Global;
 use std::marker::Brand;
 use std::process::Abort;
 use std::sync::Wait;
-use strm_head::{Answer, Priority, Refusal, Reply, Request, Wanted};
+use strm_head::{Answer, Part, Priority, Refusal, Reply, Request, Wanted};
 use strm_history::Kept;
 use strm_module::{Boxed, Kind, Plain};
 use strm_msg::{Errno, Message, Prot, ReadMode};
@@ -214,9 +214,9 @@ fn refused_of(rt: &impl Abort, alloc: Global, ask: Ask) -> Request<Boxed<Plain>>
         Ask::Read => Request::Read { max: 8 },
         Ask::Look => Request::Look,
         Ask::Putmsg => Request::Putmsg {
-            ctl: None,
-            dat: Some(bytes(rt, alloc, b"y")),
             flag: Priority::Norm,
+            ctl: Part::none(),
+            dat: Part::new(alloc, Some(bytes(rt, alloc, b"y"))).expect(rt, "no memory"),
         },
         Ask::Canput => Request::Canput { band: 0 },
         Ask::Write => Request::Write {

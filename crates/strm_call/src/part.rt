@@ -1,0 +1,91 @@
+//! A part of a message that a call sends.
+ghost use Rattle.std.specs.Prelude.{◌≡◌, ◌↔◌, true, not, None, IfOk, is_some, option_copied};
+
+use std::alloc::Global;
+use std::marker::Model;
+use strm_msg::{Bytes, NoMem};
+
+/// Control or data of a message that a call sends, which may be missing: its bytes stand in a box, so that a request is small.
+/// Contracts see the bytes, or `None`.
+#[derive(Debug, Drop)]
+pub struct Part {
+    bytes: Option<Box<Bytes>>,
+}
+
+impl Model for Part {
+    ghost use Rattle.std.specs.Prelude.{ℕ, List, Option, option_map};
+
+    ghost Value = { Option (List ℕ) };
+
+    ghost view = { λ part. option_map (λ boxed. boxed.value) part.bytes };
+}
+
+impl Part {
+    /// No part. Takes no memory.
+    pub fn none() -> Self
+        ensures { result ≡ None }
+    {
+        Part { bytes: None }
+    }
+
+    /// A part of these bytes, or none. Refused for want of memory alone, and not where there is none.
+    pub fn new(alloc: Global, bytes: Option<Bytes>) -> Result<Self, NoMem>
+        ensures { IfOk result (λ part. part ≡ bytes) }
+    {
+        let Some(bytes) = bytes else {
+            return Ok(Part::none());
+        };
+        match Box::new(alloc, bytes) {
+            Ok(bytes) => Ok(Part { bytes: Some(bytes) }),
+            Err(_) => Err(NoMem),
+        }
+    }
+
+    /// The bytes, if there are any.
+    pub fn as_bytes(&self) -> Option<&Bytes>
+        ensures { option_copied result ≡ self.now }
+    {
+        match &self.bytes {
+            Some(bytes) => Some(bytes),
+            None => None,
+        }
+    }
+
+    /// The bytes without their box, if there are any. Takes no memory.
+    pub fn into_bytes(self) -> Option<Bytes>
+        ensures { result ≡ self }
+    {
+        match self.bytes {
+            Some(bytes) => Some(Box::into_inner(bytes)),
+            None => None,
+        }
+    }
+
+    /// Whether the part is missing.
+    pub fn is_none(&self) -> bool
+        ensures { is_some self.now ≡ not result }
+    {
+        self.bytes.is_none()
+    }
+
+    /// An equal part. Refused for want of memory alone.
+    pub fn copy(&self, alloc: Global) -> Result<Self, NoMem>
+        ensures { IfOk result (λ copy. copy ≡ self.now) }
+    {
+        match self.as_bytes() {
+            Some(bytes) => Part::new(alloc, Some(bytes.copy(alloc)?)),
+            None => Ok(Part::none()),
+        }
+    }
+
+    /// Whether another is the same.
+    pub fn is_same(&self, other: &Part) -> bool
+        ensures { result ≡ true ↔ self.now ≡ other.now }
+    {
+        match (self.as_bytes(), other.as_bytes()) {
+            (Some(one), Some(other)) => one.as_slice() == other.as_slice(),
+            (None, None) => true,
+            _ => false,
+        }
+    }
+}

@@ -78,6 +78,7 @@ impl Hop {
 }
 
 /// Puts what module `i` sends in front of the list of what is on its way.
+#[inline(always)]
 pub(super) fn push_outs(
     hops: &mut VecDeque<Hop>,
     head_sent: bool,

@@ -1,5 +1,5 @@
 //! A part of a message that a call sends.
-ghost use Rattle.std.specs.Prelude.{◌≡◌, ◌↔◌, true, not, None, IfOk, is_some, option_copied};
+ghost use Rattle.std.specs.Prelude.{◌≡◌, ◌↔◌, true, not, None, IfOk, IsNone, IsOk, is_some, option_copied};
 
 use std::alloc::Global;
 use std::marker::Model;
@@ -30,7 +30,8 @@ impl Part {
 
     /// A part of these bytes, or none. Refused for want of memory alone, and not where there is none.
     pub fn new(alloc: Global, bytes: Option<Bytes>) -> Result<Self, NoMem>
-        ensures { IfOk result (λ part. part ≡ bytes) }
+        ensures part { IfOk result (λ part. part ≡ bytes) }
+        ensures nothing { IsNone bytes → IsOk result }
     {
         let Some(bytes) = bytes else {
             return Ok(Part::none());
@@ -68,9 +69,10 @@ impl Part {
         self.bytes.is_none()
     }
 
-    /// An equal part. Refused for want of memory alone.
+    /// An equal part. Refused for want of memory alone, and not where there is none.
     pub fn copy(&self, alloc: Global) -> Result<Self, NoMem>
-        ensures { IfOk result (λ copy. copy ≡ self.now) }
+        ensures copy { IfOk result (λ copy. copy ≡ self.now) }
+        ensures nothing { IsNone self.now → IsOk result }
     {
         match self.as_bytes() {
             Some(bytes) => Part::new(alloc, Some(bytes.copy(alloc)?)),

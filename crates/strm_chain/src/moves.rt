@@ -1,5 +1,5 @@
 //! Lists of moves, and what a service did.
-ghost use Rattle.std.specs.Prelude.{◌≡◌, ◌++◌, ◌∷◌, [], IfOk, OnOk, IsTrue, ◌↔◌, length};
+ghost use Rattle.std.specs.Prelude.{◌≡◌, ◌++◌, ◌∷◌, [], OnOk, IsTrue, ◌↔◌, length};
 
 use smallvec::SmallVec;
 use std::alloc::Global;
@@ -44,16 +44,6 @@ impl Moves {
     {
         Moves {
             items: SmallVec::new(alloc),
-        }
-    }
-
-    /// A vector of these moves, which takes memory where they are few. Refused for want of memory alone.
-    pub fn into_vec(self) -> Result<Vec<Place>, NoMem>
-        ensures { IfOk result (λ vector. vector.items ≡ self) }
-    {
-        match self.items.into_vec() {
-            Ok(vector) => Ok(vector),
-            Err(_) => Err(NoMem),
         }
     }
 

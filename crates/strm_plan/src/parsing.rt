@@ -43,7 +43,7 @@ where
     parse_lines(alloc, bytes)
 }
 
-/// The plan that a script spells, as `parse` reads it, with its processes read in at most so many threads, of which the caller's is one.
+/// The plan that a script spells, as `parse` reads it, with its processes read in at most so many threads.
 ///
 /// A long script is cut before each line that begins with `process`. The calls behind such a line are read by themselves, onto the
 /// streams that are declared before the first of these lines; where something else stands there, or streams were declared meanwhile,

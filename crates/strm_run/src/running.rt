@@ -65,9 +65,9 @@ where
 /// Plays scripts on streams that all callers share, and gives what is left of each stream.
 ///
 /// Streams are numbered from 0 in the order of their setups, callers in that of their scripts. Caller `i`
-/// is played by worker `i` modulo `workers`, and the callers of a worker one after another. Worker 0 is the
-/// thread that calls; each other that has a caller is a thread of its own. Each feed has a thread of its own
-/// too, which is started with the workers and offers each message once. Round each call the gate is called.
+/// is played by worker `i` modulo `workers`, and the callers of a worker one after another. Each
+/// worker that has a caller is a thread of its own, or, where it is the only one, the thread that calls. Each feed has a thread of its own
+/// too, which is started before the workers and offers each message once. Round each call the gate is called.
 /// What comes back from a call is dropped after it, outside of the lock. When all have played, the streams are ended in at most
 /// as many threads as there are workers.
 ///

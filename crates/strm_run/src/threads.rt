@@ -9,21 +9,22 @@ use strm_module::ModuleOf;
 use strm_msg::NoMem;
 use strm_threads::beside;
 
-/// The first worker that has scripts, and the others that have some.
+/// The scripts of the only worker that has some, or those of each that has some, where they are several.
 fn with_scripts<P: Drop>(
     alloc: Global,
     crews: Vec<Vec<P>>,
 ) -> Result<(Vec<P>, Vec<Vec<P>>), NoMem> {
-    let mut first = Vec::new(alloc);
-    let mut others = Vec::new(alloc);
+    let mut busy = Vec::new(alloc);
     for crew in crews {
-        if first.is_empty() {
-            first = crew;
-        } else if !crew.is_empty() {
-            others.push(crew)?;
+        if !crew.is_empty() {
+            busy.push(crew)?;
         }
     }
-    Ok((first, others))
+    if busy.len() > 1 {
+        return Ok((Vec::new(alloc), busy));
+    }
+    let alone = busy.pop().unwrap_or(Vec::new(alloc));
+    Ok((alone, busy))
 }
 
 /// What workers leave, one behind the other; want of memory, where one of them met it.
@@ -38,7 +39,7 @@ fn joined<T: Drop>(
     Ok(all)
 }
 
-/// Plays the scripts of the first worker here, and those of each other in a thread of its own, if it has some.
+/// Plays the scripts of each worker that has some in a thread of its own, or here, if it is the only one.
 fn play_all<M: ModuleOf, N: Plays<M::Kind> + Send + Sync, R: Threads + Wait + Sync, G: Gate>(
     rt: &R,
     alloc: Global,
@@ -50,17 +51,17 @@ where
     M::Kind: Send + Sync,
     requires { CallsDoFit M.row M.Kind.row M.Kind.Kinds }
 {
-    let (first, others) = with_scripts(alloc, crews)?;
+    let (alone, several) = with_scripts(alloc, crews)?;
     let (left, mine) = beside(
         rt,
         alloc,
-        others,
+        several,
         &|crew: Vec<Player<M, N>>| -> Result<Vec<Played<M::Kind, N>>, NoMem>
             requires { CallsDoFit M.row M.Kind.row M.Kind.Kinds }
         { play_each(rt, alloc, streams, crew, gate) },
         || -> Result<Vec<Played<M::Kind, N>>, NoMem>
             requires { CallsDoFit M.row M.Kind.row M.Kind.Kinds }
-        { play_each(rt, alloc, streams, first, gate) },
+        { play_each(rt, alloc, streams, alone, gate) },
     )?;
     joined(mine, left)
 }

@@ -120,8 +120,7 @@ fn no_memory() -> io::Error
     io::Error::from(ErrorKind::OutOfMemory)
 }
 
-/// Prints a transcript to a writer as `print` does, with the lines of its streams made in at most so many threads, of which the
-/// caller's is one.
+/// Prints a transcript to a writer as `print` does, with the lines of its streams made in at most so many threads.
 ///
 /// With one thread, and of a single stream, the lines are written as they are made, and no memory is taken. Else those of all streams
 /// are made before the first is written. The transcript is as it was.

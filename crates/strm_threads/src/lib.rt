@@ -1,6 +1,7 @@
 //! Work in threads: in threads of its own, beside what its caller does, or shared out among a few.
 #![tactic(auto)]
 
+mod portions;
 mod sharing;
 mod threads;
 

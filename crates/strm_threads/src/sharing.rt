@@ -4,9 +4,10 @@ ghost use Rattle.std.specs.Fork.{AcceptsJobs, GivesJobs};
 ghost use Rattle.strm_threads.specs.Turns.{AreDoneBy, IsDone, IsDoneBy, IsReady};
 ghost use Rattle.strm_threads.specs.declared.sharing.Turn.TheVariants.{Done, Due};
 
+use crate::portions::on_each;
 use std::alloc::Global;
+use std::mem;
 use std::thread::Threads;
-use std::{mem, thread};
 use strm_msg::NoMem;
 
 /// A job where it stands, before it is done and after.
@@ -41,7 +42,7 @@ fn take_turn<J: Drop, X: Drop, F: Fn(J) -> X>(turn: &mut Turn<J, X>, work: &F)
     }
 }
 
-/// Does jobs where they stand, in at most so many threads, of which the caller's is one, and waits for all.
+/// Does jobs where they stand, in at most so many threads, and waits for all.
 fn take_turns<R: Threads + Sync, J: Send + Drop, X: Send + Drop, F: Fn(J) -> X + Sync>(
     rt: &R,
     turns: &mut [Turn<J, X>],
@@ -52,11 +53,11 @@ fn take_turns<R: Threads + Sync, J: Send + Drop, X: Send + Drop, F: Fn(J) -> X +
     requires ready { All (IsReady F.Fn work.now) turns.old }
     ensures { AreDoneBy F.Fn work.now turns.old turns.new }
 {
-    thread::for_each_mut(
+    on_each(
         rt,
         turns,
         threads,
-        &|_, turn: &mut Turn<J, X>| take_turn(turn, work),
+        &|turn: &mut Turn<J, X>| take_turn(turn, work),
     );
 }
 
@@ -85,11 +86,10 @@ fn all_left<J: Drop, X: Drop>(mut all: Vec<X>, turns: Vec<Turn<J, X>>) -> Vec<X>
     all
 }
 
-/// Does a work with each of these, in at most so many threads, of which the caller's is one, and waits for all. It gives what the
-/// work left of each, in order. Neighbours are done by one thread, one after another.
+/// Does a work with each of these, in at most so many threads, and waits for all. It gives what the work left of each, in order.
+/// Neighbours are done by one thread, one after another: by the caller's where it is the only one, and else the caller's does none.
 ///
-/// Refused for want of memory alone, and then nothing was done. Where a thread is not to be had, the one that asked for it does
-/// its work.
+/// Refused for want of memory alone, and then nothing was done. Where a thread is not to be had, the caller's does its work.
 pub fn shared_out<R: Threads + Sync, J: Send + Drop, X: Send + Drop, F: Fn(J) -> X + Sync>(
     rt: &R,
     alloc: Global,

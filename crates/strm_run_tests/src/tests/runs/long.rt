@@ -59,7 +59,7 @@ const LONG: Run<'static> = Run {
 #[test]
 fn a_script_of_65536_calls_ends_well(rt: HostRuntime) {
     let rows = long_script(&rt, rt.alloc());
-    // The first worker is the thread that runs, and the second one of its own.
+    // Both workers have a caller, so each is a thread of its own.
     let all = rows.as_slice();
     let scripts: &[&[Row]] = &[&all[..0], all];
     assert!(rt; plays(&rt, rt.alloc(), scripts, LONG, &Open));

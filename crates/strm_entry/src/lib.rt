@@ -15,6 +15,6 @@ pub use call::{Called, Landed};
 pub use entry::{Entry, Who};
 pub use kept::Kept;
 pub use receipt::Receipt;
-pub use room::{Room, room_for, room_for_arrival, taken};
+pub use room::{Pending, Room, room_for, room_for_arrival, taken};
 pub use serials::Serials;
 pub use transcript::{StreamLog, Transcript};

@@ -1,38 +1,40 @@
 //! What shows a caller that its call is in the history.
 ghost use Rattle.std.specs.Prelude.{◌≡◌};
+ghost use Rattle.std.specs.Arc.{arc_value};
 
 use crate::entry::Entry;
 use std::marker::Model;
-use strm_once::Held;
+use std::sync::Arc;
 
 /// What a caller has of a call that was made: whose call it was, which of that caller's calls, and its entry, which is the
 /// history's own and not a copy of it.
 ///
-/// Nothing of it takes memory or waits. It can be moved to another thread, and not shared by several.
+/// Nothing of it takes memory or waits. It can be moved to another thread.
 #[derive(Drop)]
 pub struct Receipt<K> {
-    caller: u32,
     number: u64,
-    held: Held<Entry<K>>,
+    entry: Arc<Entry<K>>,
+    caller: u32,
 }
 
 impl<K> Model for Receipt<K> {
+    ghost use Rattle.std.specs.Arc.{arc_value};
     ghost use Rattle.strm_entry.specs.Receipt.{ReceiptValue};
 
     ghost Value = { ReceiptValue K };
 
-    ghost view = { λ r. record { caller = r.caller; number = r.number; entry = r.held } };
+    ghost view = { λ r. record { caller = r.caller; number = r.number; entry = arc_value r.entry } };
 }
 
 impl<K> Receipt<K> {
     /// A receipt of a caller's call of this number.
-    pub(crate) fn new(caller: u32, number: u64, held: Held<Entry<K>>) -> Receipt<K>
-        ensures { result ≡ record { caller = caller; number = number; entry = held } }
+    pub(crate) fn new(caller: u32, number: u64, entry: Arc<Entry<K>>) -> Receipt<K>
+        ensures { result ≡ record { caller = caller; number = number; entry = arc_value entry } }
     {
         Receipt {
-            caller,
             number,
-            held,
+            entry,
+            caller,
         }
     }
 
@@ -54,6 +56,6 @@ impl<K> Receipt<K> {
     pub fn entry(&self) -> &Entry<K>
         ensures { result.now ≡ self.now.entry }
     {
-        self.held.get()
+        &self.entry
     }
 }

@@ -99,7 +99,7 @@ impl<K: SameKind + Drop> Entry<K> {
             && self.end == other.end
             && self.looks == other.looks
             && self.answer.is_same(&other.answer)
-            && self.out.as_slice() == other.out.as_slice()
+            && self.out.is_same(&other.out)
             && are_same_moves(self.moves.as_slice(), other.moves.as_slice())
             && is_same_event(&self.event, &other.event)
     }

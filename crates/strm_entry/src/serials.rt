@@ -1,5 +1,5 @@
 //! The serials of the modules that a call took out.
-ghost use Rattle.std.specs.Prelude.{◌≡◌, false, [], IfOk, is_some};
+ghost use Rattle.std.specs.Prelude.{◌≡◌, ◌↔◌, true, false, [], IfOk, is_some};
 ghost use Rattle.strm_call.specs.Calls.{changes_modules};
 ghost use Rattle.strm_entry.specs.Entry.{out_in};
 
@@ -63,6 +63,16 @@ impl Serials {
         match &self.boxed {
             Some(boxed) => boxed.as_slice(),
             None => &[],
+        }
+    }
+
+    /// Whether others are the same.
+    pub(crate) fn is_same(&self, other: &Serials) -> bool
+        ensures { result ≡ true ↔ self.now ≡ other.now }
+    {
+        match (&self.boxed, &other.boxed) {
+            (None, None) => true,
+            _ => self.as_slice() == other.as_slice(),
         }
     }
 }

@@ -1,4 +1,7 @@
 //! What a call does before any queue moves.
+//!
+//! Each call begins in a function that is not inlined: where the replies of all calls are made in one function, the compiler moves each
+//! of them in the pieces that any of them has.
 ghost use Rattle.std.specs.Prelude.{◌≡◌, true, false, [], None, Ok, IfOk};
 ghost use Rattle.strm_call.specs.declared.answer.Reply.TheVariants as Replies;
 ghost use Rattle.strm_call.specs.declared.answer.Acknowledged.TheVariants as Acknowledged;
@@ -82,6 +85,7 @@ fn done<A: Replied>(sending: Result<(), ChainFault>, reply: A) -> Result<A, Chai
 }
 
 /// Begins a pop. The module is handed out.
+#[inline(never)]
 fn begin_pop<M: ModuleOf, A: Replied>(
     chain: &mut Chain<M>,
     end: End,
@@ -98,6 +102,7 @@ fn begin_pop<M: ModuleOf, A: Replied>(
 }
 
 /// Begins a close. The modules are handed out, also where memory is wanting afterwards.
+#[inline(never)]
 fn begin_close<M: ModuleOf, A: Replied>(
     chain: &mut Chain<M>,
     end: End,
@@ -113,6 +118,7 @@ fn begin_close<M: ModuleOf, A: Replied>(
 }
 
 /// Begins a putmsg.
+#[inline(never)]
 fn begin_putmsg<M: ModuleOf, A: Replied>(
     chain: &mut Chain<M>,
     end: End,
@@ -127,6 +133,7 @@ fn begin_putmsg<M: ModuleOf, A: Replied>(
 }
 
 /// Begins a putpmsg.
+#[inline(never)]
 fn begin_putpmsg<M: ModuleOf, A: Replied>(
     chain: &mut Chain<M>,
     end: End,
@@ -142,6 +149,7 @@ fn begin_putpmsg<M: ModuleOf, A: Replied>(
 }
 
 /// Begins a write.
+#[inline(never)]
 fn begin_write<M: ModuleOf, A: Replied>(
     chain: &mut Chain<M>,
     end: End,
@@ -154,6 +162,7 @@ fn begin_write<M: ModuleOf, A: Replied>(
 }
 
 /// Begins a getmsg.
+#[inline(never)]
 fn begin_getmsg<M: ModuleOf, A: Replied>(
     chain: &mut Chain<M>,
     end: End,
@@ -168,6 +177,7 @@ fn begin_getmsg<M: ModuleOf, A: Replied>(
 }
 
 /// Begins a getpmsg.
+#[inline(never)]
 fn begin_getpmsg<M: ModuleOf, A: Replied>(
     chain: &mut Chain<M>,
     end: End,
@@ -183,6 +193,7 @@ fn begin_getpmsg<M: ModuleOf, A: Replied>(
 }
 
 /// Begins a read.
+#[inline(never)]
 fn begin_read<M: ModuleOf, A: Replied>(
     chain: &mut Chain<M>,
     end: End,
@@ -195,6 +206,7 @@ fn begin_read<M: ModuleOf, A: Replied>(
 }
 
 /// Begins a peek.
+#[inline(never)]
 fn begin_peek<M: ModuleOf, A: Replied>(
     chain: &mut Chain<M>,
     end: End,
@@ -210,6 +222,7 @@ fn begin_peek<M: ModuleOf, A: Replied>(
 }
 
 /// Begins an ioctl.
+#[inline(never)]
 fn begin_str<M: ModuleOf, A: Replied>(
     chain: &mut Chain<M>,
     end: End,
@@ -224,6 +237,7 @@ fn begin_str<M: ModuleOf, A: Replied>(
 }
 
 /// Begins a flush.
+#[inline(never)]
 fn begin_flush<M: ModuleOf, A: Replied>(
     chain: &mut Chain<M>,
     end: End,
@@ -237,6 +251,7 @@ fn begin_flush<M: ModuleOf, A: Replied>(
 }
 
 /// Begins a flush of one band.
+#[inline(never)]
 fn begin_flush_band<M: ModuleOf, A: Replied>(
     chain: &mut Chain<M>,
     end: End,
@@ -254,6 +269,7 @@ fn begin_flush_band<M: ModuleOf, A: Replied>(
 }
 
 /// What a call replies that only tells or sets something.
+#[inline(never)]
 fn told<M: ModuleOf>(chain: &mut Chain<M>, end: End, request: &Request<Boxed<M>>) -> Reply
     requires tells { takes_no_memory request.now ≡ true }
     requires own { first_that_holds (own_refusals chain.old.image end request.now) ≡ None }
@@ -276,6 +292,7 @@ fn told<M: ModuleOf>(chain: &mut Chain<M>, end: End, request: &Request<Boxed<M>>
 }
 
 /// Begins a call that only tells or sets something.
+#[inline(never)]
 fn begin_telling<M: ModuleOf, A: Replied>(
     chain: &mut Chain<M>,
     end: End,

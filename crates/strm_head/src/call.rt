@@ -214,6 +214,7 @@ fn answer_of(alloc: Global, kept: &Option<BoxedMessage>) -> Result<Acknowledged,
 }
 
 /// Runs services after an ioctl was sent, until no queue must move, and takes its answer.
+#[inline(never)]
 fn finish_ioctl<M: ModuleOf, A: Replied>(chain: &mut Chain<M>, end: End) -> Answered<A>
     requires { chain.old.image.broken ≡ false }
     ensures finishes { Finishes M.Kind.means end (begun_ioctl chain.old.image) result.answer result.moves [] chain.new.image }

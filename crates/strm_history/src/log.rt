@@ -11,12 +11,12 @@ ghost use Rattle.strm_history.specs.Opened.{opened};
 use arrayvec::ArrayVec;
 use std::alloc::Global;
 use std::marker::Model;
+use std::sync::Arc;
 use strm_call::{Call, Replied, Setup, Twins};
-use strm_entry::{Called, Entry, Kept, Landed, Room, room_for, room_for_arrival, taken};
+use strm_entry::{Called, Kept, Landed, Room, room_for, room_for_arrival, taken};
 use strm_head::{Answered, Arrived, NewFault, Stream};
 use strm_module::{Boxed, ModuleOf};
 use strm_msg::Message;
-use strm_once::Cells;
 
 /// A stream that keeps its history.
 ///
@@ -27,7 +27,6 @@ pub struct Log<M: ModuleOf> {
     setup: Setup,
     stream: Stream<M>,
     history: Vec<Kept<M::Kind>>,
-    cells: Cells<Entry<M::Kind>>,
     alloc: Global,
 }
 
@@ -53,14 +52,10 @@ impl<M: ModuleOf> Log<M> {
         ensures marks { IsErrOf result NewFault.Marks ↔ (is_fit setup ≡ false) }
     {
         let stream = Stream::new(alloc, setup.driver, setup.head, setup.drv)?;
-        let Ok(cells) = Cells::new(alloc) else {
-            return Err(NewFault::NoMem);
-        };
         Ok(Log {
             setup,
             stream,
             history: Vec::new(alloc),
-            cells,
             alloc,
         })
     }
@@ -95,20 +90,20 @@ impl<M: ModuleOf> Log<M> {
         requires { (room.end ≡ call.end) × (room.event ≡ Asked call.request) }
         ensures { CallsBy M.Kind.means A.Agrees self.old room.caller room.number call result self.new }
     {
-        let Ok(cell) = self.cells.next(self.alloc) else {
+        let Ok(()) = self.history.reserve(1) else {
             drop(room);
             return Called::NoRoom(call);
         };
-        let Ok(()) = self.history.reserve(1) else {
-            drop(cell);
-            drop(room);
+        let (mut entry, mut pending) = room.open();
+        let Some(blank) = Arc::get_mut(&mut entry) else {
             return Called::NoRoom(call);
         };
         let Call { end, request } = call;
         let mut back = ArrayVec::new();
         let answered: Answered<A> = self.stream.call(end, request, &mut back);
         let (answer, beside, settled) = answered.into_parts();
-        let (kept, receipt) = room.fill(cell, answer, settled.moves, settled.looks, &back);
+        pending.fill(blank, answer, settled.moves, settled.looks, &back);
+        let (kept, receipt) = pending.enter(entry);
         self.history.push_reserved(kept);
         Called::Done {
             answer: beside,
@@ -122,6 +117,7 @@ impl<M: ModuleOf> Log<M> {
     ///
     /// To be called with a message of a kind that comes from a line (`Message::from_line`). Room for the
     /// entry is found first, and the message is copied for it.
+    #[inline(never)]
     pub fn arrive(&mut self, m: Message) -> Landed
         requires { is_from_line m.kind ≡ true }
         ensures { Lands M.Kind.means self.old m result self.new }
@@ -186,7 +182,6 @@ impl<M: ModuleOf> Log<M> {
             setup: _,
             stream,
             history,
-            cells: _,
             alloc: _,
         } = self;
         (history, stream)

@@ -217,11 +217,8 @@ where
         requires modules { self.old.modules < 2 ^ 63 }
         ensures { Gives (λ _. draft_view self.new) result (reading.call_onto M.Kind.words (draft_view self.old) (process_view process.value) verb (map (λ text. text.now) texts.now)) }
     {
-        let mut last = self.streams.last.take();
-        let serial = self.modules + 1;
-        let call = call_at(alloc, &self.streams.map, &mut last, serial, verb, texts);
-        self.streams.last = last;
-        let call = call?;
+        let Declared { map, last } = &mut self.streams;
+        let call = call_at(alloc, map, last, self.modules + 1, verb, texts)?;
         if process.calls.len() >= MOST_CALLS {
             return Err(ReadError::Fault(Cause::TooMany));
         }

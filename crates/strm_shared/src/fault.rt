@@ -16,7 +16,7 @@ pub enum EndFault {
     Unfinished,
     /// Want of memory for what is left. Looked at last.
     NoMem,
-    /// A call that was made has no receipt: a cell did not take its entry, which no test has met. Looked at third.
+    /// A call that was made has no receipt: its entry could have no second holder, which no test has met. Looked at third.
     NoReceipt,
 }
 

@@ -99,6 +99,7 @@ impl<M: ModuleOf, N: Runs<M::Kind>> Locked<M, N> {
     }
 
     /// The next message of the line comes in, if there is one and it can; else it is held back, and nothing is changed.
+    #[inline(never)]
     fn take_next(&mut self) -> Intake
         ensures number { self.new.number ≡ self.old.number }
         ensures log { Intakes M.Kind.means self.old.log result self.new.log }

@@ -19,18 +19,18 @@ fn what_a_call_moves_is_small(rt: HostRuntime) {
         ("a request", size_of::<Request<Boxed<Plain>>>(), 40),
         ("an event", size_of::<Event<BoxedShape<Kind>>>(), 48),
         ("an entry", size_of::<Entry<Kind>>(), 216),
-        ("an entry in its place", size_of::<Kept<Kind>>(), 24),
-        ("a receipt", size_of::<Receipt<Kind>>(), 32),
+        ("an entry in its place", size_of::<Kept<Kind>>(), 16),
+        ("a receipt", size_of::<Receipt<Kind>>(), 24),
         ("an outcome", size_of::<Outcome<Plain>>(), 272),
         (
             "what becomes of a call",
             size_of::<Called<Boxed<Plain>, Kind>>(),
-            280,
+            272,
         ),
         (
             "what becomes of a call whose answer its receipt shows",
             size_of::<Called<Boxed<Plain>, Kind, ()>>(),
-            184,
+            176,
         ),
         (
             "a call of a script",

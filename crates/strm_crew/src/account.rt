@@ -9,19 +9,22 @@ use std::alloc::Global;
 use std::marker::{Model, PhantomData};
 use std::sync::Wait;
 use strm_call::Reply;
+use strm_ended::Receipts;
+use strm_entry::SharedEntry;
 use strm_feed::{Of, Plays};
-use strm_history::{Call, Called, Receipt};
+use strm_history::{Call, Called};
 use strm_module::{Boxed, ModuleOf};
 use strm_msg::NoMem;
 use strm_shared::{Seat, Shared};
 
-/// A seat of a caller on a stream, with the receipts of the calls that were made from it, in order. A contract sees the seat.
+/// A seat of a caller on a stream, with the entries of the calls that were made from it, in order, as their receipts show them. A
+/// contract sees the seat.
 ///
 /// As long as each call has a receipt they are those of the first calls that the caller's script has for the stream.
 #[derive(Drop)]
 pub struct Account<K, N: Plays<K>> {
     seat: Seat,
-    receipts: Vec<Receipt<K>>,
+    entries: Vec<SharedEntry<K>>,
     of: PhantomData<N>,
 }
 
@@ -33,7 +36,7 @@ impl<K, N: Plays<K>> Model for Account<K, N> {
 
     ghost view = { λ a. a.seat };
 
-    ghost invariant = { λ a. HasReceipts N.run a.seat a.receipts.items };
+    ghost invariant = { λ a. HasReceipts N.run a.seat a.entries.items };
 }
 
 impl<K: Drop, N: Plays<K>> Account<K, N> {
@@ -44,26 +47,28 @@ impl<K: Drop, N: Plays<K>> Account<K, N> {
     {
         Account {
             seat,
-            receipts: Vec::new(alloc),
+            entries: Vec::new(alloc),
             of: PhantomData,
         }
     }
 
     /// The seat, and the receipts.
-    pub fn into_parts(self) -> (Seat, Vec<Receipt<K>>)
+    pub fn into_parts(self) -> (Seat, Receipts<K>)
         ensures seat { result.0 ≡ self }
-        ensures receipts { HasReceipts N.run self result.1.items }
+        ensures caller { result.1.caller ≡ self.caller }
+        ensures receipts { HasReceipts N.run self result.1.entries.items }
     {
         let Account {
             seat,
-            receipts,
+            entries,
             of: _,
         } = self;
-        (seat, receipts)
+        let caller = seat.caller();
+        (seat, Receipts { caller, entries })
     }
 }
 
-/// One call from a seat, whose receipt is kept. The modules that came back are dropped, and so is a call that was not made.
+/// One call from a seat, whose entry is kept, as its receipt shows it. The modules that came back are dropped, and so is a call that was not made.
 /// Refused for want of memory alone.
 pub(crate) fn call_on<M: ModuleOf, N: Plays<M::Kind>, R: Wait>(
     rt: &R,
@@ -76,11 +81,11 @@ pub(crate) fn call_on<M: ModuleOf, N: Plays<M::Kind>, R: Wait>(
     requires next { slice_get (calls_on account.old.number (script_of N.run.scripts account.old.caller)) account.old.calls ≡ Some (call.end, Asked call.request) }
     ensures { OnOk result (account.new ≡ record account.old { calls = account.old.calls + 1; shown = account.new.shown }) }
 {
-    account.receipts.reserve(1)?;
+    account.entries.reserve(1)?;
     match shared.enter::<Reply, R>(rt, &mut account.seat, call) {
         Called::Done { receipt, .. } => {
             if let Some(receipt) = receipt {
-                account.receipts.push_reserved(receipt);
+                account.entries.push_reserved(receipt.into_entry());
             }
             Ok(())
         }

@@ -15,5 +15,5 @@ pub use dealing::{deal, seated};
 pub use gate::Gate;
 pub use player::{Played, Player, play_each};
 pub use streams::Streams;
-pub use strm_ended::{holds_all, log_of};
+pub use strm_ended::{Receipts, holds_all, log_of};
 pub use strm_feed::{Feeding, Of, Offered, Plays};

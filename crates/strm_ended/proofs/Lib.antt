@@ -1,2 +1,3 @@
 mod ArrivalLemmas
+mod HoldingLemmas
 mod PlaceLemmas

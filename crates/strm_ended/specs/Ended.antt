@@ -1,12 +1,12 @@
 -- What is left of a shared stream, and where the calls of each caller stand in its history.
-use Rattle.std.specs.Prelude.{◌≡◌, ℕ, ◌<◌, true, Some, List, [], ◌∷◌, All, get_or, length, slice_get, Vec, ⊤}
+use Rattle.std.specs.Prelude.{◌≡◌, ℕ, suc, ◌<◌, true, Some, List, [], ◌∷◌, All, get_or, length, slice_get, Vec, ⊤}
 use Rattle.std.specs.Global.{Global}
 use Rattle.strm_msg.specs.Message.{Msg}
 use Rattle.strm_ends.specs.Image.{Image}
 use Rattle.strm_entry.specs.declared.entry.Entry.{Entry}
 use Rattle.strm_entry.specs.Own.{arrivals, entry_at, has_seat, own}
-use Rattle.strm_entry.specs.Receipt.{ReceiptValue}
 use Rattle.strm_ended.specs.declared.ended.Index.{Index}
+use Rattle.strm_ended.specs.declared.holding.Receipts.{Receipts}
 
 -- the history, the stream to which it leads, and the messages that were accepted and have not come in
 pub record EndedValue (K : Type 0) : Type 0 where
@@ -14,9 +14,14 @@ pub record EndedValue (K : Type 0) : Type 0 where
   pub stream : Image K
   pub left : List Msg
 
--- the receipt's entry is the one that the history has of its caller's call of its number
-abbrev pub IsHeld : {K : Type 0} → List (Entry K) → ReceiptValue K → Type 0
-IsHeld history receipt = entry_at receipt.caller receipt.number history ≡ Some receipt.entry
+-- these are the entries that a history has of a caller's first calls, in order
+abbrev pub AreFirstCalls : {K : Type 0} → List (Entry K) → ℕ → List (Entry K) → Type 0
+AreFirstCalls {K} history caller entries =
+    (k : ℕ) (d : Entry K) → k < length entries → entry_at caller (suc k) history ≡ Some (get_or entries k d)
+
+-- the history has each call of which its caller has one of these receipts
+abbrev pub AreHeld : {K : Type 0} → List (Entry K) → Receipts K → Type 0
+AreHeld history receipts = AreFirstCalls history receipts.caller receipts.entries.items
 
 -- ---- what no public clause cites
 

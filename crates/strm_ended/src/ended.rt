@@ -38,14 +38,18 @@ struct Index {
     landed: u64,
 }
 
-/// A list of places for each caller, with none in it. Refused for want of memory alone.
-fn no_places(alloc: Global, callers: u32) -> Result<Vec<Vec<usize>>, NoMem>
+/// A list of places for each caller, with none in it, and with room for as many of these calls as it has where all callers have as
+/// many. Refused for want of memory alone.
+fn no_places(alloc: Global, callers: u32, calls: usize) -> Result<Vec<Vec<usize>>, NoMem>
     ensures many { IfOk result (λ all. length all.items ≡ callers) }
     ensures none { IfOk result (λ all. All (λ places. places.items ≡ []) all.items) }
 {
+    let share = calls.checked_div(callers as usize).unwrap_or(0);
     let mut all = Vec::new(alloc);
     for _ in 0..callers {
-        all.push(Vec::new(alloc))?;
+        let mut places = Vec::new(alloc);
+        places.reserve(share)?;
+        all.push(places)?;
     }
     Ok(all)
 }
@@ -55,7 +59,7 @@ fn index_of<K>(alloc: Global, callers: u32, history: &[Kept<K>]) -> Result<Index
     requires { All (λ entry. has_seat callers entry.who ≡ true) history.now }
     ensures { IfOk result (λ index. IsIndex index history.now) }
 {
-    let mut places = no_places(alloc, callers)?;
+    let mut places = no_places(alloc, callers, history.len())?;
     let mut landed = 0;
     for at in 0..history.len() {
         let kept = &history[at];
@@ -137,8 +141,17 @@ impl<M: ModuleOf> Ended<M> {
         M::Kind: SameKind,
         ensures { result ≡ true ↔ entry_at receipt.now.caller receipt.now.number self.now.history ≡ Some receipt.now.entry }
     {
-        match self.entry_at(receipt.caller(), receipt.number()) {
-            Some(entry) => entry.is_same(receipt.entry()),
+        self.has(receipt.caller(), receipt.number(), receipt.entry())
+    }
+
+    /// Whether an entry is the one that the history has of the caller's call of this number.
+    pub(crate) fn has(&self, caller: u32, number: u64, own: &Entry<M::Kind>) -> bool
+    where
+        M::Kind: SameKind,
+        ensures { result ≡ true ↔ entry_at caller number self.now.history ≡ Some own.now }
+    {
+        match self.entry_at(caller, number) {
+            Some(entry) => entry.is_same(own),
             None => false,
         }
     }

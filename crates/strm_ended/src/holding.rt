@@ -1,34 +1,47 @@
-//! Whether a history has the receipts that callers keep.
+//! Whether a history has the calls of which callers have receipts.
 ghost use Rattle.std.specs.Prelude.{◌≡◌, ◌↔◌, true, All};
-ghost use Rattle.strm_ended.specs.Ended.{IsHeld};
+ghost use Rattle.strm_ended.specs.Ended.{AreHeld};
 
 use crate::ended::Ended;
 use strm_call::SameKind;
-use strm_entry::Receipt;
+use strm_entry::SharedEntry;
 use strm_module::ModuleOf;
 
-/// Whether the history has each of these receipts.
-fn holds_each<M: ModuleOf>(ended: &Ended<M>, receipts: &[Receipt<M::Kind>]) -> bool
+/// The receipts that one caller has of its calls on a stream, from the first call on, in order. Of each there is the entry alone,
+/// a word, as whose call it was is told once, and which of its calls by where it stands.
+#[derive(Drop)]
+pub struct Receipts<K> {
+    /// The number of the caller.
+    pub caller: u32,
+    /// The entries of its calls.
+    pub entries: Vec<SharedEntry<K>>,
+}
+
+/// Whether the history has each of these calls. Each entry is let go when it was compared.
+fn holds_each<M: ModuleOf>(ended: &Ended<M>, receipts: Receipts<M::Kind>) -> bool
 where
     M::Kind: SameKind,
-    ensures { result ≡ true ↔ All (λ r. IsHeld ended.now.history r) receipts.now }
+    ensures { result ≡ true ↔ AreHeld ended.now.history receipts }
 {
-    for receipt in receipts {
-        if !ended.holds(receipt) {
+    let Receipts { caller, entries } = receipts;
+    let mut number: u64 = 0;
+    for own in entries {
+        number += 1;
+        if !ended.has(caller, number, own.entry()) {
             return false;
         }
     }
     true
 }
 
-/// Whether the history of a stream has each receipt of each of its callers.
-pub fn holds_all<M: ModuleOf>(ended: &Ended<M>, receipts: &[Vec<Receipt<M::Kind>>]) -> bool
+/// Whether the history of a stream has each call of which one of its callers has a receipt.
+pub fn holds_all<M: ModuleOf>(ended: &Ended<M>, receipts: Vec<Receipts<M::Kind>>) -> bool
 where
     M::Kind: SameKind,
-    ensures { result ≡ true ↔ All (λ mine. All (λ r. IsHeld ended.now.history r) mine.items) receipts.now }
+    ensures { result ≡ true ↔ All (λ mine. AreHeld ended.now.history mine) receipts.items }
 {
     for mine in receipts {
-        if !holds_each(ended, mine.as_slice()) {
+        if !holds_each(ended, mine) {
             return false;
         }
     }

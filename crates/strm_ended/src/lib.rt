@@ -7,5 +7,5 @@ mod holding;
 mod left;
 
 pub use ended::Ended;
-pub use holding::holds_all;
+pub use holding::{Receipts, holds_all};
 pub use left::log_of;

@@ -9,6 +9,7 @@ mod receipt;
 mod room;
 mod same;
 mod serials;
+mod shared;
 mod transcript;
 
 pub use call::{Called, Landed};
@@ -17,4 +18,5 @@ pub use kept::Kept;
 pub use receipt::Receipt;
 pub use room::{Pending, Room, room_for, room_for_arrival, taken};
 pub use serials::Serials;
+pub use shared::SharedEntry;
 pub use transcript::{StreamLog, Transcript};

@@ -3,6 +3,7 @@ ghost use Rattle.std.specs.Prelude.{◌≡◌};
 ghost use Rattle.std.specs.Arc.{arc_value};
 
 use crate::entry::Entry;
+use crate::shared::SharedEntry;
 use std::marker::Model;
 use std::sync::Arc;
 
@@ -57,5 +58,12 @@ impl<K> Receipt<K> {
         ensures { result.now ≡ self.now.entry }
     {
         &self.entry
+    }
+
+    /// The entry without whose call it was, for who keeps that beside many. Takes no memory.
+    pub fn into_entry(self) -> SharedEntry<K>
+        ensures { result ≡ self.entry }
+    {
+        SharedEntry::new(self.entry)
     }
 }

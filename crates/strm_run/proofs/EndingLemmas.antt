@@ -18,7 +18,7 @@ use Rattle.strm_history.specs.History.{Legal}
 use Rattle.strm_history.specs.Serials.{AreAccounted}
 use Rattle.strm_shared.specs.Seat.{SeatValue}
 use Rattle.strm_entry.specs.Entry.{asked_of}
-use Rattle.strm_entry.specs.Receipt.{ReceiptValue}
+use Rattle.strm_ended.specs.declared.holding.Receipts.{Receipts}
 use Rattle.strm_shared.specs.Turns.{AreFirstOf}
 use Rattle.strm_line.specs.Feed.{FeedValue, accepted_of}
 use Rattle.strm_shared.specs.Ending.{SharedValue, AreSeats, CountsAgree, is_fed}
@@ -26,13 +26,12 @@ use Rattle.strm_job.specs.declared.fault.RunFault.{RunFault}
 use Rattle.strm_job.specs.declared.script.ScriptCall.{ScriptCall}
 use Rattle.strm_entry.specs.declared.transcript.StreamLog.{StreamLog}
 use Rattle.strm_job.specs.Scripts.{calls_on, script_of, feed_of}
-use Rattle.strm_crew.specs.Account.{HasReceipts}
 use Rattle.strm_feed.specs.About.{RunValue}
 use Rattle.strm_crew.specs.Transcript.{AreLogs, IsFed, IsLog}
 use Rattle.strm_feed.specs.Feeding.{IsPartOf}
 use Rattle.strm_crew.specs.Play.{ArePlayed, AreStreams, HasPlayed}
 use Rattle.strm_run.specs.Inside.Table.{IsTransposed}
-use Rattle.strm_run.specs.Inside.Ending.{AreLinesFed, AreParted, AreSeatsPlayed, is_end_refused, IsDue, IsOffered, IsStream, Leaves}
+use Rattle.strm_run.specs.Inside.Ending.{AreLinesFed, AreOf, AreParted, AreSeatsPlayed, is_end_refused, IsDue, IsOffered, IsStream, Leaves}
 use Rattle.strm_run.proofs.TableLemmas.{row_there}
 
 -- past the last caller there is no script
@@ -97,7 +96,7 @@ fed_by run shared (Some feed) history left overrun log unfed offered fed came sa
     }
 
 -- what a stream leaves that ended
-pub log_left : {K : Type 0} (means : Meaning K) (run : RunValue K) (shared : SharedValue) (seats : List SeatValue) (receipts : List (Vec (ReceiptValue K) Global)) (feed : Option FeedValue) (overrun : ℕ) (ended : Result (EndedValue K) EndFault) (result : Result (Option (StreamLog K)) RunFault) → IsStream run shared → All (HasPlayed run shared.number) seats → (is_line shared.setup.driver ≡ false → feed_of run.feeds shared.number ≡ []) → IsOffered run feed overrun → Leaves ended receipts overrun result → IfOk ended (λ done. Legal means (opened shared.setup) done.history done.stream) → IfOk ended (λ done. AreAccounted (opened shared.setup) done.history done.stream) → IfOk ended (λ done. CountsAgree done.history seats) → IfOk ended (λ done. (caller : ℕ) → AreFirstOf (Some (calls_on shared.number (script_of run.scripts caller))) (own caller done.history)) → IfOk ended (λ done. arrivals done.history ++ done.left ≡ accepted_of feed) → IfOk ended (λ done. is_fed shared.number shared.setup feed ≡ true) → IfOk ended (λ done. AreSeats shared.number shared.seats seats) → IfOk result (λ found. IfSome found (λ log. IsLog means run shared.number shared.setup log))
+pub log_left : {K : Type 0} (means : Meaning K) (run : RunValue K) (shared : SharedValue) (seats : List SeatValue) (receipts : List (Receipts K)) (feed : Option FeedValue) (overrun : ℕ) (ended : Result (EndedValue K) EndFault) (result : Result (Option (StreamLog K)) RunFault) → IsStream run shared → All (HasPlayed run shared.number) seats → (is_line shared.setup.driver ≡ false → feed_of run.feeds shared.number ≡ []) → IsOffered run feed overrun → Leaves ended receipts overrun result → IfOk ended (λ done. Legal means (opened shared.setup) done.history done.stream) → IfOk ended (λ done. AreAccounted (opened shared.setup) done.history done.stream) → IfOk ended (λ done. CountsAgree done.history seats) → IfOk ended (λ done. (caller : ℕ) → AreFirstOf (Some (calls_on shared.number (script_of run.scripts caller))) (own caller done.history)) → IfOk ended (λ done. arrivals done.history ++ done.left ≡ accepted_of feed) → IfOk ended (λ done. is_fed shared.number shared.setup feed ≡ true) → IfOk ended (λ done. AreSeats shared.number shared.seats seats) → IfOk result (λ found. IfSome found (λ log. IsLog means run shared.number shared.setup log))
 log_left means run shared seats receipts feed overrun (Ok done) (Ok (Some log)) stream played unfed offered leaves legal accounts counts first came fed are =
     let is = leaves.0 in
     record {
@@ -118,20 +117,20 @@ log_left means run shared seats receipts feed overrun (Err fault) (Ok None) stre
 log_left means run shared seats receipts feed overrun (Err fault) (Err other) stream played unfed offered leaves legal accounts counts first came fed are = tt
 
 -- one seat more, and its receipts
-pub parted_more : {K : Type 0} (run : RunValue K) (seats more : List SeatValue) (receipts longer : List (Vec (ReceiptValue K) Global)) (seat : SeatValue) (mine : Vec (ReceiptValue K) Global) → more ≡ seats ++ seat ∷ [] → longer ≡ receipts ++ mine ∷ [] → HasReceipts run seat mine.items → AreParted run seats receipts → AreParted run more longer
+pub parted_more : {K : Type 0} (run : RunValue K) (seats more : List SeatValue) (receipts longer : List (Receipts K)) (seat : SeatValue) (mine : Receipts K) → more ≡ seats ++ seat ∷ [] → longer ≡ receipts ++ mine ∷ [] → AreOf run seat mine → AreParted run seats receipts → AreParted run more longer
 parted_more {K} run seats more receipts longer seat mine is its has was =
     let long : length more ≡ length seats + 1 = ap (λ l. length l) is ∙ length_push seats seat in
     record {
       many = ap (λ l. length l) its ∙ length_push receipts mine ∙ ap (λ n. n + 1) was.many ∙ sym long;
       each = λ k s d below.
-          subst (λ l. HasReceipts run (get_or more k s) (get_or l k d).items) (sym its)
-          (subst (λ l. HasReceipts run (get_or l k s) (get_or (receipts ++ mine ∷ []) k d).items) (sym is)
-          (below_more (λ (n : ℕ). HasReceipts run (get_or (seats ++ seat ∷ []) n s) (get_or (receipts ++ mine ∷ []) n d).items) (length seats)
+          subst (λ l. AreOf run (get_or more k s) (get_or l k d)) (sym its)
+          (subst (λ l. AreOf run (get_or l k s) (get_or (receipts ++ mine ∷ []) k d)) (sym is)
+          (below_more (λ (n : ℕ). AreOf run (get_or (seats ++ seat ∷ []) n s) (get_or (receipts ++ mine ∷ []) n d)) (length seats)
           (λ n lower.
-          subst (λ (v : Vec (ReceiptValue K) Global). HasReceipts run (get_or (seats ++ seat ∷ []) n s) v.items) (sym (get_or_append_left receipts (mine ∷ []) d n (subst (λ m. n < m) (sym was.many) lower)))
-          (subst (λ (a : SeatValue). HasReceipts run a (get_or receipts n d).items) (sym (get_or_append_left seats (seat ∷ []) s n lower)) (was.each n s d lower)))
-          (subst (λ (v : Vec (ReceiptValue K) Global). HasReceipts run (get_or (seats ++ seat ∷ []) (length seats) s) v.items) (sym (ap (λ n. get_or (receipts ++ mine ∷ []) n d) (sym was.many) ∙ get_or-append_seam receipts mine [] d))
-          (subst (λ (a : SeatValue). HasReceipts run a mine.items) (sym (get_or-append_seam seats seat [] s)) has))
+          subst (λ (r : Receipts K). AreOf run (get_or (seats ++ seat ∷ []) n s) r) (sym (get_or_append_left receipts (mine ∷ []) d n (subst (λ m. n < m) (sym was.many) lower)))
+          (subst (λ (a : SeatValue). AreOf run a (get_or receipts n d)) (sym (get_or_append_left seats (seat ∷ []) s n lower)) (was.each n s d lower)))
+          (subst (λ (r : Receipts K). AreOf run (get_or (seats ++ seat ∷ []) (length seats) s) r) (sym (ap (λ n. get_or (receipts ++ mine ∷ []) n d) (sym was.many) ∙ get_or-append_seam receipts mine [] d))
+          (subst (λ (a : SeatValue). AreOf run a mine) (sym (get_or-append_seam seats seat [] s)) has))
           k (subst (λ n. k < n) long below)));
     }
 

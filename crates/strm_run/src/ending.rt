@@ -9,8 +9,8 @@ use crate::feeds::offered_on;
 use crate::table::transposed;
 use std::alloc::Global;
 use std::thread::Threads;
-use strm_crew::{Account, Of, Offered, Played, Plays, Streams, holds_all, log_of};
-use strm_history::{Receipt, SameKind, StreamLog, Transcript};
+use strm_crew::{Account, Of, Offered, Played, Plays, Receipts, Streams, holds_all, log_of};
+use strm_history::{SameKind, StreamLog, Transcript};
 use strm_job::RunFault;
 use strm_module::ModuleOf;
 use strm_msg::NoMem;
@@ -36,12 +36,12 @@ fn fed<K, N: Plays<K>>(offered: Option<Offered<K, N>>) -> (Option<FeedEnd<K, Of<
 /// does not hold it.
 fn log_of_end<M: ModuleOf>(
     ended: Result<Ended<M>, EndFault>,
-    receipts: &[Vec<Receipt<M::Kind>>],
+    receipts: Vec<Receipts<M::Kind>>,
     overrun: u64,
 ) -> Result<Option<StreamLog<M::Kind>>, RunFault>
 where
     M::Kind: SameKind,
-    ensures left { Leaves ended receipts.now overrun result }
+    ensures left { Leaves ended receipts.items overrun result }
     ensures refusal { IfErr result (λ fault. is_end_refused fault ≡ true) }
 {
     match ended {
@@ -62,7 +62,7 @@ where
 fn parted<K: Drop, N: Plays<K>>(
     alloc: Global,
     accounts: Vec<Account<K, N>>,
-) -> Result<(Vec<Seat>, Vec<Vec<Receipt<K>>>), NoMem>
+) -> Result<(Vec<Seat>, Vec<Receipts<K>>), NoMem>
     ensures seats { IfOk result (λ all. all.0.items ≡ accounts.items) }
     ensures receipts { IfOk result (λ all. AreParted N.run all.0.items all.1.items) }
 {
@@ -89,7 +89,7 @@ where
     let (shared, accounts, offered) = due.into_parts();
     let (feed, overrun) = fed(offered);
     let (seats, receipts) = parted(alloc, accounts)?;
-    log_of_end(shared.end(seats, feed), receipts.as_slice(), overrun)
+    log_of_end(shared.end(seats, feed), receipts, overrun)
 }
 
 /// What was found of each stream, where each ended. The first that did not gives the fault; else want of memory may.

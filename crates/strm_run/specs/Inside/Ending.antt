@@ -7,7 +7,7 @@ use Rattle.strm_module.specs.Driver.{is_line}
 use Rattle.strm_ends.specs.Image.{Image, end_of}
 use Rattle.strm_call.specs.declared.setup.Setup.{Setup}
 use Rattle.strm_entry.specs.declared.entry.Entry.{Entry}
-use Rattle.strm_entry.specs.Receipt.{ReceiptValue}
+use Rattle.strm_ended.specs.declared.holding.Receipts.{Receipts}
 use Rattle.strm_ended.specs.Ended.{EndedValue}
 use Rattle.strm_shared.specs.declared.fault.EndFault.{EndFault}
 use Rattle.strm_shared.specs.declared.fault.EndFault.TheVariants as EndFaults
@@ -20,7 +20,7 @@ use Rattle.strm_job.specs.declared.fault.RunFault.TheVariants as RunFaults
 use Rattle.strm_entry.specs.declared.transcript.StreamLog.{StreamLog}
 use Rattle.strm_job.specs.Scripts.{feed_of}
 use Rattle.strm_crew.specs.Account.{HasReceipts}
-use Rattle.strm_ended.specs.Ended.{IsHeld}
+use Rattle.strm_ended.specs.Ended.{AreHeld}
 use Rattle.strm_feed.specs.About.{RunValue}
 use Rattle.strm_feed.specs.Feeding.{OfferedValue, HasOffered}
 use Rattle.strm_crew.specs.Play.{HasPlayed}
@@ -76,10 +76,10 @@ pub record IsLogOf {K : Type 0} (history : List (Entry K)) (stream : Image K) (l
 
 -- what is left of a stream, where each receipt holds, or nothing, where one does not or a call has none: of a stream that ended, or did
 -- not
-abbrev pub Leaves : {K : Type 0} → Result (EndedValue K) EndFault → List (Vec (ReceiptValue K) Global) → ℕ → Result (Option (StreamLog K)) RunFault → Type 0
+abbrev pub Leaves : {K : Type 0} → Result (EndedValue K) EndFault → List (Receipts K) → ℕ → Result (Option (StreamLog K)) RunFault → Type 0
 Leaves (Ok ended) receipts overrun (Ok (Some log)) =
-    IsLogOf ended.history ended.stream ended.left overrun log × All (λ mine. All (λ r. IsHeld ended.history r) mine.items) receipts
-Leaves (Ok ended) receipts overrun (Ok None) = All (λ mine. All (λ r. IsHeld ended.history r) mine.items) receipts → ⊥
+    IsLogOf ended.history ended.stream ended.left overrun log × All (λ mine. AreHeld ended.history mine) receipts
+Leaves (Ok ended) receipts overrun (Ok None) = All (λ mine. AreHeld ended.history mine) receipts → ⊥
 Leaves (Ok ended) receipts overrun (Err fault) = ⊥
 Leaves (Err fault) receipts overrun (Ok (Some log)) = ⊥
 Leaves (Err fault) receipts overrun (Ok None) = fault ≡ EndFaults.NoReceipt
@@ -88,10 +88,15 @@ Leaves (Err EndFaults.Unfinished) receipts overrun (Err refused) = refused ≡ R
 Leaves (Err EndFaults.NoMem) receipts overrun (Err refused) = refused ≡ RunFaults.NoMem
 Leaves (Err EndFaults.NoReceipt) receipts overrun (Err refused) = ⊥
 
+-- the receipts of the calls that were made from a seat
+pub record AreOf {K : Type 0} (run : RunValue K) (seat : SeatValue) (receipts : Receipts K) : Type 0 where
+  pub caller_is : receipts.caller ≡ seat.caller
+  pub has : HasReceipts run seat receipts.entries.items
+
 -- seats, and of each the receipts of what was done from it
-pub record AreParted {K : Type 0} (run : RunValue K) (seats : List SeatValue) (receipts : List (Vec (ReceiptValue K) Global)) : Type 0 where
+pub record AreParted {K : Type 0} (run : RunValue K) (seats : List SeatValue) (receipts : List (Receipts K)) : Type 0 where
   pub many : length receipts ≡ length seats
-  pub each : (k : ℕ) (s : SeatValue) (d : Vec (ReceiptValue K) Global) → k < length seats → HasReceipts run (get_or seats k s) (get_or receipts k d).items
+  pub each : (k : ℕ) (s : SeatValue) (d : Receipts K) → k < length seats → AreOf run (get_or seats k s) (get_or receipts k d)
 
 -- a fault of a run of which all is there: none of those that were looked at before
 abbrev pub IsLate : RunFault → Type 0

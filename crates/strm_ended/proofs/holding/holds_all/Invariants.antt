@@ -1,10 +1,12 @@
-use Rattle.std.proofs.Common.{ℕ, ◌<◌, All, Vec, get_or}
-use Rattle.std.specs.Global.{Global}
-use Rattle.strm_entry.specs.Receipt.{ReceiptValue}
-use Rattle.strm_ended.specs.Ended.{IsHeld}
+use Rattle.std.proofs.Common.{◌≡◌, ◌++◌, All, length}
+use Rattle.std.specs.Vec.Iter.{into_iter_items, into_iter_len}
+use Rattle.strm_ended.specs.Ended.{AreHeld}
 use Rattle.strm_ended.proofs.holding.holds_all.Given as goal
 
--- the history has the receipts of each caller so far
+-- the history has the calls of each caller so far
 abbrev pub invariant-loop-mine : goal.invariant-loop-mine
-invariant-loop-mine g l =
-    (k : ℕ) (d : Vec (ReceiptValue g.row.M-Kind.Denot) Global) → k < l.mine-index → All (λ r. IsHeld l.ended.history r) (get_or l.receipts k d).items
+invariant-loop-mine g l = record {
+  left : into_iter_len l.mine-iterator ≡ length (into_iter_items l.mine-iterator);
+  rest : l.yielded ++ into_iter_items l.mine-iterator ≡ l.fn.receipts.items;
+  held : All (λ mine. AreHeld l.ended.history mine) l.yielded;
+}

@@ -13,4 +13,4 @@ returns-clause-log g c =
     let seats = c.in_ok-seats.seats.items in
     let due = subst (λ (s : SharedValue). IsDue g.N.Plays.run s parts.result.1.items) (sym parts.ensures.stream) parts.ensures.due in
     subst (λ (s : SharedValue). IfOk c.log_of_end.result (λ found. IfSome found (λ log. IsLog g.M.Kind.Kinds.means g.N.Plays.run s.number s.setup log))) parts.ensures.stream
-    (log_left g.M.Kind.Kinds.means g.N.Plays.run parts.result.0 seats c.in_ok-seats.receipts.items c.fed-feed.result.0 c.fed-feed.result.1 c.end.result c.log_of_end.result due.stream (rw c.in_ok-seats.ensures.seats due.played) due.unfed c.fed-feed.ensures.offered (rw c.as_slice.ensures.value at c.log_of_end.ensures.left) c.end.ensures.legal c.end.ensures.accounts c.end.ensures.counts c.end.ensures.first c.end.ensures.arrived c.end.ensures.fed c.end.ensures.seated)
+    (log_left g.M.Kind.Kinds.means g.N.Plays.run parts.result.0 seats c.in_ok-seats.receipts.items c.fed-feed.result.0 c.fed-feed.result.1 c.end.result c.log_of_end.result due.stream (rw c.in_ok-seats.ensures.seats due.played) due.unfed c.fed-feed.ensures.offered c.log_of_end.ensures.left c.end.ensures.legal c.end.ensures.accounts c.end.ensures.counts c.end.ensures.first c.end.ensures.arrived c.end.ensures.fed c.end.ensures.seated)

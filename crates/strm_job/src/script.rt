@@ -98,7 +98,6 @@ impl<P> Script<P> {
 
 impl<P: Drop> Script<P> {
     /// Room for one call more. Refused for want of memory alone.
-    #[inline(always)]
     fn make_room(&mut self, alloc: Global) -> Result<(), NoMem>
         ensures { self.new ≡ self.old }
     {

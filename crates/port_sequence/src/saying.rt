@@ -32,12 +32,12 @@ pub fn say_answer<R: Print>(rt: &R, word: &str, answer: &Answer) -> Option<()> {
 
 /// Says a step of a history: who made it, what it was, and what was answered.
 pub fn say_entry<R: Print>(rt: &R, entry: &Entry<Sequence>) -> Option<()> {
-    match entry.who {
+    match entry.who() {
         Who::Caller(number) => print!(rt; "caller {number} ").ok()?,
         Who::Line => print!(rt; "the line ").ok()?,
     }
-    match &entry.event {
-        Event::Asked(request) => say_answer(rt, word_of(request), &entry.answer),
-        Event::Arrived(_) => say_answer(rt, "message", &entry.answer),
+    match entry.event() {
+        Event::Asked(request) => say_answer(rt, word_of(request), entry.answer()),
+        Event::Arrived(_) => say_answer(rt, "message", entry.answer()),
     }
 }

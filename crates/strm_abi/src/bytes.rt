@@ -1,5 +1,5 @@
 //! Bytes are written at the front of a buffer.
-ghost use Rattle.std.specs.Prelude.{◌≡◌};
+ghost use Rattle.std.specs.Prelude.{◌≡◌, option_copied};
 ghost use Rattle.strm_abi.specs.Numbers as numbers;
 ghost use Rattle.strm_abi.specs.Bytes.{filled, filled_if};
 
@@ -15,9 +15,9 @@ pub fn fill(buffer: &mut [u8], bytes: &[u8])
 }
 
 /// Puts a part at the front of a buffer, if there is one, and tells its length: -1 where there is none.
-pub fn fill_part(buffer: &mut [u8], part: &Option<Bytes>) -> i32
-    ensures bytes { buffer.new ≡ filled_if part.now buffer.old }
-    ensures length { result ≡ numbers.length_of part.now }
+pub fn fill_part(buffer: &mut [u8], part: Option<&Bytes>) -> i32
+    ensures bytes { buffer.new ≡ filled_if (option_copied part.entry) buffer.old }
+    ensures length { result ≡ numbers.length_of (option_copied part.entry) }
 {
     match part {
         Some(bytes) => {

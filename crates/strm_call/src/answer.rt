@@ -4,9 +4,11 @@ ghost use Rattle.strm_call.specs.Reply.{has_bytes};
 
 use crate::name::Name;
 use crate::name_list::NameList;
+use crate::part::Part;
 use crate::refusal::Refusal;
 use crate::request::Priority;
 use std::alloc::Global;
+use strm_module::Driver;
 use strm_msg::{Bytes, Errno, NoMem, Prot, ReadMode};
 
 /// Which parts of a message stay at the stream head, whether or not they were asked for.
@@ -37,10 +39,10 @@ pub enum Received {
 /// What a peek shows of a message.
 #[derive(Debug, Drop, PartialEq, Eq)]
 pub struct Peeked {
-    /// Control, or `None` for length -1: there was none, or it was not asked for.
-    pub ctl: Option<Bytes>,
-    /// Data, or `None` for length -1: there was none, or it was not asked for.
-    pub dat: Option<Bytes>,
+    /// Control, or none for length -1: there was none, or it was not asked for.
+    pub ctl: Part,
+    /// Data, or none for length -1: there was none, or it was not asked for.
+    pub dat: Part,
     /// The priority of the message.
     pub flag: Priority,
 }
@@ -154,8 +156,10 @@ pub enum Reply {
     },
     /// What stands there.
     List {
-        /// The names of the modules, topmost first, and then of the driver.
+        /// The names of the modules, topmost first.
         names: NameList,
+        /// The driver, whose name is the last.
+        driver: Driver,
     },
     /// Whether a module of the name stands there.
     Find {
@@ -196,8 +200,8 @@ impl Peeked {
         ensures { IfOk result (λ copy. copy ≡ self.now) }
     {
         Ok(Peeked {
-            ctl: copy_part(alloc, &self.ctl)?,
-            dat: copy_part(alloc, &self.dat)?,
+            ctl: self.ctl.copy(alloc)?,
+            dat: self.dat.copy(alloc)?,
             flag: self.flag,
         })
     }
@@ -285,8 +289,9 @@ impl Reply {
             Reply::Getband { band } => Reply::Getband { band: *band },
             Reply::Pop { name } => Reply::Pop { name: name.copy() },
             Reply::Look { name } => Reply::Look { name: name.copy() },
-            Reply::List { names } => Reply::List {
+            Reply::List { names, driver } => Reply::List {
                 names: names.copy(),
+                driver: *driver,
             },
             Reply::Find { found } => Reply::Find { found: *found },
             Reply::Flush => Reply::Flush,

@@ -2,33 +2,19 @@
 ghost use Rattle.std.specs.Prelude.{◌≡◌, IfOk};
 ghost use Rattle.strm_call.specs.declared.request.Request.TheVariants as Requests;
 
-use crate::answer::copy_part;
 use crate::part::Part;
+use crate::parts::BoxedParts;
 use crate::request::{Priority, PutFlag, Request};
 use std::alloc::Global;
 use strm_module::{Boxed, BoxedShape, ModuleOf};
 use strm_msg::{Bytes, NoMem};
 
-/// Copies of the control and of the data of a call. Refused for want of memory alone.
-fn copy_parts(alloc: Global, ctl: &Part, dat: &Part) -> Result<(Part, Part), NoMem>
-    ensures { IfOk result (λ copies. (copies.0 ≡ ctl.now) × (copies.1 ≡ dat.now)) }
-{
-    let ctl = ctl.copy(alloc)?;
-    let dat = dat.copy(alloc)?;
-    Ok((ctl, dat))
-}
-
 /// A putmsg of copies. Refused for want of memory alone.
-fn copy_putmsg<P>(
-    alloc: Global,
-    flag: Priority,
-    ctl: &Part,
-    dat: &Part,
-) -> Result<Request<P>, NoMem>
-    ensures { IfOk result (λ copy. copy ≡ Requests.Putmsg flag ctl.now dat.now) }
+fn copy_putmsg<P>(alloc: Global, flag: Priority, parts: &BoxedParts) -> Result<Request<P>, NoMem>
+    ensures { IfOk result (λ copy. copy ≡ Requests.Putmsg flag parts.now) }
 {
-    let (ctl, dat) = copy_parts(alloc, ctl, dat)?;
-    Ok(Request::Putmsg { flag, ctl, dat })
+    let parts = parts.copy(alloc)?;
+    Ok(Request::Putmsg { flag, parts })
 }
 
 /// A putpmsg of copies. Refused for want of memory alone.
@@ -36,18 +22,12 @@ fn copy_putpmsg<P>(
     alloc: Global,
     band: u8,
     flag: PutFlag,
-    ctl: &Part,
-    dat: &Part,
+    parts: &BoxedParts,
 ) -> Result<Request<P>, NoMem>
-    ensures { IfOk result (λ copy. copy ≡ Requests.Putpmsg band flag ctl.now dat.now) }
+    ensures { IfOk result (λ copy. copy ≡ Requests.Putpmsg band flag parts.now) }
 {
-    let (ctl, dat) = copy_parts(alloc, ctl, dat)?;
-    Ok(Request::Putpmsg {
-        band,
-        flag,
-        ctl,
-        dat,
-    })
+    let parts = parts.copy(alloc)?;
+    Ok(Request::Putpmsg { band, flag, parts })
 }
 
 /// A write of a copy. Refused for want of memory alone.
@@ -79,10 +59,10 @@ fn copy_find<P>(alloc: Global, name: &Bytes) -> Result<Request<P>, NoMem>
 }
 
 /// An ioctl of copies. Refused for want of memory alone.
-fn copy_str<P>(alloc: Global, cmd: u32, dat: &Option<Bytes>) -> Result<Request<P>, NoMem>
+fn copy_str<P>(alloc: Global, cmd: u32, dat: &Part) -> Result<Request<P>, NoMem>
     ensures { IfOk result (λ copy. copy ≡ Requests.Str cmd dat.now) }
 {
-    let dat = copy_part(alloc, dat)?;
+    let dat = dat.copy(alloc)?;
     Ok(Request::Str { cmd, dat })
 }
 
@@ -95,13 +75,8 @@ pub fn copy_request<M: ModuleOf>(
     ensures { IfOk result (λ copy. copy ≡ request.now) }
 {
     match request {
-        Request::Putmsg { flag, ctl, dat } => copy_putmsg(alloc, *flag, ctl, dat),
-        Request::Putpmsg {
-            band,
-            flag,
-            ctl,
-            dat,
-        } => copy_putpmsg(alloc, *band, *flag, ctl, dat),
+        Request::Putmsg { flag, parts } => copy_putmsg(alloc, *flag, parts),
+        Request::Putpmsg { band, flag, parts } => copy_putpmsg(alloc, *band, *flag, parts),
         Request::Getmsg {
             maxctl,
             maxdat,

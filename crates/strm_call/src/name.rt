@@ -7,12 +7,9 @@ ghost use Rattle.std.proofs.Common.{rules};
 use arrayvec::ArrayVec;
 use std::fmt;
 use std::marker::Model;
-use strm_module::{LONGEST_NAME, MOST_MODULES};
+use strm_module::LONGEST_NAME;
 
-/// The most names in a list: those of the modules of an end and of its driver.
-pub const MOST_NAMES: usize = MOST_MODULES + 1;
-
-/// The name of a module or of a driver, which contracts see as the name that a module's shape has.
+/// The name of a module, which contracts see as the name that a module's shape has.
 ///
 /// It takes nine bytes, so that a reply with the names of all modules is small.
 #[derive(Drop)]

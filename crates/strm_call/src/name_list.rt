@@ -2,33 +2,34 @@
 ghost use Rattle.std.specs.Prelude.{◌≡◌, ◌<◌, ◌≤◌, ◌+◌, ◌++◌, ◌∷◌, [], length};
 ghost use Rattle.std.specs.Cmp.{on_per, on_equiv};
 ghost use Rattle.std.specs.Cmp.Lexicographic.{pointwise, lists_per, lists_equiv};
-ghost use Rattle.strm_call.specs.declared.name.TheConstants.{MOST_NAMES};
+ghost use Rattle.strm_module.specs.declared.driver.TheConstants.{MOST_MODULES};
 ghost use Rattle.strm_call.specs.contracts.name.NamePartialEq.TheImpl.Laws as name_equal;
 ghost use Rattle.strm_call.specs.contracts.name.NameEq.TheImpl.Laws as name_same;
 
-use crate::name::{MOST_NAMES, Name};
+use crate::name::Name;
 use std::fmt;
 use std::marker::Model;
+use strm_module::MOST_MODULES;
 
-/// Names, `MOST_NAMES` at most, which contracts see as a list.
+/// The names of the modules of an end, which contracts see as a list.
 ///
 /// They take a byte more than the names themselves, so that a reply with them is small.
 #[derive(Drop)]
 pub struct NameList {
     len: u8,
-    names: [Name; MOST_NAMES],
+    names: [Name; MOST_MODULES],
 }
 
 impl Model for NameList {
     ghost use Rattle.std.specs.Prelude.{ℕ, ◌≤◌, take};
     ghost use Rattle.arrayvec.specs.ArrayVec.{ArrayVec};
-    ghost use Rattle.strm_call.specs.declared.name.TheConstants.{MOST_NAMES};
+    ghost use Rattle.strm_module.specs.declared.driver.TheConstants.{MOST_MODULES};
 
     ghost Value = { ArrayVec (ArrayVec ℕ) };
 
     ghost view = { λ list. record { items = take list.len list.names } };
 
-    ghost invariant = { λ list. list.len ≤ MOST_NAMES };
+    ghost invariant = { λ list. list.len ≤ MOST_MODULES };
 }
 
 /// Printed as a list of names.
@@ -66,7 +67,7 @@ impl NameList {
 
     /// Puts a name behind the others.
     fn push(&mut self, name: Name)
-        requires { length self.old.items < MOST_NAMES }
+        requires { length self.old.items < MOST_MODULES }
         ensures items { self.new.items ≡ self.old.items ++ name ∷ [] }
         ensures len { length self.new.items ≡ length self.old.items + 1 }
     {
@@ -76,7 +77,7 @@ impl NameList {
 
     /// These names, in their order. Takes no memory.
     pub fn new(names: &[Name]) -> Self
-        requires { length names.now ≤ MOST_NAMES }
+        requires { length names.now ≤ MOST_MODULES }
         ensures { result.items ≡ names.now }
     {
         let mut list = NameList::none();
@@ -96,7 +97,7 @@ impl NameList {
     /// The names in order.
     pub fn as_slice(&self) -> &[Name]
         ensures items { result.now ≡ self.now.items }
-        ensures few { length result.now ≤ MOST_NAMES }
+        ensures few { length result.now ≤ MOST_MODULES }
     {
         &self.names[..usize::from(self.len)]
     }

@@ -1,11 +1,16 @@
-//! A part of a message that a call sends.
+//! A part that may be missing.
 ghost use Rattle.std.specs.Prelude.{◌≡◌, ◌↔◌, true, not, None, IfOk, IsNone, IsOk, is_some, option_copied};
+ghost use Rattle.std.specs.Option.{option_eq};
+ghost use Rattle.std.specs.Str.{bytes_eq};
+ghost use Rattle.std.specs.Cmp.Rules.{comparing};
+ghost use Rattle.std.proofs.Common.{rules};
 
 use std::alloc::Global;
 use std::marker::Model;
 use strm_msg::{Bytes, NoMem};
 
-/// Control or data of a message that a call sends, which may be missing: its bytes stand in a box, so that a request is small.
+/// Control or data that a peek shows, or data that goes with an ioctl, which may be missing: its bytes stand in a box, so that requests
+/// and replies are small.
 /// Contracts see the bytes, or `None`.
 #[derive(Debug, Drop)]
 pub struct Part {
@@ -18,6 +23,25 @@ impl Model for Part {
     ghost Value = { Option (List ℕ) };
 
     ghost view = { λ part. option_map (λ boxed. boxed.value) part.bytes };
+}
+
+/// Equal where both are missing, or the bytes are equal.
+impl PartialEq for Part {
+    ghost eq = { option_eq bytes_eq };
+
+    ghost laws = { Prim.search (comparing, rules) };
+
+    fn eq(&self, other: &Part) -> bool {
+        match (self.as_bytes(), other.as_bytes()) {
+            (Some(one), Some(other)) => one == other,
+            (None, None) => true,
+            _ => false,
+        }
+    }
+}
+
+impl Eq for Part {
+    ghost laws = { Prim.search (comparing, rules) };
 }
 
 impl Part {

@@ -1,5 +1,6 @@
 //! What is asked of a stream.
 use crate::part::Part;
+use crate::parts::BoxedParts;
 use strm_msg::{Bytes, Prot, ReadMode};
 
 /// The most bytes of control that a call sends; more is refused with ERANGE.
@@ -55,7 +56,7 @@ pub enum GetFlag {
 /// One call on an end of a stream.
 ///
 /// A push carries `P`: the module when the call is made, and the module's shape in a history. What is small stands first in each call, so
-/// that a request has 40 bytes.
+/// that a request has 32 bytes.
 ///
 /// Beside the refusals that it names, each call but a close is refused where its end is closed, the
 /// stream is broken, or an error came up for a side that it looks at; these three are looked at first. Want of memory is looked at
@@ -70,10 +71,8 @@ pub enum Request<P> {
     Putmsg {
         /// The priority with which it is sent.
         flag: Priority,
-        /// The control part, if the message has one.
-        ctl: Part,
-        /// The data part, if the message has one.
-        dat: Part,
+        /// Its parts.
+        parts: BoxedParts,
     },
     /// Sends a message of a band (putpmsg(2)): with `Band` an `MProto` or an `MData` of that band,
     /// and nothing without a part; with `Hipri` as putmsg does.
@@ -85,10 +84,8 @@ pub enum Request<P> {
         band: u8,
         /// The priority with which it is sent.
         flag: PutFlag,
-        /// The control part, if the message has one.
-        ctl: Part,
-        /// The data part, if the message has one.
-        dat: Part,
+        /// Its parts.
+        parts: BoxedParts,
     },
     /// Takes the first message, or a part of it (getmsg(2)). Of an empty list at a hung up end it
     /// takes two parts of no bytes.
@@ -201,7 +198,7 @@ pub enum Request<P> {
         /// The command, as the modules and the driver know it.
         cmd: u32,
         /// The data that goes with it, if any.
-        dat: Option<Bytes>,
+        dat: Part,
     },
     /// Sends a flush of all bands down (I_FLUSH).
     ///

@@ -60,9 +60,7 @@ impl Peeked {
     fn is_same(&self, other: &Peeked) -> bool
         ensures { result ≡ true ↔ self.now ≡ other.now }
     {
-        is_same_part(&self.ctl, &other.ctl)
-            && is_same_part(&self.dat, &other.dat)
-            && self.flag == other.flag
+        self.ctl.is_same(&other.ctl) && self.dat.is_same(&other.dat) && self.flag == other.flag
     }
 }
 
@@ -179,8 +177,11 @@ impl Reply {
                 Reply::Look { name: n } => is_same_name(name, n),
                 _ => false,
             },
-            Reply::List { names } => match other {
-                Reply::List { names: n } => are_same_names(names.as_slice(), n.as_slice()),
+            Reply::List { names, driver } => match other {
+                Reply::List {
+                    names: n,
+                    driver: d,
+                } => are_same_names(names.as_slice(), n.as_slice()) && driver == d,
                 _ => false,
             },
             Reply::Find { found } => match other {

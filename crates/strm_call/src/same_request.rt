@@ -4,10 +4,10 @@ ghost use Rattle.strm_call.specs.declared.request.Request.TheVariants as Request
 ghost use Rattle.strm_call.specs.Request.{changes_no_queue};
 
 use crate::part::Part;
+use crate::parts::BoxedParts;
 use crate::request::{GetFlag, Priority, PutFlag, Request, Wanted};
-use crate::same::is_same_part;
 use strm_module::{BoxedShape, Kind, Shape};
-use strm_msg::{Bytes, Marks};
+use strm_msg::Marks;
 
 /// Kinds of module that can be told apart, as they must be where the entry of a push is compared with a receipt's.
 pub trait SameKind {
@@ -70,30 +70,25 @@ fn are_same_bounds(
 }
 
 /// Whether a request is a putmsg of these parts.
-fn is_putmsg<P>(request: &Request<P>, flag: Priority, ctl: &Part, dat: &Part) -> bool
-    ensures { result ≡ true ↔ Requests.Putmsg flag ctl.now dat.now ≡ request.now }
+fn is_putmsg<P>(request: &Request<P>, flag: Priority, parts: &BoxedParts) -> bool
+    ensures { result ≡ true ↔ Requests.Putmsg flag parts.now ≡ request.now }
 {
     match request {
-        Request::Putmsg {
-            flag: f,
-            ctl: c,
-            dat: d,
-        } => flag == *f && ctl.is_same(c) && dat.is_same(d),
+        Request::Putmsg { flag: f, parts: p } => flag == *f && parts.is_same(p),
         _ => false,
     }
 }
 
 /// Whether a request is a putpmsg of these parts.
-fn is_putpmsg<P>(request: &Request<P>, band: u8, flag: PutFlag, ctl: &Part, dat: &Part) -> bool
-    ensures { result ≡ true ↔ Requests.Putpmsg band flag ctl.now dat.now ≡ request.now }
+fn is_putpmsg<P>(request: &Request<P>, band: u8, flag: PutFlag, parts: &BoxedParts) -> bool
+    ensures { result ≡ true ↔ Requests.Putpmsg band flag parts.now ≡ request.now }
 {
     match request {
         Request::Putpmsg {
             band: b,
             flag: f,
-            ctl: c,
-            dat: d,
-        } => band == *b && flag == *f && ctl.is_same(c) && dat.is_same(d),
+            parts: p,
+        } => band == *b && flag == *f && parts.is_same(p),
         _ => false,
     }
 }
@@ -139,11 +134,11 @@ fn is_getpmsg<P>(
 }
 
 /// Whether a request is an ioctl of this command and data.
-fn is_str<P>(request: &Request<P>, cmd: u32, dat: &Option<Bytes>) -> bool
+fn is_str<P>(request: &Request<P>, cmd: u32, dat: &Part) -> bool
     ensures { result ≡ true ↔ Requests.Str cmd dat.now ≡ request.now }
 {
     match request {
-        Request::Str { cmd: c, dat: d } => cmd == *c && is_same_part(dat, d),
+        Request::Str { cmd: c, dat: d } => cmd == *c && dat.is_same(d),
         _ => false,
     }
 }
@@ -226,13 +221,8 @@ pub fn is_same_request<K: SameKind + Drop>(
     ensures { result ≡ true ↔ one.now ≡ other.now }
 {
     match one {
-        Request::Putmsg { flag, ctl, dat } => is_putmsg(other, *flag, ctl, dat),
-        Request::Putpmsg {
-            band,
-            flag,
-            ctl,
-            dat,
-        } => is_putpmsg(other, *band, *flag, ctl, dat),
+        Request::Putmsg { flag, parts } => is_putmsg(other, *flag, parts),
+        Request::Putpmsg { band, flag, parts } => is_putpmsg(other, *band, *flag, parts),
         Request::Getmsg {
             maxctl,
             maxdat,

@@ -6,3 +6,4 @@ pub mod HeadFlush
 pub mod Number
 pub mod Enabled
 pub mod Count
+pub mod Moves

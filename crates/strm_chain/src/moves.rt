@@ -1,78 +1,174 @@
 //! Lists of moves, and what a service did.
-ghost use Rattle.std.specs.Prelude.{◌≡◌, ◌++◌, ◌∷◌, [], OnOk, IsTrue, ◌↔◌, length};
+ghost use Rattle.std.specs.Prelude.{◌≡◌, ◌<◌, ◌++◌, ◌∷◌, [], IfOk, OnOk, IsTrue, ◌↔◌, length};
+ghost use Rattle.strm_chain.specs.declared.moves.TheConstants.{FEW};
 
-use smallvec::SmallVec;
 use std::alloc::Global;
+use std::fmt;
 use std::marker::Model;
 use strm_ends::Place;
 use strm_msg::NoMem;
 
-/// How many moves are kept without memory of their own. With more the list would be larger than a vector and a word.
-const FEW: usize = 5;
+/// How many moves are kept without memory of their own. With more the list would be larger than two words.
+const FEW: usize = 4;
+
+/// How many moves a list has room for, when it first takes memory.
+const MANY: usize = 20;
+
+/// Up to `FEW` places in the order in which they moved, which contracts see as a list.
+#[derive(Drop)]
+struct FewMoves {
+    len: u8,
+    places: [Place; FEW],
+}
+
+impl Model for FewMoves {
+    ghost use Rattle.std.specs.Prelude.{List, ◌≤◌, take};
+    ghost use Rattle.strm_ends.specs.declared.place.Place.{Place};
+    ghost use Rattle.strm_chain.specs.declared.moves.TheConstants.{FEW};
+
+    ghost Value = { List Place };
+
+    ghost view = { λ few. take few.len few.places };
+
+    ghost invariant = { λ few. few.len ≤ FEW };
+}
+
+impl FewMoves {
+    /// No moves.
+    fn new() -> Self
+        ensures { result ≡ [] }
+    {
+        FewMoves {
+            len: 0,
+            places: Default::default(),
+        }
+    }
+
+    /// The places in order.
+    fn as_slice(&self) -> &[Place]
+        ensures { result.now ≡ self.now }
+    {
+        &self.places[..usize::from(self.len)]
+    }
+
+    /// Whether there is room for a further one.
+    fn has_room(&self) -> bool
+        ensures { IsTrue result ↔ (length self.now < FEW) }
+    {
+        self.as_slice().len() < FEW
+    }
+
+    /// Puts a move behind the others.
+    fn push(&mut self, place: Place)
+        requires { length self.old < FEW }
+        ensures { self.new ≡ self.old ++ place ∷ [] }
+    {
+        self.places[usize::from(self.len)] = place;
+        self.len += 1;
+    }
+}
+
+/// Where moves stand.
+#[derive(Drop)]
+enum Stored {
+    /// In place.
+    Few(FewMoves),
+    /// In memory of their own.
+    Many(Box<Vec<Place>>),
+}
 
 /// Places in the order in which they moved, which contracts see as a list.
 ///
-/// Few moves take no memory of their own, as most calls move a message or none. Made from a `Vec` without taking memory.
-#[derive(Debug, Drop)]
+/// Few moves take no memory of their own, as most calls move a message or none.
+#[derive(Drop)]
 pub struct Moves {
-    items: SmallVec<Place, FEW>,
+    stored: Stored,
 }
 
 impl Model for Moves {
     ghost use Rattle.std.specs.Prelude.{List};
     ghost use Rattle.strm_ends.specs.declared.place.Place.{Place};
+    ghost use Rattle.strm_chain.specs.Moves.{places_in};
 
     ghost Value = { List Place };
 
-    ghost view = { λ moves. moves.items.items };
+    ghost view = { λ moves. places_in moves.stored };
 }
 
-impl From<Vec<Place>> for Moves {
-    ghost from_gives = { λ items moves. moves ≡ items.items };
-
-    fn from(items: Vec<Place>) -> Self {
-        Moves {
-            items: SmallVec::from(items),
-        }
+/// Printed as a list of places.
+impl fmt::Debug for Moves {
+    fn fmt<W: fmt::Write>(&self, f: &mut fmt::Formatter<W>) -> fmt::Result {
+        f.debug_list().entries(self.as_slice()).finish()
     }
+}
+
+/// These places and one behind them, in memory of their own. Refused for want of memory alone.
+fn many(alloc: Global, places: &[Place], place: Place) -> Result<Box<Vec<Place>>, NoMem>
+    ensures { IfOk result (λ all. all.value.items ≡ places.now ++ place ∷ []) }
+{
+    let mut all = Vec::with_capacity(alloc, MANY)?;
+    all.extend_from_slice(places)?;
+    all.push(place)?;
+    Ok(Box::new(alloc, all)?)
 }
 
 impl Moves {
     /// No moves. Takes no memory.
-    pub fn new(alloc: Global) -> Self
+    pub fn new() -> Self
         ensures { result ≡ [] }
     {
         Moves {
-            items: SmallVec::new(alloc),
+            stored: Stored::Few(FewMoves::new()),
         }
+    }
+
+    /// These places, in their order. Refused for want of memory alone.
+    pub fn from_slice(alloc: Global, places: &[Place]) -> Result<Self, NoMem>
+        ensures { IfOk result (λ moves. moves ≡ places.now) }
+    {
+        let mut moves = Moves::new();
+        for place in places {
+            moves.push(alloc, *place)?;
+        }
+        Ok(moves)
     }
 
     /// The places in order.
     pub fn as_slice(&self) -> &[Place]
         ensures { result.now ≡ self.now }
     {
-        self.items.as_slice()
+        match &self.stored {
+            Stored::Few(places) => places.as_slice(),
+            Stored::Many(places) => places.as_slice(),
+        }
     }
 
     /// The number of moves.
     pub fn len(&self) -> usize
         ensures { result ≡ length self.now }
     {
-        self.items.len()
+        self.as_slice().len()
     }
 
     /// Whether nothing moved.
     pub fn is_empty(&self) -> bool
         ensures { IsTrue result ↔ (self.now ≡ []) }
     {
-        self.items.is_empty()
+        self.as_slice().is_empty()
     }
 
     /// Puts a move behind the others. Refused for want of memory alone.
-    pub(crate) fn push(&mut self, place: Place) -> Result<(), NoMem>
+    pub(crate) fn push(&mut self, alloc: Global, place: Place) -> Result<(), NoMem>
         ensures { OnOk result (self.new ≡ self.old ++ place ∷ []) }
     {
-        self.items.push(place)?;
+        match &mut self.stored {
+            Stored::Few(places) if places.has_room() => places.push(place),
+            Stored::Few(places) => {
+                let all = many(alloc, places.as_slice(), place)?;
+                self.stored = Stored::Many(all);
+            }
+            Stored::Many(places) => places.push(place)?,
+        }
         Ok(())
     }
 }
@@ -88,12 +184,12 @@ pub struct Settled {
 
 impl Settled {
     /// No service: no place was looked at, and none moved. Takes no memory.
-    pub fn none(alloc: Global) -> Self
+    pub fn none() -> Self
         ensures moves { result.moves ≡ [] }
         ensures looks { result.looks ≡ 0 }
     {
         Settled {
-            moves: Moves::new(alloc),
+            moves: Moves::new(),
             looks: 0,
         }
     }

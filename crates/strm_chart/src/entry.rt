@@ -21,8 +21,8 @@ fn put_event_row<W: Write, K: PrintKind + Drop>(
 ) -> io::Result<()>
     ensures { OnOk result (Appends (W.contents w.old) (W.contents w.new) (text.event_row K.spelling n driver stream.now entry.now)) }
 {
-    put_arrow(w, n, driver, entry.who)?;
-    put_event(w, stream, entry.end, &entry.event)?;
+    put_arrow(w, n, driver, entry.who())?;
+    put_event(w, stream, entry.end(), entry.event())?;
     w.write_all(b"\n")
 }
 
@@ -36,8 +36,8 @@ fn put_answer_row<W: Write, K>(
 ) -> io::Result<()>
     ensures { OnOk result (Appends (W.contents w.old) (W.contents w.new) (text.answer_row n driver entry.now)) }
 {
-    put_arrow_back(w, n, driver, entry.who)?;
-    put_answer(w, &entry.answer)
+    put_arrow_back(w, n, driver, entry.who())?;
+    put_answer(w, entry.answer())
 }
 
 /// Writes the rows of a step: what happened, what moved, and what was answered.
@@ -52,7 +52,7 @@ fn put_entry<W: Write, K: PrintKind + Drop>(
     ensures { OnOk result (Appends (W.contents w.old) (W.contents w.new) (text.entry_rows K.spelling n driver stream.now entry.now)) }
 {
     put_event_row(w, n, driver, stream, entry)?;
-    put_moved(w, n, driver, entry.moves.as_slice())?;
+    put_moved(w, n, driver, entry.moves().as_slice())?;
     put_answer_row(w, n, driver, entry)
 }
 

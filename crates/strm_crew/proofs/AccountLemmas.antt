@@ -7,7 +7,7 @@ use Rattle.std.proofs.lemmas.Bool.{and_parts}
 use Rattle.strm_module.specs.declared.shape.Shape.{Shape}
 use Rattle.strm_call.specs.declared.call.Call.{Call}
 use Rattle.strm_call.specs.declared.event.Event.TheVariants.{Asked}
-use Rattle.strm_entry.specs.declared.entry.Entry.{Entry}
+use Rattle.strm_entry.specs.Entry.{Entry}
 use Rattle.strm_entry.specs.Entry.{asked_of}
 use Rattle.strm_entry.specs.Receipt.{ReceiptValue}
 use Rattle.strm_shared.specs.Seat.{SeatValue}

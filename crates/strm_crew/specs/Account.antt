@@ -1,7 +1,7 @@
 -- The receipts of a caller's calls on a stream.
 use Rattle.std.specs.Prelude.{◌≡◌, true, List, map, take}
 use Rattle.strm_entry.specs.Entry.{asked_of}
-use Rattle.strm_entry.specs.declared.entry.Entry.{Entry}
+use Rattle.strm_entry.specs.Entry.{Entry}
 use Rattle.strm_shared.specs.Seat.{SeatValue}
 use Rattle.strm_feed.specs.About.{RunValue}
 use Rattle.strm_job.specs.Scripts.{calls_on, script_of}

@@ -3,7 +3,7 @@ use Rattle.std.specs.Prelude.{◌≡◌, ℕ, suc, ◌<◌, true, Some, List, []
 use Rattle.std.specs.Global.{Global}
 use Rattle.strm_msg.specs.Message.{Msg}
 use Rattle.strm_ends.specs.Image.{Image}
-use Rattle.strm_entry.specs.declared.entry.Entry.{Entry}
+use Rattle.strm_entry.specs.Entry.{Entry}
 use Rattle.strm_entry.specs.Own.{arrivals, entry_at, has_seat, own}
 use Rattle.strm_ended.specs.declared.ended.Index.{Index}
 use Rattle.strm_ended.specs.declared.holding.Receipts.{Receipts}

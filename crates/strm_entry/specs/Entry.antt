@@ -1,15 +1,27 @@
 -- The entries of a history: who made a step, what it was, and what came back.
 use Rattle.std.specs.Prelude.{ℕ, ◌==◌, Bool, true, false, Option, Some, None, List, [], ◌∷◌, flat_map}
+use Rattle.arrayvec.specs.ArrayVec.{ArrayVec}
 use Rattle.strm_msg.specs.Message.{Msg}
 use Rattle.strm_msg.specs.declared.words.End.{End}
 use Rattle.strm_module.specs.declared.shape.Shape.{Shape}
+use Rattle.strm_ends.specs.declared.place.Place.{Place}
 use Rattle.strm_call.specs.declared.answer.Answer.{Answer}
 use Rattle.strm_call.specs.declared.answer.Answer.TheVariants.{Done, Refused, Broke}
 use Rattle.strm_call.specs.declared.event.Event.{Event}
 use Rattle.strm_call.specs.declared.event.Event.TheVariants.{Asked, Arrived}
 use Rattle.strm_entry.specs.declared.entry.Who.{Who}
 use Rattle.strm_entry.specs.declared.entry.Who.TheVariants.{Caller, Line}
-use Rattle.strm_entry.specs.declared.entry.Entry.{Entry}
+
+-- one step of a stream: who made it, at which end, what happened, the answer, the places that moved, how many places service looked
+-- at, and the serials of the modules that were taken out, topmost first
+pub record Entry (K : Type 0) : Type 0 where
+  pub who : Who
+  pub end : End
+  pub event : Event (Shape K)
+  pub answer : Answer
+  pub moves : List Place
+  pub looks : ℕ
+  pub out : ArrayVec ℕ
 
 -- calls are made by callers, and messages come in from the line
 abbrev pub is_by : {P : Type 0} → Who → Event P → Bool

@@ -3,7 +3,7 @@ use Rattle.std.specs.Prelude.{◌≡◌, false, ⊤}
 use Rattle.std.specs.Arc.{arc_value}
 use Rattle.strm_entry.specs.Entry.{has_come_in}
 use Rattle.strm_entry.specs.declared.entry.Who.TheVariants.{Caller}
-use Rattle.strm_entry.specs.declared.entry.Entry.{Entry}
+use Rattle.strm_entry.specs.Entry.{Entry}
 use Rattle.strm_entry.specs.declared.kept.Stored.{Stored}
 use Rattle.strm_entry.specs.declared.kept.Stored.TheVariants.{Shared, Plain}
 

@@ -1,4 +1,4 @@
-pub mod Out
+pub mod Inside
 pub mod Kept
 pub mod Entry
 pub mod Receipt

@@ -3,7 +3,7 @@ use Rattle.std.specs.Prelude.{ℕ, nat_lt, zero, suc, Bool, true, Option, None, 
 use Rattle.strm_msg.specs.Message.{Msg}
 use Rattle.strm_entry.specs.declared.entry.Who.{Who}
 use Rattle.strm_entry.specs.declared.entry.Who.TheVariants.{Caller, Line}
-use Rattle.strm_entry.specs.declared.entry.Entry.{Entry}
+use Rattle.strm_entry.specs.Entry.{Entry}
 use Rattle.strm_entry.specs.Entry.{is_caller, came_in}
 
 -- the steps that a caller made, in order: its calls

@@ -10,7 +10,7 @@ use Rattle.strm_call.specs.Calls.{changes_modules}
 use Rattle.strm_call.specs.declared.event.Event.{Event}
 use Rattle.strm_call.specs.declared.event.Event.TheVariants.{Asked, Arrived}
 use Rattle.strm_entry.specs.declared.entry.Who.TheVariants.{Caller, Line}
-use Rattle.strm_entry.specs.declared.entry.Entry.{Entry}
+use Rattle.strm_entry.specs.Entry.{Entry}
 
 -- a call that is to be made: the caller, which of its calls it is, counted from 1, the end, and what is asked
 pub record RoomValue (K : Type 0) : Type 0 where

@@ -1,8 +1,11 @@
 //! The entries of a history.
-ghost use Rattle.std.specs.Prelude.{◌≡◌};
+ghost use Rattle.std.specs.Prelude.{◌≡◌, []};
 ghost use Rattle.strm_entry.specs.Entry.{is_caller};
+ghost use Rattle.strm_entry.specs.Inside.{who_in, end_in, looks_in, out_in_box, told_looks, told_out};
 
-use crate::serials::Serials;
+use crate::header::Header;
+use crate::service::Service;
+use std::marker::Model;
 use strm_call::{Answer, Event};
 use strm_chain::Moves;
 use strm_module::BoxedShape;
@@ -18,24 +21,24 @@ pub enum Who {
 }
 
 /// One step of a stream, as its history has it.
+///
+/// A contract sees a record of what it says: `who` made it, at which `end`, the `event`, the `answer`, the places that moved (`moves`), how
+/// many places service looked at (`looks`), and the serials of what was taken out (`out`).
 #[derive(Drop)]
 pub struct Entry<K> {
-    /// Who made it: a caller made each call, and from the line came each message that came in.
-    pub who: Who,
-    /// The end to which it happened. Messages come in at end A.
-    pub end: End,
-    /// What happened: the call, or the message that came in. A module that was pushed is its shape as it
-    /// was handed in.
-    pub event: Event<BoxedShape<K>>,
-    /// The answer. Of a message that came in, `Done` with the reply of a line, or `Broke`.
-    pub answer: Answer,
-    /// The places that moved.
-    pub moves: Moves,
-    /// How many places service looked at, each taken out of the run queue: at least those that moved;
-    /// u64::MAX if more, and 0 where the answer is not `Done`.
-    pub looks: u64,
-    /// The serials of the modules that the call took out, topmost first.
-    pub out: Serials,
+    header: Header,
+    event: Event<BoxedShape<K>>,
+    answer: Answer,
+    moves: Moves,
+}
+
+impl<K> Model for Entry<K> {
+    ghost use Rattle.strm_entry.specs.Entry.{Entry};
+    ghost use Rattle.strm_entry.specs.Inside.{who_in, end_in, looks_in, out_in_box};
+
+    ghost Value = { Entry K };
+
+    ghost view = { λ e. record { who = who_in e.header; end = end_in e.header; event = e.event; answer = e.answer; moves = e.moves; looks = looks_in e.header; out = out_in_box e.header } };
 }
 
 impl Who {
@@ -44,5 +47,90 @@ impl Who {
         ensures { result ≡ is_caller caller self }
     {
         self == Who::Caller(caller)
+    }
+}
+
+impl<K> Entry<K> {
+    /// A step after which no place was looked at, so that none moved, and which took no module out. Takes no memory.
+    #[inline(always)]
+    pub fn new(who: Who, end: End, event: Event<BoxedShape<K>>, answer: Answer) -> Entry<K>
+        ensures { result ≡ record { who = who; end = end; event = event; answer = answer; moves = []; looks = 0; out = record { items = [] } } }
+    {
+        Entry {
+            header: Header::new(who, end, Service::Looks(0)),
+            event,
+            answer,
+            moves: Moves::new(),
+        }
+    }
+
+    /// Who made it: a caller made each call, and from the line came each message that came in.
+    pub fn who(&self) -> Who
+        ensures { result ≡ self.now.who }
+    {
+        self.header.who()
+    }
+
+    /// The end to which it happened. Messages come in at end A.
+    pub fn end(&self) -> End
+        ensures { result ≡ self.now.end }
+    {
+        self.header.end()
+    }
+
+    /// What happened: the call, or the message that came in. A module that was pushed is its shape as it was handed in.
+    pub fn event(&self) -> &Event<BoxedShape<K>>
+        ensures { result.now ≡ self.now.event }
+    {
+        &self.event
+    }
+
+    /// The answer. Of a message that came in, `Done` with the reply of a line, or `Broke`.
+    pub fn answer(&self) -> &Answer
+        ensures { result.now ≡ self.now.answer }
+    {
+        &self.answer
+    }
+
+    /// The places that moved, in order.
+    pub fn moves(&self) -> &Moves
+        ensures { result.now ≡ self.now.moves }
+    {
+        &self.moves
+    }
+
+    /// How many places service looked at, each taken out of the run queue: at least those that moved; u64::MAX if more, and 0 where
+    /// the answer is not `Done`.
+    pub fn looks(&self) -> u64
+        ensures { result ≡ self.now.looks }
+    {
+        self.header.looks()
+    }
+
+    /// The serials of the modules that the call took out, topmost first.
+    pub fn out(&self) -> &[u64]
+        ensures { result.now ≡ self.now.out.items }
+    {
+        self.header.out()
+    }
+
+    /// What it says beside the event, the answer and the moves.
+    pub(crate) fn header(&self) -> &Header
+        ensures who { who_in result.now ≡ self.now.who }
+        ensures end { end_in result.now ≡ self.now.end }
+        ensures looks { looks_in result.now ≡ self.now.looks }
+        ensures out { out_in_box result.now ≡ self.now.out }
+    {
+        &self.header
+    }
+
+    /// Puts in what became of the step. Takes no memory.
+    #[inline(always)]
+    pub(crate) fn fill(&mut self, answer: Answer, moves: Moves, service: Service)
+        ensures { self.new ≡ record self.old { answer = answer; moves = moves; looks = told_looks service; out = told_out service } }
+    {
+        self.answer = answer;
+        self.moves = moves;
+        self.header = Header::new(self.who(), self.end(), service);
     }
 }

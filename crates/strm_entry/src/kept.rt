@@ -28,7 +28,7 @@ pub struct Kept<K> {
 }
 
 impl<K> Model for Kept<K> {
-    ghost use Rattle.strm_entry.specs.declared.entry.Entry.{Entry};
+    ghost use Rattle.strm_entry.specs.Entry.{Entry};
     ghost use Rattle.strm_entry.specs.Kept.{entry_of, TellsItsCaller};
 
     ghost Value = { Entry K };
@@ -75,7 +75,7 @@ impl<K> Kept<K> {
     {
         match &self.stored {
             Stored::Shared { caller, .. } => Who::Caller(*caller),
-            Stored::Plain(entry) => entry.who,
+            Stored::Plain(entry) => entry.who(),
         }
     }
 
@@ -85,7 +85,7 @@ impl<K> Kept<K> {
     {
         match &self.stored {
             Stored::Shared { .. } => false,
-            Stored::Plain(entry) => matches!(entry.event, Event::Arrived(_)),
+            Stored::Plain(entry) => matches!(entry.event(), Event::Arrived(_)),
         }
     }
 }

@@ -4,11 +4,12 @@
 
 mod call;
 mod entry;
+mod header;
 mod kept;
 mod receipt;
 mod room;
 mod same;
-mod serials;
+mod service;
 mod shared;
 mod transcript;
 
@@ -17,6 +18,5 @@ pub use entry::{Entry, Who};
 pub use kept::Kept;
 pub use receipt::Receipt;
 pub use room::{Pending, Room, room_for, room_for_arrival, taken};
-pub use serials::Serials;
 pub use shared::SharedEntry;
 pub use transcript::{StreamLog, Transcript};

@@ -11,7 +11,7 @@ ghost use Rattle.strm_entry.specs.declared.entry.Who.TheVariants.{Caller};
 use crate::entry::{Entry, Who};
 use crate::kept::Kept;
 use crate::receipt::Receipt;
-use crate::serials::{AllSerials, Serials, room_for_serials};
+use crate::service::{Service, TakenOut, room_for_taken_out};
 use arrayvec::ArrayVec;
 use std::alloc::Global;
 use std::marker::Model;
@@ -31,13 +31,13 @@ pub struct Room<K> {
     pending: Pending,
 }
 
-/// What is told of a call beside its entry, until the call was made: whose it is, which of that caller's calls, and room for the
-/// serials of what it may take out.
+/// What is told of a call beside its entry, until the call was made: whose it is, which of that caller's calls, and room for what
+/// is told of one that may take modules out.
 #[derive(Drop)]
 pub struct Pending {
     caller: u32,
     number: u64,
-    serials: Option<Box<AllSerials>>,
+    taken_out: Option<Box<TakenOut>>,
 }
 
 impl<K> Model for Room<K> {
@@ -51,7 +51,7 @@ impl<K> Model for Room<K> {
 
     ghost view = { λ r. record { caller = r.pending.caller; number = r.pending.number; end = (arc_value r.entry).end; event = (arc_value r.entry).event } };
 
-    ghost invariant = { λ r. ((arc_value r.entry).who ≡ Caller r.pending.caller) × (has_come_in (arc_value r.entry).event ≡ false) × (is_some r.pending.serials ≡ may_take_out (arc_value r.entry).event) };
+    ghost invariant = { λ r. ((arc_value r.entry).who ≡ Caller r.pending.caller) × (has_come_in (arc_value r.entry).event ≡ false) × (is_some r.pending.taken_out ≡ may_take_out (arc_value r.entry).event) };
 }
 
 /// Room for the entry of a call, which is this caller's call of this number on the stream, counted from 1. Refused for want
@@ -64,20 +64,13 @@ pub fn room_for<M: ModuleOf>(
 ) -> Result<Room<M::Kind>, NoMem>
     ensures { IfOk result (λ room. room ≡ record { caller = caller; number = number; end = call.now.end; event = Asked call.now.request }) }
 {
-    let serials = room_for_serials(alloc, &call.request)?;
-    let entry = Entry {
-        who: Who::Caller(caller),
-        end: call.end,
-        event: Event::Asked(copy_request(alloc, &call.request)?),
-        answer: Answer::Broke,
-        moves: Moves::new(alloc),
-        looks: 0,
-        out: Serials::none(),
-    };
+    let taken_out = room_for_taken_out(alloc, &call.request)?;
+    let event = Event::Asked(copy_request(alloc, &call.request)?);
+    let entry = Entry::new(Who::Caller(caller), call.end, event, Answer::Broke);
     let pending = Pending {
         caller,
         number,
-        serials,
+        taken_out,
     };
     // A `?` would move the entry once more, as it comes back where there is no memory.
     match Arc::new(alloc, entry) {
@@ -91,28 +84,19 @@ pub fn room_for<M: ModuleOf>(
 pub fn room_for_arrival<K: Drop>(alloc: Global, m: &Message) -> Result<Box<Entry<K>>, NoMem>
     ensures { IfOk result (λ entry. entry.value ≡ arrival_entry m.now Broke [] 0) }
 {
-    let entry = Entry {
-        who: Who::Line,
-        end: End::A,
-        event: Event::Arrived(BoxedMessage::new(alloc, m.copy(alloc)?)?),
-        answer: Answer::Broke,
-        moves: Moves::new(alloc),
-        looks: 0,
-        out: Serials::none(),
-    };
+    let event = Event::Arrived(BoxedMessage::new(alloc, m.copy(alloc)?)?);
+    let entry = Entry::new(Who::Line, End::A, event, Answer::Broke);
     match Box::new(alloc, entry) {
         Ok(entry) => Ok(entry),
         Err(_) => Err(NoMem),
     }
 }
 
-/// The entry of a message that came in, which was taken. Takes no memory.
+/// The entry of a message that came in, which was taken, and took no module out. Takes no memory.
 pub fn taken<K: Drop>(mut entry: Box<Entry<K>>, moves: Moves, looks: u64) -> Kept<K>
-    ensures { result ≡ record entry.value { answer = Done Replies.Line; moves = moves; looks = looks } }
+    ensures { result ≡ record entry.value { answer = Done Replies.Line; moves = moves; looks = looks; out = record { items = [] } } }
 {
-    entry.answer = Answer::Done(Reply::Line);
-    entry.moves = moves;
-    entry.looks = looks;
+    entry.fill(Answer::Done(Reply::Line), moves, Service::Looks(looks));
     Kept::plain(entry)
 }
 
@@ -123,7 +107,7 @@ impl<K: Drop> Room<K> {
         ensures call { has_come_in self.event ≡ false }
         ensures caller { result.1.caller ≡ self.caller }
         ensures number { result.1.number ≡ self.number }
-        ensures serials { is_some result.1.serials ≡ may_take_out self.event }
+        ensures serials { is_some result.1.taken_out ≡ may_take_out self.event }
     {
         let Room { entry, pending } = self;
         (entry, pending)
@@ -141,15 +125,13 @@ impl Pending {
         looks: u64,
         back: &ArrayVec<Option<Boxed<M>>, MOST_MODULES>,
     )
-        requires { is_some self.old.serials ≡ false → out_in answer back.now.items ≡ [] }
+        requires { is_some self.old.taken_out ≡ false → out_in answer back.now.items ≡ [] }
         ensures entry { entry.new ≡ record entry.old { answer = answer; moves = moves; looks = looks; out = record { items = out_in answer back.now.items } } }
         ensures caller { self.new.caller ≡ self.old.caller }
         ensures number { self.new.number ≡ self.old.number }
     {
-        entry.out = Serials::of_taken_out(&answer, back, self.serials.take());
-        entry.answer = answer;
-        entry.moves = moves;
-        entry.looks = looks;
+        let service = Service::new(looks, &answer, back, self.taken_out.take());
+        entry.fill(answer, moves, service);
     }
 
     /// The entry of the call as the history has it, and as the receipt shows it. There is no receipt where the entry can have no

@@ -95,12 +95,9 @@ impl<K: SameKind + Drop> Entry<K> {
     pub fn is_same(&self, other: &Entry<K>) -> bool
         ensures { result ≡ true ↔ self.now ≡ other.now }
     {
-        self.who == other.who
-            && self.end == other.end
-            && self.looks == other.looks
-            && self.answer.is_same(&other.answer)
-            && self.out.is_same(&other.out)
-            && are_same_moves(self.moves.as_slice(), other.moves.as_slice())
-            && is_same_event(&self.event, &other.event)
+        self.header().is_same(other.header())
+            && self.answer().is_same(other.answer())
+            && are_same_moves(self.moves().as_slice(), other.moves().as_slice())
+            && is_same_event(self.event(), other.event())
     }
 }

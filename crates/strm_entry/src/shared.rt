@@ -14,7 +14,7 @@ pub struct SharedEntry<K> {
 
 impl<K> Model for SharedEntry<K> {
     ghost use Rattle.std.specs.Arc.{arc_value};
-    ghost use Rattle.strm_entry.specs.declared.entry.Entry.{Entry};
+    ghost use Rattle.strm_entry.specs.Entry.{Entry};
 
     ghost Value = { Entry K };
 

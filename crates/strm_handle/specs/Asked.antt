@@ -6,6 +6,7 @@ use Rattle.strm_module.specs.declared.shape.MakeFault.{MakeFault}
 use Rattle.strm_module.specs.declared.kind.Kind.{Kind}
 use Rattle.strm_module.specs.declared.kind.Kind.TheVariants as Kinds
 use Rattle.strm_module.specs.declared.shape.Shape.{Shape}
+use Rattle.strm_call.specs.declared.parts.Parts.{Parts}
 use Rattle.strm_call.specs.declared.refusal.Refusal.{Refusal}
 use Rattle.strm_call.specs.declared.refusal.Refusal.TheVariants.{Invalid, NoMemory}
 use Rattle.strm_call.specs.declared.request.Request.{Request}
@@ -29,6 +30,9 @@ IsMade asked made = (made ≡ asked) ⊎ (made ≡ Err NoMemory)
 abbrev pub part_of : Bool → List ℕ → Part
 part_of has bytes = if has then Some bytes else None
 
+abbrev pub parts_of : Bool → List ℕ → Bool → List ℕ → Parts
+parts_of has_ctl ctl has_dat dat = record { ctl = part_of has_ctl ctl; dat = part_of has_dat dat }
+
 -- the most bytes that are asked for: those of the buffer, up to the greatest u16
 abbrev pub most_of : Bool → List ℕ → Option ℕ
 most_of has buffer = if has then Some (min (length buffer) 65535) else None
@@ -38,11 +42,11 @@ band_of band = if nat_le band 255 then Some band else None
 
 abbrev pub putmsg_of : Bool → List ℕ → Bool → List ℕ → ℕ → Asked
 putmsg_of has_ctl ctl has_dat dat flags =
-    ask (priority_of flags) (λ flag. Ok (Requests.Putmsg flag (part_of has_ctl ctl) (part_of has_dat dat)))
+    ask (priority_of flags) (λ flag. Ok (Requests.Putmsg flag (parts_of has_ctl ctl has_dat dat)))
 
 abbrev pub putpmsg_of : Bool → List ℕ → Bool → List ℕ → ℕ → ℕ → Asked
 putpmsg_of has_ctl ctl has_dat dat band flags =
-    ask (put_flag_of flags) (λ flag. ask (band_of band) (λ b. Ok (Requests.Putpmsg b flag (part_of has_ctl ctl) (part_of has_dat dat))))
+    ask (put_flag_of flags) (λ flag. ask (band_of band) (λ b. Ok (Requests.Putpmsg b flag (parts_of has_ctl ctl has_dat dat))))
 
 abbrev pub getmsg_of : Bool → List ℕ → Bool → List ℕ → ℕ → Asked
 getmsg_of has_ctl ctl has_dat dat flags =

@@ -1,6 +1,9 @@
 -- What an answer writes where its caller has room for it.
-use Rattle.std.specs.Prelude.{◌≡◌, ℕ, Some, None, List, [], ◌∷◌, length, slice_get, option_map, ℤ, pos}
+use Rattle.std.specs.Prelude.{◌≡◌, ℕ, Some, None, List, [], ◌∷◌, ◌++◌, map, length, slice_get, option_map, ℤ, pos}
+use Rattle.arrayvec.specs.ArrayVec.{ArrayVec}
 use Rattle.strm_msg.specs.Message.{Part}
+use Rattle.strm_module.specs.declared.driver.Driver.{Driver}
+use Rattle.strm_module.specs.Driver.{driver_name}
 use Rattle.strm_call.specs.declared.answer.Acknowledged.TheVariants.{Ack}
 use Rattle.strm_call.specs.declared.answer.Received.{Received}
 use Rattle.strm_call.specs.declared.answer.Received.TheVariants as Receiveds
@@ -107,16 +110,20 @@ pub record AreValues (value bytes value' bytes' : ℤ) (answer : Answer) : Type 
 abbrev pub name_field : List ℕ → List ℕ
 name_field name = filled name (0 ∷ (0 ∷ (0 ∷ (0 ∷ (0 ∷ (0 ∷ (0 ∷ (0 ∷ (0 ∷ [])))))))))
 
+-- the names of the modules of an end, and of its driver
+abbrev pub names_on : List (ArrayVec ℕ) → Driver → List (List ℕ)
+names_on names driver = map (λ n. n.items) names ++ driver_name driver ∷ []
+
 -- the name at a place of a reply, from 0 for the first, if it has so many
 abbrev pub name_of : ℕ → Reply → Part
 name_of i (Replies.Look name) = option_map (λ n. name_field n.items) (slice_get (name ∷ []) i)
-name_of i (Replies.List names) = option_map (λ n. name_field n.items) (slice_get names.items i)
+name_of i (Replies.List names driver) = option_map (λ n. name_field n) (slice_get (names_on names.items driver) i)
 name_of i reply = None
 
 -- how many names a reply has
 abbrev pub count_of : Reply → ℕ
 count_of (Replies.Look name) = 1
-count_of (Replies.List names) = length names.items
+count_of (Replies.List names driver) = length (names_on names.items driver)
 count_of reply = 0
 
 -- a name of an answer lies in this buffer, and this is how many it has

@@ -6,7 +6,7 @@ ghost use Rattle.strm_handle.specs.Asked as asks;
 use crate::codes::{get_flag_of, priority_of, put_flag_of, wanted_of};
 use std::alloc::Global;
 use strm_abi::{mode_of, prot_of, sides_of};
-use strm_call::{Part, Refusal, Request};
+use strm_call::{BoxedParts, Part, Refusal, Request};
 use strm_module::{Boxed, Instance, Kind, MOST_SPLIT, Plain, Shape};
 use strm_msg::{Bytes, NoMem};
 
@@ -42,11 +42,19 @@ pub fn part_of(alloc: Global, has: bool, bytes: &[u8]) -> Result<Option<Bytes>, 
     }
 }
 
-/// A part that a call sends, copied if it is there. Refused for want of memory alone.
-fn sent_of(alloc: Global, has: bool, bytes: &[u8]) -> Result<Part, NoMem>
-    ensures { IfOk result (λ part. part ≡ asks.part_of has bytes.now) }
+/// Both parts of a message, each copied if it is there. Refused for want of memory alone.
+fn parts_of(
+    alloc: Global,
+    has_ctl: bool,
+    ctl: &[u8],
+    has_dat: bool,
+    dat: &[u8],
+) -> Result<BoxedParts, NoMem>
+    ensures { IfOk result (λ parts. parts ≡ asks.parts_of has_ctl ctl.now has_dat dat.now) }
 {
-    Part::new(alloc, part_of(alloc, has, bytes)?)
+    let ctl = part_of(alloc, has_ctl, ctl)?;
+    let dat = part_of(alloc, has_dat, dat)?;
+    BoxedParts::new(alloc, ctl, dat)
 }
 
 /// The putmsg of these arguments.
@@ -63,14 +71,10 @@ pub fn putmsg_of(
     let Some(flag) = priority_of(flags) else {
         return Err(Refusal::Invalid);
     };
-    let Ok(ctl) = sent_of(alloc, has_ctl, ctl) else {
-        return Err(Refusal::NoMemory);
-    };
-    let Ok(dat) = sent_of(alloc, has_dat, dat) else {
-        drop(ctl);
-        return Err(Refusal::NoMemory);
-    };
-    Ok(Request::Putmsg { flag, ctl, dat })
+    match parts_of(alloc, has_ctl, ctl, has_dat, dat) {
+        Ok(parts) => Ok(Request::Putmsg { flag, parts }),
+        Err(_) => Err(Refusal::NoMemory),
+    }
 }
 
 /// The putpmsg of these arguments.
@@ -91,19 +95,10 @@ pub fn putpmsg_of(
     let Some(band) = band_of(band) else {
         return Err(Refusal::Invalid);
     };
-    let Ok(ctl) = sent_of(alloc, has_ctl, ctl) else {
-        return Err(Refusal::NoMemory);
-    };
-    let Ok(dat) = sent_of(alloc, has_dat, dat) else {
-        drop(ctl);
-        return Err(Refusal::NoMemory);
-    };
-    Ok(Request::Putpmsg {
-        band,
-        flag,
-        ctl,
-        dat,
-    })
+    match parts_of(alloc, has_ctl, ctl, has_dat, dat) {
+        Ok(parts) => Ok(Request::Putpmsg { band, flag, parts }),
+        Err(_) => Err(Refusal::NoMemory),
+    }
 }
 
 /// The getmsg of these arguments.
@@ -192,7 +187,10 @@ pub fn find_of(alloc: Global, name: &[u8]) -> Asked
 pub fn str_of(alloc: Global, cmd: u32, has_dat: bool, dat: &[u8]) -> Asked
     ensures { asks.IsMade (Ok (Requests.Str cmd (asks.part_of has_dat dat.now))) result }
 {
-    match part_of(alloc, has_dat, dat) {
+    let Ok(dat) = part_of(alloc, has_dat, dat) else {
+        return Err(Refusal::NoMemory);
+    };
+    match Part::new(alloc, dat) {
         Ok(dat) => Ok(Request::Str { cmd, dat }),
         Err(_) => Err(Refusal::NoMemory),
     }

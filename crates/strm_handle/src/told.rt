@@ -8,7 +8,7 @@ ghost use Rattle.strm_handle.specs.Told.{ctl_of, dat_of, got_of, received_flags,
 
 use crate::codes::{more_number, priority_number};
 use strm_abi::{fill, fill_part, int_of, read_number};
-use strm_call::{Acknowledged, Answer, Name, Received, Reply};
+use strm_call::{Acknowledged, Answer, Received, Reply};
 
 /// What is told of a message or of an ioctl beside its bytes.
 #[repr(C)]
@@ -73,7 +73,7 @@ fn tell_ack(answer: &Acknowledged, dat: &mut [u8]) -> Got
     match answer {
         Acknowledged::Ack { rval, dat: part } => Got {
             rval: *rval,
-            ..lengths(-1, fill_part(dat, part), 0)
+            ..lengths(-1, fill_part(dat, part.as_ref()), 0)
         },
         Acknowledged::Nak { .. } => nothing(0),
         Acknowledged::Timeout => nothing(0),
@@ -95,8 +95,8 @@ fn tell(reply: &Reply, ctl: &mut [u8], dat: &mut [u8]) -> Got
         } => Got {
             more: more_number(*more),
             ..lengths(
-                fill_part(ctl, control),
-                fill_part(dat, part),
+                fill_part(ctl, control.as_ref()),
+                fill_part(dat, part.as_ref()),
                 priority_number(*flag),
             )
         },
@@ -110,13 +110,17 @@ fn tell(reply: &Reply, ctl: &mut [u8], dat: &mut [u8]) -> Got
             Got {
                 band,
                 more: more_number(*more),
-                ..lengths(fill_part(ctl, control), fill_part(dat, part), flags)
+                ..lengths(
+                    fill_part(ctl, control.as_ref()),
+                    fill_part(dat, part.as_ref()),
+                    flags,
+                )
             }
         }
         Reply::Peek { found } => match found {
             Some(seen) => lengths(
-                fill_part(ctl, &seen.ctl),
-                fill_part(dat, &seen.dat),
+                fill_part(ctl, seen.ctl.as_bytes()),
+                fill_part(dat, seen.dat.as_bytes()),
                 priority_number(seen.flag),
             ),
             None => nothing(0),
@@ -192,11 +196,11 @@ pub fn tell_values(answer: &Answer, value: &mut i32, bytes: &mut i32)
 }
 
 /// Puts a name into a buffer, with zeros behind it up to nine bytes.
-fn fill_name(buffer: &mut [u8], name: &Name)
-    ensures { buffer.new ≡ filled (name_field name.now.items) buffer.old }
+fn fill_name(buffer: &mut [u8], name: &[u8])
+    ensures { buffer.new ≡ filled (name_field name.now) buffer.old }
 {
     let mut field = [0; 9];
-    fill(&mut field, name.as_slice());
+    fill(&mut field, name);
     fill(buffer, &field);
 }
 
@@ -208,16 +212,19 @@ fn tell_name(reply: &Reply, i: u64, buffer: &mut [u8]) -> u64
     match reply {
         Reply::Look { name } => {
             if i == 0 {
-                fill_name(buffer, name);
+                fill_name(buffer, name.as_slice());
             }
             1
         }
-        Reply::List { names } => {
+        Reply::List { names, driver } => {
             let names = names.as_slice();
-            if i < names.len() as u64 {
-                fill_name(buffer, &names[i as usize]);
+            let count = names.len() as u64;
+            if i < count {
+                fill_name(buffer, names[i as usize].as_slice());
+            } else if i == count {
+                fill_name(buffer, driver.name());
             }
-            names.len() as u64
+            count + 1
         }
         _ => 0,
     }

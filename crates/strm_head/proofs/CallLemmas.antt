@@ -33,8 +33,8 @@ use Rattle.strm_head.proofs.KeptLemmas.{whole_of, quiet_begun, begun_opens}
 module _ {K : Type 0} (means : Meaning K) where
   -- a call that want of memory can refuse has taken no module out, and was handed none
   none_out : (image : Image K) (e : End) (request : Request (Shape K)) → can_lack_memory request ≡ true → (begun_of means image e request).out ≡ []
-  none_out image e (Putmsg flag ctl dat) can = refl
-  none_out image e (Putpmsg band flag ctl dat) can = refl
+  none_out image e (Putmsg flag parts) can = refl
+  none_out image e (Putpmsg band flag parts) can = refl
   none_out image e (Getmsg maxctl maxdat flag) can = refl
   none_out image e (Getpmsg maxctl maxdat band flag) can = refl
   none_out image e (Read zero) can = refl
@@ -58,8 +58,8 @@ module _ {K : Type 0} (means : Meaning K) where
   none_out image e Close can = cc
 
   none_pushed : (image : Image K) (e : End) (request : Request (Shape K)) → can_lack_memory request ≡ true → pushed_of request ≡ []
-  none_pushed image e (Putmsg flag ctl dat) can = refl
-  none_pushed image e (Putpmsg band flag ctl dat) can = refl
+  none_pushed image e (Putmsg flag parts) can = refl
+  none_pushed image e (Putpmsg band flag parts) can = refl
   none_pushed image e (Getmsg maxctl maxdat flag) can = refl
   none_pushed image e (Getpmsg maxctl maxdat band flag) can = refl
   none_pushed image e (Read zero) can = refl
@@ -84,8 +84,8 @@ module _ {K : Type 0} (means : Meaning K) where
 
   -- the calls that await an answer are those that say so
   awaits_of : (image : Image K) (e : End) (request : Request (Shape K)) → (begun_of means image e request).awaits ≡ awaits_answer request
-  awaits_of image e (Putmsg flag ctl dat) = refl
-  awaits_of image e (Putpmsg band flag ctl dat) = refl
+  awaits_of image e (Putmsg flag parts) = refl
+  awaits_of image e (Putpmsg band flag parts) = refl
   awaits_of image e (Getmsg maxctl maxdat flag) = refl
   awaits_of image e (Getpmsg maxctl maxdat band flag) = refl
   awaits_of image e (Read zero) = refl
@@ -109,8 +109,8 @@ module _ {K : Type 0} (means : Meaning K) where
   awaits_of image e Close = refl
 
   ioctl_of : (image : Image K) (e : End) (request : Request (Shape K)) → awaits_answer request ≡ true → begun_of means image e request ≡ begun_ioctl (begun_of means image e request).image
-  ioctl_of image e (Putmsg flag ctl dat) awaits = cc
-  ioctl_of image e (Putpmsg band flag ctl dat) awaits = cc
+  ioctl_of image e (Putmsg flag parts) awaits = cc
+  ioctl_of image e (Putpmsg band flag parts) awaits = cc
   ioctl_of image e (Getmsg maxctl maxdat flag) awaits = cc
   ioctl_of image e (Getpmsg maxctl maxdat band flag) awaits = cc
   ioctl_of image e (Read zero) awaits = cc
@@ -134,8 +134,8 @@ module _ {K : Type 0} (means : Meaning K) where
   ioctl_of image e Close awaits = cc
 
   ioctl_takes : (image : Image K) (e : End) (request : Request (Shape K)) → awaits_answer request ≡ true → takes_no_memory request ≡ false
-  ioctl_takes image e (Putmsg flag ctl dat) awaits = cc
-  ioctl_takes image e (Putpmsg band flag ctl dat) awaits = cc
+  ioctl_takes image e (Putmsg flag parts) awaits = cc
+  ioctl_takes image e (Putpmsg band flag parts) awaits = cc
   ioctl_takes image e (Getmsg maxctl maxdat flag) awaits = cc
   ioctl_takes image e (Getpmsg maxctl maxdat band flag) awaits = cc
   ioctl_takes image e (Read zero) awaits = cc

@@ -226,8 +226,8 @@ module _ {K : Type 0} (means : Meaning K) where
 
   -- no call opens an end
   pub begun_opens : (image : Image K) (e : End) (request : Request (Shape K)) → OpensNone image (begun_of means image e request).image
-  begun_opens image e (Putmsg flag ctl dat) = sent_opens image e (putmsg_message ctl dat flag)
-  begun_opens image e (Putpmsg band flag ctl dat) = sent_opens image e (putpmsg_message ctl dat band flag)
+  begun_opens image e (Putmsg flag parts) = sent_opens image e (putmsg_message parts.ctl parts.dat flag)
+  begun_opens image e (Putpmsg band flag parts) = sent_opens image e (putpmsg_message parts.ctl parts.dat band flag)
   begun_opens image e (Getmsg maxctl maxdat flag) = head_opens image e _
   begun_opens image e (Getpmsg maxctl maxdat band flag) = head_opens image e _
   begun_opens image e (Read zero) = none_opens image
@@ -254,8 +254,8 @@ module _ {K : Type 0} (means : Meaning K) where
 
   -- a call that changes no queue leaves a quiet stream quiet, awaits nothing and takes no module out
   pub quiet_begun : (image : Image K) (e : End) (request : Request (Shape K)) → changes_no_queue request ≡ true → IsQuiet image → IsQuietly image (begun_of means image e request)
-  quiet_begun image e (Putmsg flag ctl dat) is quiet = cc
-  quiet_begun image e (Putpmsg band flag ctl dat) is quiet = cc
+  quiet_begun image e (Putmsg flag parts) is quiet = cc
+  quiet_begun image e (Putpmsg band flag parts) is quiet = cc
   quiet_begun image e (Getmsg maxctl maxdat flag) is quiet = cc
   quiet_begun image e (Getpmsg maxctl maxdat band flag) is quiet = cc
   quiet_begun image e (Read max) is quiet = cc
@@ -292,8 +292,8 @@ module _ {K : Type 0} (means : Meaning K) where
 
   -- a call awaits no answer once it has it
   begun_idle : (image : Image K) (e : End) (request : Request (Shape K)) → AreIdle image → AreIdle (answered_if (begun_of means image e request).awaits e (begun_of means image e request).image)
-  begun_idle image e (Putmsg flag ctl dat) idle = sent_idle image e (putmsg_message ctl dat flag) idle
-  begun_idle image e (Putpmsg band flag ctl dat) idle = sent_idle image e (putpmsg_message ctl dat band flag) idle
+  begun_idle image e (Putmsg flag parts) idle = sent_idle image e (putmsg_message parts.ctl parts.dat flag) idle
+  begun_idle image e (Putpmsg band flag parts) idle = sent_idle image e (putpmsg_message parts.ctl parts.dat band flag) idle
   begun_idle image e (Getmsg maxctl maxdat flag) idle = idle_with image e _ (idle e) idle
   begun_idle image e (Getpmsg maxctl maxdat band flag) idle = idle_with image e _ (idle e) idle
   begun_idle image e (Read zero) idle = idle

@@ -34,8 +34,8 @@ ordered : {K : Type 0} (image : Image K) (e : End) (looks : Bool × Bool) (own :
 ordered image e looks own = by_error image e looks own (end_of image e).state.rd_errno (end_of image e).state.wr_errno
 
 pub in_order : {K : Type 0} (image : Image K) (e : End) (request : Request (Shape K)) → are_in_order (refusals image e request) ≡ true
-in_order image e (Putmsg flag ctl dat) = ordered image e (false, true) (putmsg_refusals image e ctl dat flag) refl (λ x. refl) (λ y. refl) (λ x y. refl)
-in_order image e (Putpmsg band flag ctl dat) = ordered image e (false, true) (putpmsg_refusals image e ctl dat band flag) refl (λ x. refl) (λ y. refl) (λ x y. refl)
+in_order image e (Putmsg flag parts) = ordered image e (false, true) (putmsg_refusals image e parts.ctl parts.dat flag) refl (λ x. refl) (λ y. refl) (λ x y. refl)
+in_order image e (Putpmsg band flag parts) = ordered image e (false, true) (putpmsg_refusals image e parts.ctl parts.dat band flag) refl (λ x. refl) (λ y. refl) (λ x y. refl)
 in_order image e (Getmsg maxctl maxdat flag) = ordered image e (true, false) (getmsg_refusals image e flag) refl (λ x. refl) (λ y. refl) (λ x y. refl)
 in_order image e (Getpmsg maxctl maxdat band flag) = ordered image e (true, false) (getpmsg_refusals image e band flag) refl (λ x. refl) (λ y. refl) (λ x y. refl)
 in_order image e (Read zero) = ordered image e (true, false) [] refl (λ x. refl) (λ y. refl) (λ x y. refl)

@@ -1,6 +1,6 @@
 -- The refusals of calls and their order, computed on worked examples.
 use Rattle.std.proofs.Common.{◌≡◌, ℕ, true, false, List, [], ◌∷◌, Some, None, replicate, refl}
-use Rattle.strm_msg.specs.Message.{Msg, data_msg, proto_msg, pcproto_msg}
+use Rattle.strm_msg.specs.Message.{Msg, Part, data_msg, proto_msg, pcproto_msg}
 use Rattle.strm_msg.specs.declared.errno.Errno.TheVariants.{EIO, EPROTO}
 use Rattle.strm_msg.specs.declared.words.End.TheVariants.{A, B}
 use Rattle.strm_msg.specs.Marks.{WaterMarks}
@@ -10,6 +10,7 @@ use Rattle.strm_call.specs.declared.request.Priority.TheVariants.{Norm, Hipri}
 use Rattle.strm_call.specs.declared.request.PutFlag.TheVariants as PutFlag
 use Rattle.strm_call.specs.declared.request.GetFlag.TheVariants as GetFlag
 use Rattle.strm_call.specs.declared.request.Wanted.TheVariants as Wanted
+use Rattle.strm_call.specs.declared.parts.Parts.{Parts}
 use Rattle.strm_call.specs.declared.request.Request.TheVariants.{Putmsg, Putpmsg, Getmsg, Getpmsg, Read, Write, Canput, Getband, Nread, Pop, Look, Find, Str, Flush, Close}
 use Rattle.strm_call.specs.declared.refusal.Refusal.TheVariants.{Closed, Broken, ReadError, WriteError, Invalid, TooLong, HungUp, BadMessage, NoMessage, WouldWait}
 use Rattle.strm_head.specs.Begin.{refusal_of}
@@ -33,6 +34,9 @@ with_error = record start { broken = true; a = record start.a { state = record s
 abbrev data_of : ℕ → Msg
 data_of n = data_msg 0 (replicate n 97)
 
+abbrev parts : Part → Part → Parts
+parts ctl dat = record { ctl = ctl; dat = dat }
+
 far_end_is_closed : refusal_of with_error B Nread ≡ Some Closed
 far_end_is_closed = refl
 
@@ -42,7 +46,7 @@ broken_before_an_error = refl
 abbrev unbroken : Image ℕ
 unbroken = record with_error { broken = start.broken }
 
-error_before_an_argument : refusal_of unbroken A (Putmsg Hipri None (Some [])) ≡ Some (WriteError EPROTO)
+error_before_an_argument : refusal_of unbroken A (Putmsg Hipri (parts None (Some []))) ≡ Some (WriteError EPROTO)
 error_before_an_argument = refl
 
 -- calls that receive look at the error of the read side alone, those that send at that of the write side, and others at both, that
@@ -65,16 +69,16 @@ write_error_before_an_argument = refl
 reading_goes_on_after_a_write_error : refusal_of unwritable A Nread ≡ None
 reading_goes_on_after_a_write_error = refl
 
-high_message_lacks_control : refusal_of hung_up A (Putmsg Hipri None (Some (replicate 5000 97))) ≡ Some Invalid
+high_message_lacks_control : refusal_of hung_up A (Putmsg Hipri (parts None (Some (replicate 5000 97)))) ≡ Some Invalid
 high_message_lacks_control = refl
 
-high_message_of_a_band : refusal_of start A (Putpmsg 1 PutFlag.Hipri (Some []) None) ≡ Some Invalid
+high_message_of_a_band : refusal_of start A (Putpmsg 1 PutFlag.Hipri (parts (Some []) None)) ≡ Some Invalid
 high_message_of_a_band = refl
 
-too_long_before_hung_up : refusal_of hung_up A (Putmsg Norm (Some (replicate 1025 97)) None) ≡ Some TooLong
+too_long_before_hung_up : refusal_of hung_up A (Putmsg Norm (parts (Some (replicate 1025 97)) None)) ≡ Some TooLong
 too_long_before_hung_up = refl
 
-greatest_control_is_taken : refusal_of start A (Putmsg Norm (Some (replicate 1024 97)) None) ≡ None
+greatest_control_is_taken : refusal_of start A (Putmsg Norm (parts (Some (replicate 1024 97)) None)) ≡ None
 greatest_control_is_taken = refl
 
 greatest_data_is_taken : refusal_of start A (Write (replicate 4096 97)) ≡ None
@@ -83,16 +87,16 @@ greatest_data_is_taken = refl
 data_that_is_too_long : refusal_of start A (Write (replicate 4097 97)) ≡ Some TooLong
 data_that_is_too_long = refl
 
-hung_up_without_a_part : refusal_of hung_up A (Putmsg Norm None None) ≡ Some HungUp
+hung_up_without_a_part : refusal_of hung_up A (Putmsg Norm (parts None None)) ≡ Some HungUp
 hung_up_without_a_part = refl
 
-full_driver_refuses : refusal_of (holding [] (data_of 16 ∷ [])) A (Putmsg Norm (Some (replicate 1024 97)) None) ≡ Some WouldWait
+full_driver_refuses : refusal_of (holding [] (data_of 16 ∷ [])) A (Putmsg Norm (parts (Some (replicate 1024 97)) None)) ≡ Some WouldWait
 full_driver_refuses = refl
 
-full_driver_takes_another_band : refusal_of (holding [] (data_of 16 ∷ [])) A (Putpmsg 1 PutFlag.Band None (Some [])) ≡ None
+full_driver_takes_another_band : refusal_of (holding [] (data_of 16 ∷ [])) A (Putpmsg 1 PutFlag.Band (parts None (Some []))) ≡ None
 full_driver_takes_another_band = refl
 
-nothing_to_send_does_not_wait : refusal_of (holding [] (data_of 16 ∷ [])) A (Putmsg Norm None None) ≡ None
+nothing_to_send_does_not_wait : refusal_of (holding [] (data_of 16 ∷ [])) A (Putmsg Norm (parts None None)) ≡ None
 nothing_to_send_does_not_wait = refl
 
 no_message_to_get : refusal_of start A (Getmsg (Some 64) (Some 64) Wanted.Any) ≡ Some WouldWait

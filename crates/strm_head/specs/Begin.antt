@@ -28,8 +28,8 @@ use Rattle.strm_ioctl.specs.Close.{close_begun}
 
 -- what may refuse a call of its kind alone, in the order in which it is looked for: whether it holds, and the refusal
 abbrev pub own_refusals : {K : Type 0} → Image K → End → Request (Shape K) → List (Bool × Refusal)
-own_refusals image e (Putmsg flag ctl dat) = putmsg_refusals image e ctl dat flag
-own_refusals image e (Putpmsg band flag ctl dat) = putpmsg_refusals image e ctl dat band flag
+own_refusals image e (Putmsg flag parts) = putmsg_refusals image e parts.ctl parts.dat flag
+own_refusals image e (Putpmsg band flag parts) = putpmsg_refusals image e parts.ctl parts.dat band flag
 own_refusals image e (Getmsg maxctl maxdat flag) = getmsg_refusals image e flag
 own_refusals image e (Getpmsg maxctl maxdat band flag) = getpmsg_refusals image e band flag
 own_refusals image e (Read max) = read_refusals image e max
@@ -54,8 +54,8 @@ errors_looked_at Nread = (true, false)
 errors_looked_at (Peek maxctl maxdat flag) = (true, false)
 errors_looked_at (Ckband band) = (true, false)
 errors_looked_at Getband = (true, false)
-errors_looked_at (Putmsg flag ctl dat) = (false, true)
-errors_looked_at (Putpmsg band flag ctl dat) = (false, true)
+errors_looked_at (Putmsg flag parts) = (false, true)
+errors_looked_at (Putpmsg band flag parts) = (false, true)
 errors_looked_at (Write dat) = (false, true)
 errors_looked_at (Canput band) = (false, true)
 errors_looked_at Close = (false, false)
@@ -100,8 +100,8 @@ are_in_order (row ∷ rows) = list_all (λ later. is_before row.1 later.1) rows 
 
 -- what a call has done
 abbrev pub begun_of : {K : Type 0} → Meaning K → Image K → End → Request (Shape K) → Begun (Image K) K
-begun_of means image e (Putmsg flag ctl dat) = putmsg_begun means image e ctl dat flag
-begun_of means image e (Putpmsg band flag ctl dat) = putpmsg_begun means image e ctl dat band flag
+begun_of means image e (Putmsg flag parts) = putmsg_begun means image e parts.ctl parts.dat flag
+begun_of means image e (Putpmsg band flag parts) = putpmsg_begun means image e parts.ctl parts.dat band flag
 begun_of means image e (Getmsg maxctl maxdat flag) = getmsg_begun image e maxctl maxdat
 begun_of means image e (Getpmsg maxctl maxdat band flag) = getpmsg_begun image e maxctl maxdat
 begun_of means image e (Read max) = read_begun image e max

@@ -2,7 +2,6 @@
 ghost use Rattle.std.specs.Prelude.{◌≡◌, []};
 ghost use Rattle.strm_call.specs.declared.answer.Answer.TheVariants as Answers;
 
-use std::alloc::Global;
 use std::marker::Model;
 use strm_call::{Answer, Refusal, Replied, Reply};
 use strm_chain::Settled;
@@ -42,7 +41,7 @@ impl<A: Replied> Answered<A> {
     }
 
     /// A call that was refused.
-    pub(crate) fn refused(alloc: Global, refusal: Refusal) -> Answered<A>
+    pub(crate) fn refused(refusal: Refusal) -> Answered<A>
         ensures answer { result.answer ≡ Answers.Refused refusal }
         ensures moves { result.moves ≡ [] }
         ensures looks { result.looks ≡ 0 }
@@ -50,12 +49,12 @@ impl<A: Replied> Answered<A> {
         Answered {
             answer: Answer::Refused(refusal),
             beside: A::refused(refusal),
-            settled: Settled::none(alloc),
+            settled: Settled::none(),
         }
     }
 
     /// A call after whose change memory was wanting.
-    pub(crate) fn broke(alloc: Global) -> Answered<A>
+    pub(crate) fn broke() -> Answered<A>
         ensures answer { result.answer ≡ Answers.Broke }
         ensures moves { result.moves ≡ [] }
         ensures looks { result.looks ≡ 0 }
@@ -63,7 +62,7 @@ impl<A: Replied> Answered<A> {
         Answered {
             answer: Answer::Broke,
             beside: A::broke(),
-            settled: Settled::none(alloc),
+            settled: Settled::none(),
         }
     }
 

@@ -15,7 +15,9 @@ ghost use Rattle.strm_head.specs.Inside.{HasItsEnds};
 
 use crate::call::Back;
 use std::alloc::Global;
-use strm_call::{Acknowledged, GetFlag, Part, Priority, PutFlag, Replied, Reply, Request, Wanted};
+use strm_call::{
+    Acknowledged, BoxedParts, GetFlag, Priority, PutFlag, Replied, Reply, Request, Wanted,
+};
 use strm_chain::{Chain, ChainFault};
 use strm_ioctl::{
     canput, ckband, close, find, flush, get_read, getband, list, look, nread, pop, push,
@@ -122,14 +124,13 @@ fn begin_close<M: ModuleOf, A: Replied>(
 fn begin_putmsg<M: ModuleOf, A: Replied>(
     chain: &mut Chain<M>,
     end: End,
-    ctl: Part,
-    dat: Part,
+    parts: BoxedParts,
     flag: Priority,
 ) -> Result<A, ChainFault>
     requires { IsReady chain.old.image end }
-    ensures { Begins M.Kind.means chain.old.image end (Requests.Putmsg flag ctl dat) (said A.says result) chain.new.image }
+    ensures { Begins M.Kind.means chain.old.image end (Requests.Putmsg flag parts) (said A.says result) chain.new.image }
 {
-    sent(putmsg(chain, end, ctl, dat, flag))
+    sent(putmsg(chain, end, parts.into_parts(), flag))
 }
 
 /// Begins a putpmsg.
@@ -137,15 +138,14 @@ fn begin_putmsg<M: ModuleOf, A: Replied>(
 fn begin_putpmsg<M: ModuleOf, A: Replied>(
     chain: &mut Chain<M>,
     end: End,
-    ctl: Part,
-    dat: Part,
+    parts: BoxedParts,
     band: u8,
     flag: PutFlag,
 ) -> Result<A, ChainFault>
     requires { IsReady chain.old.image end }
-    ensures { Begins M.Kind.means chain.old.image end (Requests.Putpmsg band flag ctl dat) (said A.says result) chain.new.image }
+    ensures { Begins M.Kind.means chain.old.image end (Requests.Putpmsg band flag parts) (said A.says result) chain.new.image }
 {
-    sent(putpmsg(chain, end, ctl, dat, band, flag))
+    sent(putpmsg(chain, end, parts.into_parts(), band, flag))
 }
 
 /// Begins a write.
@@ -322,13 +322,8 @@ pub(crate) fn begin<M: ModuleOf, A: Replied>(
     ensures back { back.new.items ≡ handed_out (begun_of M.Kind.means chain.old.image end request).out }
 {
     match request {
-        Request::Putmsg { flag, ctl, dat } => begin_putmsg(chain, end, ctl, dat, flag),
-        Request::Putpmsg {
-            band,
-            flag,
-            ctl,
-            dat,
-        } => begin_putpmsg(chain, end, ctl, dat, band, flag),
+        Request::Putmsg { flag, parts } => begin_putmsg(chain, end, parts, flag),
+        Request::Putpmsg { band, flag, parts } => begin_putpmsg(chain, end, parts, band, flag),
         Request::Getmsg {
             maxctl,
             maxdat,
@@ -349,7 +344,7 @@ pub(crate) fn begin<M: ModuleOf, A: Replied>(
             flag,
         } => begin_peek(chain, end, maxctl, maxdat, flag),
         Request::Pop => begin_pop(chain, end, back),
-        Request::Str { cmd, dat } => begin_str(chain, end, cmd, dat),
+        Request::Str { cmd, dat } => begin_str(chain, end, cmd, dat.into_bytes()),
         Request::Flush { r, w } => begin_flush(chain, end, r, w),
         Request::FlushBand { band, r, w } => begin_flush_band(chain, end, band, r, w),
         Request::Close => begin_close(chain, end, back),

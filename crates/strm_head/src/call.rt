@@ -106,13 +106,10 @@ fn own_refusal<M: ModuleOf>(
     ensures { result ≡ first_that_holds (own_refusals chain.now.image end request.now) }
 {
     match request {
-        Request::Putmsg { flag, ctl, dat } => putmsg_refusal(chain, end, ctl, dat, *flag),
-        Request::Putpmsg {
-            band,
-            flag,
-            ctl,
-            dat,
-        } => putpmsg_refusal(chain, end, ctl, dat, *band, *flag),
+        Request::Putmsg { flag, parts } => putmsg_refusal(chain, end, parts, *flag),
+        Request::Putpmsg { band, flag, parts } => {
+            putpmsg_refusal(chain, end, parts, *band, *flag)
+        }
         Request::Getmsg { flag, .. } => getmsg_refusal(chain, end, *flag),
         Request::Getpmsg { band, flag, .. } => getpmsg_refusal(chain, end, *band, *flag),
         Request::Read { max } => read_refusal(chain, end, *max),
@@ -181,7 +178,7 @@ fn broken<M: ModuleOf, A: Replied>(chain: &mut Chain<M>) -> Answered<A>
     ensures image { chain.new.image ≡ record chain.old.image { broken = true } }
 {
     chain.break_off();
-    Answered::broke(chain.alloc())
+    Answered::broke()
 }
 
 /// Runs services after a call was begun, until no queue must move. On a broken chain there are none.
@@ -192,7 +189,7 @@ fn finish<M: ModuleOf, A: Replied>(chain: &mut Chain<M>, end: End, reply: A) -> 
     ensures bound { IsCalm M.Kind.means → IsBounded chain.old.image result.answer result.moves result.looks chain.new.image }
 {
     if chain.is_broken() {
-        return Answered::done(reply, Settled::none(chain.alloc()));
+        return Answered::done(reply, Settled::none());
     }
     match chain.settle() {
         Ok(settled) => Answered::done(reply, settled),
@@ -252,18 +249,17 @@ pub(crate) fn perform<M: ModuleOf, A: Replied>(
     ensures looks { IsLooked result.answer result.moves result.looks }
     ensures bound { IsCalm M.Kind.means → IsBounded (begun_of M.Kind.means chain.old.image end request).image result.answer result.moves result.looks chain.new.image }
 {
-    let alloc = chain.alloc();
     let is_quiet = changes_no_queue(&request);
     let awaits = awaits_answer(&request);
     match begin::<M, A>(chain, end, request, back) {
-        Ok(reply) if is_quiet => Answered::done(reply, Settled::none(alloc)),
+        Ok(reply) if is_quiet => Answered::done(reply, Settled::none()),
         Ok(reply) if awaits => {
             drop(reply);
             finish_ioctl(chain, end)
         }
         Ok(reply) => finish(chain, end, reply),
-        Err(ChainFault::NoMem) => Answered::refused(alloc, Refusal::NoMemory),
-        Err(ChainFault::Broken) => Answered::broke(alloc),
+        Err(ChainFault::NoMem) => Answered::refused(Refusal::NoMemory),
+        Err(ChainFault::Broken) => Answered::broke(),
     }
 }
 
@@ -285,7 +281,7 @@ pub(crate) fn answer<M: ModuleOf, A: Replied>(
     match first_refusal(chain, end, &request) {
         Some(refusal) => {
             *back = pushed(request);
-            Answered::refused(chain.alloc(), refusal)
+            Answered::refused(refusal)
         }
         None => perform(chain, end, request, back),
     }

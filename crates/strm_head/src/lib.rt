@@ -18,7 +18,8 @@ pub use fault::NewFault;
 pub use outcome::{Arrived, Outcome};
 pub use stream::Stream;
 pub use strm_call::{
-    Acknowledged, Answer, Event, GetFlag, MAX_CONTROL, MAX_DATA, MOST_NAMES, More, Name, NameList,
-    Part, Peeked, Priority, PutFlag, Received, Refusal, Replied, Reply, Request, Twins, Wanted,
+    Acknowledged, Answer, BoxedParts, Event, GetFlag, MAX_CONTROL, MAX_DATA, More, Name, NameList,
+    Part, Parts, Peeked, Priority, PutFlag, Received, Refusal, Replied, Reply, Request, Twins,
+    Wanted,
 };
 pub use strm_chain::{Driver, MOST_MODULES, Moves, Place};

@@ -19,7 +19,7 @@ use Rattle.strm_head.specs.Answered.{AnsweredCall, IsLooked, IsBounded}
 use Rattle.strm_call.specs.Calls.{changes_modules}
 use Rattle.strm_head.specs.Begin.{begun_of, handed_out, back_of, out_of, serials_of}
 use Rattle.strm_head.specs.Step.{Step, Lands, arrived_of}
-use Rattle.strm_entry.specs.declared.entry.Entry.{Entry}
+use Rattle.strm_entry.specs.Entry.{Entry}
 use Rattle.strm_entry.specs.Entry.{serial_of, out_in}
 use Rattle.strm_history.specs.Steps.{due_back, IsStep}
 use Rattle.strm_history.specs.History.{Legal}
@@ -47,8 +47,8 @@ module _ {K : Type 0} (means : Meaning K) where
   out_serials (s ∷ shapes) = ap (λ l. s.serial ∷ l) (out_serials shapes)
 
   nothing_out : (image : Image K) (e : End) (request : Request (Shape K)) → changes_modules request ≡ false → (begun_of means image e request).out ≡ []
-  nothing_out image e (Putmsg flag ctl dat) same = refl
-  nothing_out image e (Putpmsg band flag ctl dat) same = refl
+  nothing_out image e (Putmsg flag parts) same = refl
+  nothing_out image e (Putpmsg band flag parts) same = refl
   nothing_out image e (Getmsg maxctl maxdat flag) same = refl
   nothing_out image e (Getpmsg maxctl maxdat band flag) same = refl
   nothing_out image e (Read zero) same = refl

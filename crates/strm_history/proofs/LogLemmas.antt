@@ -13,7 +13,7 @@ use Rattle.strm_call.specs.declared.event.Event.TheVariants.{Asked}
 use Rattle.strm_head.specs.Answered.{AnsweredCall, IsLooked, IsBounded}
 use Rattle.strm_head.specs.Begin.{back_of}
 use Rattle.strm_head.specs.Step.{Lands, arrived_of}
-use Rattle.strm_entry.specs.declared.entry.Entry.{Entry}
+use Rattle.strm_entry.specs.Entry.{Entry}
 use Rattle.strm_entry.specs.Entry.{out_in}
 use Rattle.strm_history.specs.Steps.{IsStep}
 use Rattle.strm_entry.specs.Receipt.{arrival_entry}

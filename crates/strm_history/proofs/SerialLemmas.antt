@@ -28,7 +28,7 @@ use Rattle.strm_ioctl.specs.Ioctl.{asked_of}
 use Rattle.strm_ioctl.specs.Close.{closed_image}
 use Rattle.strm_call.specs.declared.event.Event.{Event}
 use Rattle.strm_call.specs.declared.event.Event.TheVariants.{Asked, Arrived}
-use Rattle.strm_entry.specs.declared.entry.Entry.{Entry}
+use Rattle.strm_entry.specs.Entry.{Entry}
 use Rattle.strm_call.specs.Calls.{changes_modules}
 use Rattle.strm_head.specs.Begin.{begun_of, serials_of}
 use Rattle.strm_head.specs.Step.{Answers, IsDone, SettlesUnless, Lands, Step, answered_if}
@@ -121,8 +121,8 @@ module _ {K : Type 0} (means : Meaning K) where
 
   -- a call that changes no modules
   plain_standing : (image : Image K) (e : End) (request : Request (Shape K)) → changes_modules request ≡ false → standing (begun_of means image e request).image ≡ standing image
-  plain_standing image e (Putmsg flag ctl dat) plain = sent_standing image e (putmsg_message ctl dat flag)
-  plain_standing image e (Putpmsg band flag ctl dat) plain = sent_standing image e (putpmsg_message ctl dat band flag)
+  plain_standing image e (Putmsg flag parts) plain = sent_standing image e (putmsg_message parts.ctl parts.dat flag)
+  plain_standing image e (Putpmsg band flag parts) plain = sent_standing image e (putpmsg_message parts.ctl parts.dat band flag)
   plain_standing image e (Getmsg maxctl maxdat flag) plain = end_standing image e _ refl
   plain_standing image e (Getpmsg maxctl maxdat band flag) plain = end_standing image e _ refl
   plain_standing image e (Read zero) plain = refl
@@ -146,8 +146,8 @@ module _ {K : Type 0} (means : Meaning K) where
   plain_standing image e Close plain = cc
 
   plain_out : (image : Image K) (e : End) (request : Request (Shape K)) → changes_modules request ≡ false → (begun_of means image e request).out ≡ []
-  plain_out image e (Putmsg flag ctl dat) plain = refl
-  plain_out image e (Putpmsg band flag ctl dat) plain = refl
+  plain_out image e (Putmsg flag parts) plain = refl
+  plain_out image e (Putpmsg band flag parts) plain = refl
   plain_out image e (Getmsg maxctl maxdat flag) plain = refl
   plain_out image e (Getpmsg maxctl maxdat band flag) plain = refl
   plain_out image e (Read zero) plain = refl
@@ -181,8 +181,8 @@ module _ {K : Type 0} (means : Meaning K) where
 
   -- what a call has begun
   begun_times : (image : Image K) (e : End) (request : Request (Shape K)) (serial : ℕ) → times_in serial (standing image) + times_in serial (pushed request) ≡ times_in serial (serials_of (begun_of means image e request).out) + times_in serial (standing (begun_of means image e request).image)
-  begun_times image e (Putmsg flag ctl dat) serial = plain_times image e (Putmsg flag ctl dat) serial refl
-  begun_times image e (Putpmsg band flag ctl dat) serial = plain_times image e (Putpmsg band flag ctl dat) serial refl
+  begun_times image e (Putmsg flag parts) serial = plain_times image e (Putmsg flag parts) serial refl
+  begun_times image e (Putpmsg band flag parts) serial = plain_times image e (Putpmsg band flag parts) serial refl
   begun_times image e (Getmsg maxctl maxdat flag) serial = plain_times image e (Getmsg maxctl maxdat flag) serial refl
   begun_times image e (Getpmsg maxctl maxdat band flag) serial = plain_times image e (Getpmsg maxctl maxdat band flag) serial refl
   begun_times image e (Read max) serial = plain_times image e (Read max) serial refl
@@ -217,8 +217,8 @@ module _ {K : Type 0} (means : Meaning K) where
       ∙ settled_standing begun.image.broken begun.image moves done.settled done.settles
 
   pushed_done : (request : Request (Shape K)) (reply : Reply) → pushed_by (Asked request) (Done reply) ≡ pushed request
-  pushed_done (Putmsg flag ctl dat) reply = refl
-  pushed_done (Putpmsg band flag ctl dat) reply = refl
+  pushed_done (Putmsg flag parts) reply = refl
+  pushed_done (Putpmsg band flag parts) reply = refl
   pushed_done (Getmsg maxctl maxdat flag) reply = refl
   pushed_done (Getpmsg maxctl maxdat band flag) reply = refl
   pushed_done (Read max) reply = refl
@@ -241,8 +241,8 @@ module _ {K : Type 0} (means : Meaning K) where
   pushed_done Close reply = refl
 
   pushed_broke : (request : Request (Shape K)) → pushed_by (Asked request) Broke ≡ pushed request
-  pushed_broke (Putmsg flag ctl dat) = refl
-  pushed_broke (Putpmsg band flag ctl dat) = refl
+  pushed_broke (Putmsg flag parts) = refl
+  pushed_broke (Putpmsg band flag parts) = refl
   pushed_broke (Getmsg maxctl maxdat flag) = refl
   pushed_broke (Getpmsg maxctl maxdat band flag) = refl
   pushed_broke (Read max) = refl
@@ -265,8 +265,8 @@ module _ {K : Type 0} (means : Meaning K) where
   pushed_broke Close = refl
 
   pushed_none : (request : Request (Shape K)) (refusal : Refusal) → pushed_by (Asked request) (Refused refusal) ≡ []
-  pushed_none (Putmsg flag ctl dat) refusal = refl
-  pushed_none (Putpmsg band flag ctl dat) refusal = refl
+  pushed_none (Putmsg flag parts) refusal = refl
+  pushed_none (Putpmsg band flag parts) refusal = refl
   pushed_none (Getmsg maxctl maxdat flag) refusal = refl
   pushed_none (Getpmsg maxctl maxdat band flag) refusal = refl
   pushed_none (Read max) refusal = refl

@@ -2,7 +2,7 @@
 use Rattle.std.specs.Prelude.{◌≡◌, List, [], ◌∷◌}
 use Rattle.strm_module.specs.Kinds.{Meaning}
 use Rattle.strm_ends.specs.Image.{Image}
-use Rattle.strm_entry.specs.declared.entry.Entry.{Entry}
+use Rattle.strm_entry.specs.Entry.{Entry}
 use Rattle.strm_history.specs.Steps.{IsStep}
 
 -- for kinds of any meaning

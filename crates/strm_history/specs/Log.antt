@@ -15,7 +15,7 @@ use Rattle.strm_head.specs.Begin.{back_of}
 use Rattle.strm_head.specs.Step.{can_arrive}
 use Rattle.strm_entry.specs.declared.entry.Who.{Who}
 use Rattle.strm_entry.specs.declared.entry.Who.TheVariants.{Caller, Line}
-use Rattle.strm_entry.specs.declared.entry.Entry.{Entry}
+use Rattle.strm_entry.specs.Entry.{Entry}
 use Rattle.strm_entry.specs.declared.call.Called.{Called}
 use Rattle.strm_entry.specs.declared.call.Called.TheVariants.{Done, NoRoom}
 use Rattle.strm_entry.specs.declared.call.Landed.{Landed}

@@ -8,7 +8,7 @@ use Rattle.strm_call.specs.declared.answer.Answer.{Answer}
 use Rattle.strm_call.specs.declared.answer.Answer.TheVariants.{Done, Broke}
 use Rattle.strm_call.specs.declared.event.Event.{Event}
 use Rattle.strm_call.specs.declared.event.Event.TheVariants.{Asked}
-use Rattle.strm_entry.specs.declared.entry.Entry.{Entry}
+use Rattle.strm_entry.specs.Entry.{Entry}
 use Rattle.strm_head.specs.Begin.{serials_of}
 
 -- the modules of both ends, by their serials

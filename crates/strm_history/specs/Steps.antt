@@ -13,7 +13,7 @@ use Rattle.strm_head.specs.Answered.{IsLooked, IsBounded}
 use Rattle.strm_head.specs.Begin.{begun_of, pushed_of}
 use Rattle.strm_head.specs.Step.{Step, arrived_of}
 use Rattle.strm_entry.specs.Entry.{is_by, serial_of}
-use Rattle.strm_entry.specs.declared.entry.Entry.{Entry}
+use Rattle.strm_entry.specs.Entry.{Entry}
 
 -- the serial of the module that an event hands in, if it hands one in
 abbrev pub handed_in : {K : Type 0} → Event (Shape K) → List ℕ

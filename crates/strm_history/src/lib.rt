@@ -9,6 +9,5 @@ mod log;
 pub use log::Log;
 pub use strm_call::{Call, MOST_RING, SameKind, Setup};
 pub use strm_entry::{
-    Called, Entry, Kept, Landed, Receipt, Room, Serials, SharedEntry, StreamLog, Transcript, Who,
-    room_for,
+    Called, Entry, Kept, Landed, Receipt, Room, SharedEntry, StreamLog, Transcript, Who, room_for,
 };

@@ -5,7 +5,7 @@ use arrayvec::ArrayVec;
 use std::alloc::Global;
 use std::process::Abort;
 use strm_head::{
-    Answer, Driver, GetFlag, MOST_NAMES, More, Name, NameList, Outcome, Priority, Received,
+    Answer, Driver, GetFlag, MOST_MODULES, More, Name, NameList, Outcome, Priority, Received,
     Refusal, Reply, Request, Stream, Wanted,
 };
 use strm_module::{Boxed, Instance, Kind, Module, ModuleOf, Plain, Shape};
@@ -16,7 +16,7 @@ mod owners;
 mod tables;
 mod wants;
 
-/// Names of modules, topmost first, and maybe of the driver.
+/// Names of modules, topmost first.
 type Names = &'static [&'static [u8]];
 
 /// A kind of module.
@@ -68,7 +68,7 @@ enum Want {
     Waiting(u64, u64),
     Pushed,
     Popped(&'static [u8]),
-    Listed(Names),
+    Listed(Names, Driver),
     /// A close took out the modules of these names.
     Closed(Names),
     Refused(Refusal),
@@ -196,12 +196,12 @@ fn name_of(rt: &impl Abort, name: &[u8]) -> Name {
 }
 
 fn list_of(rt: &impl Abort, names: &[&[u8]]) -> NameList {
-    let mut all: ArrayVec<Name, MOST_NAMES> = ArrayVec::new();
+    let mut all: ArrayVec<Name, MOST_MODULES> = ArrayVec::new();
     for name in names {
         let pushed = all.try_push(name_of(rt, name));
         pushed.ok().expect(rt, "few names");
     }
-    assert!(rt; all.len() <= MOST_NAMES);
+    assert!(rt; all.len() <= MOST_MODULES);
     NameList::new(all.as_slice())
 }
 
@@ -237,9 +237,10 @@ fn popped(rt: &impl Abort, name: &[u8]) -> Reply {
     }
 }
 
-fn listed(rt: &impl Abort, names: Names) -> Reply {
+fn listed(rt: &impl Abort, names: Names, driver: Driver) -> Reply {
     Reply::List {
         names: list_of(rt, names),
+        driver,
     }
 }
 
@@ -258,7 +259,7 @@ fn answer_of(rt: &impl Abort, alloc: Global, want: Want) -> Answer {
         Want::Waiting(messages, bytes) => Answer::Done(Reply::Nread { messages, bytes }),
         Want::Pushed => Answer::Done(Reply::Push),
         Want::Popped(name) => Answer::Done(popped(rt, name)),
-        Want::Listed(names) => Answer::Done(listed(rt, names)),
+        Want::Listed(names, driver) => Answer::Done(listed(rt, names, driver)),
         Want::Closed(names) => Answer::Done(closed(rt, names)),
     }
 }

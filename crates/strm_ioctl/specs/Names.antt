@@ -1,12 +1,10 @@
 -- The names of what stands on an end (streamio(7): I_LIST, I_FIND).
-use Rattle.std.specs.Prelude.{ℕ, ◌&&◌, not, nat_le, Bool, List, [], ◌∷◌, ◌++◌, length, map, codes}
+use Rattle.std.specs.Prelude.{ℕ, ◌&&◌, not, nat_le, Bool, List, [], ◌∷◌, length, map}
 use Rattle.std.specs.List.{list_any}
 use Rattle.std.specs.Str.{bytes_eq}
 use Rattle.arrayvec.specs.ArrayVec.{ArrayVec}
 use Rattle.strm_msg.specs.declared.words.End.{End}
 use Rattle.strm_module.specs.declared.shape.TheConstants.{LONGEST_NAME}
-use Rattle.strm_module.specs.declared.driver.Driver.{Driver}
-use Rattle.strm_module.specs.declared.driver.Driver.TheVariants.{Echo, Loop, Line}
 use Rattle.strm_qpair.specs.End.{EndState}
 use Rattle.strm_ends.specs.Image.{Image, end_of}
 use Rattle.strm_call.specs.declared.refusal.Refusal.{Refusal}
@@ -18,15 +16,10 @@ use Rattle.strm_call.specs.Begun.{Begun, begun}
 abbrev pub names_of : {K : Type 0} → EndState K → List (ArrayVec ℕ)
 names_of e = map (λ s. s.shape.name) e.modules
 
-abbrev pub driver_name : Driver → ArrayVec ℕ
-driver_name Echo = record { items = codes "echo" }
-driver_name Loop = record { items = codes "loop" }
-driver_name Line = record { items = codes "line" }
-
--- the driver is the last
+-- the driver stands below them
 abbrev pub list_begun : {K : Type 0} → Image K → End → Begun (Image K) K
 list_begun image e =
-    begun image (Reply.List (record { items = names_of (end_of image e) ++ driver_name image.driver ∷ [] }))
+    begun image (Reply.List (record { items = names_of (end_of image e) }) image.driver)
 
 -- a name has 1 to 8 bytes
 abbrev pub find_refusals : List ℕ → List (Bool × Refusal)

@@ -9,7 +9,7 @@ ghost use Rattle.strm_ioctl.specs.Close.{hung_up, after_close, close_begun};
 
 use crate::names::names_of;
 use arrayvec::ArrayVec;
-use strm_call::{Name, NameList, Reply};
+use strm_call::{NameList, Reply};
 use strm_chain::{Chain, ChainFault, MOST_MODULES, Spot, deliver};
 use strm_module::{Boxed, ModuleOf};
 use strm_msg::{End, Message};
@@ -67,8 +67,7 @@ pub fn close<M: ModuleOf>(
     ensures broken { OnErr result (Breaks (close_begun M.Kind.means chain.old.image end).image chain.new.image) }
     ensures whole { OnErr result (chain.old.image.broken ≡ false) }
 {
-    let names: ArrayVec<Name, MOST_MODULES> = names_of(chain, end);
-    let names = NameList::new(names.as_slice());
+    let names = NameList::new(names_of(chain, end).as_slice());
     *back = chain.dismantle(end);
     match after_close(chain, end) {
         Ok(()) => Ok(Reply::Close { names }),

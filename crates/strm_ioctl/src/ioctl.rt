@@ -8,18 +8,18 @@ ghost use Rattle.strm_call.specs.Reply.{acknowledged};
 ghost use Rattle.strm_call.specs.Refusal.{first_that_holds};
 ghost use Rattle.strm_ioctl.specs.Ioctl.{str_refusals, asked_of};
 
-use strm_call::{Acknowledged, MAX_DATA, Refusal};
+use strm_call::{Acknowledged, MAX_DATA, Part, Refusal};
 use strm_chain::{Chain, ChainFault, Spot, deliver};
 use strm_module::ModuleOf;
 use strm_msg::{Bytes, End, Message, MsgKind};
 
 /// The first of an ioctl's own refusals that holds: EINVAL for data over its greatest size, ENXIO for
 /// an end that is hung up, and EAGAIN where the greatest id was given out (streamio(7), I_STR).
-pub fn str_refusal<M: ModuleOf>(chain: &Chain<M>, end: End, dat: &Option<Bytes>) -> Option<Refusal>
+pub fn str_refusal<M: ModuleOf>(chain: &Chain<M>, end: End, dat: &Part) -> Option<Refusal>
     ensures { result ≡ first_that_holds (str_refusals chain.now.image end dat.now) }
 {
     let state = chain.state(end);
-    match dat {
+    match dat.as_bytes() {
         Some(dat) if dat.len() > MAX_DATA => Some(Refusal::Invalid),
         _ if state.hung => Some(Refusal::HungUp),
         _ if state.next.is_none() => Some(Refusal::WouldWait),

@@ -6,30 +6,16 @@ ghost use Rattle.strm_ends.specs.Image.{end_of};
 ghost use Rattle.strm_call.specs.Refusal.{first_that_holds};
 ghost use Rattle.strm_ioctl.specs.Ask.{is_empty};
 ghost use Rattle.strm_ioctl.specs.Modules.{look_refusals, look_begun};
-ghost use Rattle.strm_ioctl.specs.Names.{names_of, driver_name, has_name, list_begun, find_refusals, find_begun};
+ghost use Rattle.strm_ioctl.specs.Names.{names_of, has_name, list_begun, find_refusals, find_begun};
 
 use arrayvec::ArrayVec;
-use strm_call::{MOST_NAMES, Name, NameList, Refusal, Reply};
-use strm_chain::{Chain, Driver, MOST_MODULES};
+use strm_call::{Name, NameList, Refusal, Reply};
+use strm_chain::{Chain, MOST_MODULES};
 use strm_module::{LONGEST_NAME, ModuleOf};
 use strm_msg::{Bytes, End};
 
-/// The name of a driver.
-fn driver_name(driver: Driver) -> Name
-    ensures { result ≡ driver_name driver }
-{
-    let name: &[u8] = match driver {
-        Driver::Echo => b"echo",
-        Driver::Loop => b"loop",
-        Driver::Line => b"line",
-    };
-    Name::new(&ArrayVec::try_from(name).unwrap())
-}
-
-/// The names of the modules of an end, topmost first, into an array with room for `MOST_MODULES`. Takes
-/// no memory.
-pub fn names_of<M: ModuleOf, const N: usize>(chain: &Chain<M>, end: End) -> ArrayVec<Name, N>
-    requires { MOST_MODULES ≤ N }
+/// The names of the modules of an end, topmost first. Takes no memory.
+pub fn names_of<M: ModuleOf>(chain: &Chain<M>, end: End) -> ArrayVec<Name, MOST_MODULES>
     ensures names { result.items ≡ names_of (end_of chain.now.image end) }
     ensures few { length result.items ≤ MOST_MODULES }
 {
@@ -64,14 +50,14 @@ pub fn look<M: ModuleOf>(chain: &Chain<M>, end: End) -> Reply
     }
 }
 
-/// Tells the names of the modules, topmost first, and then of the driver (streamio(7), I_LIST).
+/// Tells the names of the modules, topmost first, and the driver (streamio(7), I_LIST).
 pub fn list<M: ModuleOf>(chain: &Chain<M>, end: End) -> Reply
     ensures { result ≡ (list_begun chain.now.image end).reply }
 {
-    let mut names: ArrayVec<Name, MOST_NAMES> = names_of(chain, end);
-    names.push(driver_name(chain.driver()));
+    let names = names_of(chain, end);
     Reply::List {
         names: NameList::new(names.as_slice()),
+        driver: chain.driver(),
     }
 }
 
@@ -104,7 +90,7 @@ fn is_among(names: &[Name], name: &Bytes) -> bool
 pub fn find<M: ModuleOf>(chain: &Chain<M>, end: End, name: &Bytes) -> Reply
     ensures { result ≡ (find_begun chain.now.image end name.now).reply }
 {
-    let names: ArrayVec<Name, MOST_MODULES> = names_of(chain, end);
+    let names = names_of(chain, end);
     Reply::Find {
         found: is_among(names.as_slice(), name),
     }

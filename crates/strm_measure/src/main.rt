@@ -7,6 +7,7 @@
 #![tactic(auto)]
 
 mod feed;
+mod history;
 mod queue;
 mod retry;
 mod script;
@@ -48,7 +49,8 @@ fn measure<R: Files + Print + Clock + Threads + Wait + AllocGlobal + Sync>(
     if is_timed || many == 1 {
         queue::measure(rt, is_timed)?;
         feed::measure(rt, is_timed)?;
-        return service::measure(rt, is_timed);
+        service::measure(rt, is_timed)?;
+        return history::measure(rt, is_timed);
     }
     println!(rt; "{USAGE}")?;
     Ok(())

@@ -98,7 +98,7 @@ fn tell_moves(rt: &impl Print, transcript: &Transcript<Kind>) -> anyhow::Result<
     for log in &transcript.streams {
         for kept in &log.history {
             let entry = kept.entry();
-            println!(rt; "{} {}", entry.moves.len(), entry.looks)?;
+            println!(rt; "{} {}", entry.moves().len(), entry.looks())?;
         }
     }
     Ok(())

@@ -1,5 +1,5 @@
 -- The drivers, the ends that they have, and where they send what comes down (Programmer's Guide: STREAMS, "Loop-Around Driver").
-use Rattle.std.specs.Prelude.{Bool, true, false}
+use Rattle.std.specs.Prelude.{ℕ, List, Bool, true, false, codes}
 use Rattle.strm_msg.specs.declared.words.End.{End}
 use Rattle.strm_msg.specs.declared.words.End.TheVariants.{A, B}
 use Rattle.strm_module.specs.declared.driver.Driver.{Driver}
@@ -25,3 +25,9 @@ abbrev pub is_line : Driver → Bool
 is_line Echo = false
 is_line Loop = false
 is_line Line = true
+
+-- the name of a driver (streamio(7), I_LIST)
+abbrev pub driver_name : Driver → List ℕ
+driver_name Echo = codes "echo"
+driver_name Loop = codes "loop"
+driver_name Line = codes "line"

@@ -1,6 +1,6 @@
 //! What stands at the bottom of a stream, and how many modules can stand above it.
 ghost use Rattle.std.specs.Prelude.{◌≡◌};
-ghost use Rattle.strm_module.specs.Driver.{has_end, partner, is_line};
+ghost use Rattle.strm_module.specs.Driver.{has_end, partner, is_line, driver_name};
 
 use strm_msg::End;
 
@@ -47,5 +47,16 @@ impl Driver {
         ensures { result ≡ is_line self }
     {
         self == Driver::Line
+    }
+
+    /// Its name, as a list of what stands on an end has it (streamio(7), I_LIST).
+    pub fn name(self) -> &'static [u8]
+        ensures { result.now ≡ driver_name self }
+    {
+        match self {
+            Driver::Echo => b"echo",
+            Driver::Loop => b"loop",
+            Driver::Line => b"line",
+        }
     }
 }

@@ -7,16 +7,16 @@ ghost use Rattle.strm_chain.specs.Fault.{Fails};
 ghost use Rattle.strm_call.specs.Refusal.{first_that_holds};
 ghost use Rattle.strm_msgio.specs.Send.{putmsg_refusals, putpmsg_refusals, write_refusals, putmsg_begun, putpmsg_begun, write_begun, putmsg_message, putpmsg_message, ordinary_message, high_message, ordinary_band, waiting_refusals, sending_refusals, sent_of};
 
-use strm_call::{MAX_CONTROL, MAX_DATA, Part, Priority, PutFlag, Refusal, Reply};
+use strm_call::{MAX_CONTROL, MAX_DATA, Parts, Priority, PutFlag, Refusal, Reply};
 use strm_chain::{Chain, ChainFault, Spot, deliver};
 use strm_module::ModuleOf;
 use strm_msg::{Bytes, End, Message, MsgKind};
 
 /// Whether a part has more bytes than `most`.
-fn is_longer(part: &Part, most: usize) -> bool
+fn is_longer(part: &Option<Bytes>, most: usize) -> bool
     ensures { result ≡ nat_lt most (part_len part.now) }
 {
-    match part.as_bytes() {
+    match part {
         Some(bytes) => bytes.len() > most,
         None => false,
     }
@@ -40,32 +40,32 @@ fn waiting_refusal<M: ModuleOf>(chain: &Chain<M>, end: End, band: Option<u8>) ->
 fn sending_refusal<M: ModuleOf>(
     chain: &Chain<M>,
     end: End,
-    ctl: &Part,
-    dat: &Part,
+    parts: &Parts,
     band: Option<u8>,
 ) -> Option<Refusal>
-    ensures { result ≡ first_that_holds (sending_refusals chain.now.image end ctl.now dat.now band) }
+    ensures { result ≡ first_that_holds (sending_refusals chain.now.image end parts.now.ctl parts.now.dat band) }
 {
-    if is_longer(ctl, MAX_CONTROL) || is_longer(dat, MAX_DATA) {
+    if is_longer(&parts.ctl, MAX_CONTROL) || is_longer(&parts.dat, MAX_DATA) {
         return Some(Refusal::TooLong);
     }
     waiting_refusal(chain, end, band)
 }
 
 /// The band of an ordinary message of these parts, if they make one.
-fn ordinary_band(band: u8, ctl: &Part, dat: &Part) -> Option<u8>
-    ensures { result ≡ ordinary_band (ordinary_message band ctl.now dat.now) }
+fn ordinary_band(band: u8, parts: &Parts) -> Option<u8>
+    ensures { result ≡ ordinary_band (ordinary_message band parts.now.ctl parts.now.dat) }
 {
-    if ctl.is_none() && dat.is_none() {
+    if parts.ctl.is_none() && parts.dat.is_none() {
         return None;
     }
     Some(band)
 }
 
 /// The ordinary message of a band that these parts make, if they make one.
-fn ordinary_message(band: u8, ctl: Option<Bytes>, dat: Option<Bytes>) -> Option<Message>
-    ensures { result ≡ ordinary_message band ctl dat }
+fn ordinary_message(band: u8, parts: Parts) -> Option<Message>
+    ensures { result ≡ ordinary_message band parts.ctl parts.dat }
 {
+    let Parts { ctl, dat } = parts;
     match ctl {
         Some(ctl) => Some(Message {
             kind: MsgKind::MProto,
@@ -83,9 +83,10 @@ fn ordinary_message(band: u8, ctl: Option<Bytes>, dat: Option<Bytes>) -> Option<
 }
 
 /// The high-priority message that these parts make, if there is control.
-fn high_message(ctl: Option<Bytes>, dat: Option<Bytes>) -> Option<Message>
-    ensures { result ≡ high_message ctl dat }
+fn high_message(parts: Parts) -> Option<Message>
+    ensures { result ≡ high_message parts.ctl parts.dat }
 {
+    let Parts { ctl, dat } = parts;
     ctl.map(|ctl| Message {
         kind: MsgKind::MPcproto,
         band: 0,
@@ -114,18 +115,17 @@ fn send<M: ModuleOf>(chain: &mut Chain<M>, end: End, m: Option<Message>) -> Resu
 pub fn putmsg_refusal<M: ModuleOf>(
     chain: &Chain<M>,
     end: End,
-    ctl: &Part,
-    dat: &Part,
+    parts: &Parts,
     flag: Priority,
 ) -> Option<Refusal>
-    ensures { result ≡ first_that_holds (putmsg_refusals chain.now.image end ctl.now dat.now flag) }
+    ensures { result ≡ first_that_holds (putmsg_refusals chain.now.image end parts.now.ctl parts.now.dat flag) }
 {
     let band = match flag {
-        Priority::Norm => ordinary_band(0, ctl, dat),
-        Priority::Hipri if ctl.is_none() => return Some(Refusal::Invalid),
+        Priority::Norm => ordinary_band(0, parts),
+        Priority::Hipri if parts.ctl.is_none() => return Some(Refusal::Invalid),
         Priority::Hipri => None,
     };
-    sending_refusal(chain, end, ctl, dat, band)
+    sending_refusal(chain, end, parts, band)
 }
 
 /// Makes the message of a putmsg and sends it down. Without a part nothing is sent, but a high
@@ -136,20 +136,19 @@ pub fn putmsg_refusal<M: ModuleOf>(
 pub fn putmsg<M: ModuleOf>(
     chain: &mut Chain<M>,
     end: End,
-    ctl: Part,
-    dat: Part,
+    parts: Parts,
     flag: Priority,
 ) -> Result<Reply, ChainFault>
     requires there { is_there chain.old.image (Spots.Down end 1) ≡ true }
     requires whole { chain.old.image.broken ≡ false }
-    ensures reply { IfOk result (λ reply. reply ≡ (putmsg_begun M.Kind.means chain.old.image end ctl dat flag).reply) }
-    ensures image { OnOk result (chain.new.image ≡ (putmsg_begun M.Kind.means chain.old.image end ctl dat flag).image) }
-    ensures refused { IfErr result (λ fault. Fails fault chain.old.image (putmsg_begun M.Kind.means chain.old.image end ctl dat flag).image chain.new.image) }
-    ensures nothing { IsNone (putmsg_message ctl dat flag) → IsOk result }
+    ensures reply { IfOk result (λ reply. reply ≡ (putmsg_begun M.Kind.means chain.old.image end parts.ctl parts.dat flag).reply) }
+    ensures image { OnOk result (chain.new.image ≡ (putmsg_begun M.Kind.means chain.old.image end parts.ctl parts.dat flag).image) }
+    ensures refused { IfErr result (λ fault. Fails fault chain.old.image (putmsg_begun M.Kind.means chain.old.image end parts.ctl parts.dat flag).image chain.new.image) }
+    ensures nothing { IsNone (putmsg_message parts.ctl parts.dat flag) → IsOk result }
 {
     let m = match flag {
-        Priority::Norm => ordinary_message(0, ctl.into_bytes(), dat.into_bytes()),
-        Priority::Hipri => high_message(ctl.into_bytes(), dat.into_bytes()),
+        Priority::Norm => ordinary_message(0, parts),
+        Priority::Hipri => high_message(parts),
     };
     send(chain, end, m)?;
     Ok(Reply::Putmsg)
@@ -162,20 +161,19 @@ pub fn putmsg<M: ModuleOf>(
 pub fn putpmsg_refusal<M: ModuleOf>(
     chain: &Chain<M>,
     end: End,
-    ctl: &Part,
-    dat: &Part,
+    parts: &Parts,
     band: u8,
     flag: PutFlag,
 ) -> Option<Refusal>
-    ensures { result ≡ first_that_holds (putpmsg_refusals chain.now.image end ctl.now dat.now band flag) }
+    ensures { result ≡ first_that_holds (putpmsg_refusals chain.now.image end parts.now.ctl parts.now.dat band flag) }
 {
     let ordinary = match flag {
         PutFlag::Zero => return Some(Refusal::Invalid),
-        PutFlag::Band => ordinary_band(band, ctl, dat),
-        PutFlag::Hipri if ctl.is_none() || band != 0 => return Some(Refusal::Invalid),
+        PutFlag::Band => ordinary_band(band, parts),
+        PutFlag::Hipri if parts.ctl.is_none() || band != 0 => return Some(Refusal::Invalid),
         PutFlag::Hipri => None,
     };
-    sending_refusal(chain, end, ctl, dat, ordinary)
+    sending_refusal(chain, end, parts, ordinary)
 }
 
 /// Makes the message of a putpmsg and sends it down. Without a part nothing is sent (putpmsg(2)).
@@ -185,22 +183,21 @@ pub fn putpmsg_refusal<M: ModuleOf>(
 pub fn putpmsg<M: ModuleOf>(
     chain: &mut Chain<M>,
     end: End,
-    ctl: Part,
-    dat: Part,
+    parts: Parts,
     band: u8,
     flag: PutFlag,
 ) -> Result<Reply, ChainFault>
     requires there { is_there chain.old.image (Spots.Down end 1) ≡ true }
     requires whole { chain.old.image.broken ≡ false }
-    ensures reply { IfOk result (λ reply. reply ≡ (putpmsg_begun M.Kind.means chain.old.image end ctl dat band flag).reply) }
-    ensures image { OnOk result (chain.new.image ≡ (putpmsg_begun M.Kind.means chain.old.image end ctl dat band flag).image) }
-    ensures refused { IfErr result (λ fault. Fails fault chain.old.image (putpmsg_begun M.Kind.means chain.old.image end ctl dat band flag).image chain.new.image) }
-    ensures nothing { IsNone (putpmsg_message ctl dat band flag) → IsOk result }
+    ensures reply { IfOk result (λ reply. reply ≡ (putpmsg_begun M.Kind.means chain.old.image end parts.ctl parts.dat band flag).reply) }
+    ensures image { OnOk result (chain.new.image ≡ (putpmsg_begun M.Kind.means chain.old.image end parts.ctl parts.dat band flag).image) }
+    ensures refused { IfErr result (λ fault. Fails fault chain.old.image (putpmsg_begun M.Kind.means chain.old.image end parts.ctl parts.dat band flag).image chain.new.image) }
+    ensures nothing { IsNone (putpmsg_message parts.ctl parts.dat band flag) → IsOk result }
 {
     let m = match flag {
         PutFlag::Zero => None,
-        PutFlag::Band => ordinary_message(band, ctl.into_bytes(), dat.into_bytes()),
-        PutFlag::Hipri => high_message(ctl.into_bytes(), dat.into_bytes()),
+        PutFlag::Band => ordinary_message(band, parts),
+        PutFlag::Hipri => high_message(parts),
     };
     send(chain, end, m)?;
     Ok(Reply::Putpmsg)
@@ -229,6 +226,16 @@ pub fn write<M: ModuleOf>(chain: &mut Chain<M>, end: End, dat: Bytes) -> Result<
     ensures refused { IfErr result (λ fault. Fails fault chain.old.image (write_begun M.Kind.means chain.old.image end dat).image chain.new.image) }
 {
     let len = dat.len() as u64;
-    send(chain, end, ordinary_message(0, None, Some(dat)))?;
+    send(
+        chain,
+        end,
+        ordinary_message(
+            0,
+            Parts {
+                ctl: None,
+                dat: Some(dat),
+            },
+        ),
+    )?;
     Ok(Reply::Write { len })
 }

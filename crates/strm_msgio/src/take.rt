@@ -11,7 +11,7 @@ ghost use Rattle.strm_cut.specs.First.{first_of, put_back_if};
 ghost use Rattle.strm_msgio.specs.Take.{peeked_of, is_wanted, is_wanted_in, getmsg_refusals, getpmsg_refusals, priority_of, received_of, getmsg_reply, getpmsg_reply, getmsg_begun, getpmsg_begun, peek_begun};
 
 use std::alloc::Global;
-use strm_call::{GetFlag, More, Peeked, Priority, Received, Refusal, Replied, Reply, Wanted};
+use strm_call::{GetFlag, More, Part, Peeked, Priority, Received, Refusal, Replied, Reply, Wanted};
 use strm_chain::Chain;
 use strm_cut::Cut;
 use strm_module::ModuleOf;
@@ -299,10 +299,11 @@ pub fn peek<M: ModuleOf>(
 {
     let found = match chain.head(end).first() {
         Some(first) if is_wanted(flag, first) => {
-            let taken = Cut::of(chain.alloc(), first, maxctl, maxdat)?;
+            let alloc = chain.alloc();
+            let taken = Cut::of(alloc, first, maxctl, maxdat)?;
             Some(Peeked {
-                ctl: taken.ctl,
-                dat: taken.dat,
+                ctl: Part::new(alloc, taken.ctl)?,
+                dat: Part::new(alloc, taken.dat)?,
                 flag: priority_of(first),
             })
         }

@@ -9,7 +9,7 @@ use Rattle.strm_msg.specs.Message.{Msg}
 use Rattle.strm_module.specs.Kinds.{Meaning}
 use Rattle.strm_module.specs.Driver.{is_line}
 use Rattle.strm_call.specs.declared.setup.Setup.{Setup}
-use Rattle.strm_entry.specs.declared.entry.Entry.{Entry}
+use Rattle.strm_entry.specs.Entry.{Entry}
 use Rattle.strm_history.specs.Opened.{opened}
 use Rattle.strm_shared.specs.declared.fault.EndFault.{EndFault}
 use Rattle.strm_ended.specs.Ended.{EndedValue}

@@ -102,7 +102,7 @@ fn told<M: ModuleOf>(called: Called<Boxed<M>, M::Kind>, serials: &[u64]) -> Opti
 /// has none.
 fn wrote(kept: &Kept<Kind>) -> Option<(u32, u8, u64)> {
     let entry = kept.entry();
-    match (entry.who, &entry.event, &entry.answer) {
+    match (entry.who(), entry.event(), entry.answer()) {
         (
             Who::Caller(caller),
             Event::Asked(Request::Write { dat }),
@@ -125,7 +125,7 @@ fn are_writes(history: &[Kept<Kind>], wanted: &[(u32, u8, u64)]) -> bool {
 /// The data of a message that came in with an entry; of a call nothing.
 fn came(kept: &Kept<Kind>) -> Option<&[u8]> {
     let entry = kept.entry();
-    match (&entry.who, &entry.event) {
+    match (entry.who(), entry.event()) {
         (Who::Line, Event::Arrived(m)) => Some(data_of(m)),
         _ => None,
     }

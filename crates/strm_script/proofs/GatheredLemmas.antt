@@ -9,16 +9,18 @@ use Rattle.std.proofs.lemmas.List.Concat.{flat_map-append}
 use Rattle.arrayvec.specs.ArrayVec.{ArrayVec}
 use Rattle.strm_text.proofs.WriteLemmas.{appends_then}
 use Rattle.strm_msg.specs.declared.words.End.{End}
+use Rattle.strm_module.specs.declared.driver.Driver.{Driver}
 use Rattle.strm_module.specs.declared.shape.Shape.{Shape}
+use Rattle.strm_module.specs.Driver.{driver_name}
 use Rattle.strm_call.specs.declared.request.Request.{Request}
-use Rattle.strm_entry.specs.declared.entry.Entry.{Entry}
+use Rattle.strm_entry.specs.Entry.{Entry}
 use Rattle.strm_verb.specs.Field.{Field, Number, Pair, Word}
 use Rattle.strm_verb.specs.Table.{asked_of, word_of}
 use Rattle.strm_script.specs.declared.field.Field as printed
 use Rattle.strm_script.specs.declared.gathered.Gathered.{Gathered}
 use Rattle.strm_script.specs.Fields.{KindSpelling, fields_of, said, spaced, text_of, verb_of}
 use Rattle.strm_script.specs.Lines.{call_text, end_word, entries_text, entry_text}
-use Rattle.strm_script.specs.Replies.{name_fields}
+use Rattle.strm_script.specs.Replies.{list_fields, name_fields}
 use Rattle.strm_script.specs.Gathered.{IsFresh, with_gathered, Puts, IsFlushed}
 
 -- what the first put, and then what the second put
@@ -144,3 +146,8 @@ call_put spelling c0 c1 c2 c3 o0 o1 o2 o3 word stream at_end request is verb tar
     let whole : spaced (Word word ∷ []) ++ target_text ≡ spaced (Word (word_of (verb_of (asked_of request))) ∷ Word (stream ++ 58 ∷ end_word at_end) ∷ []) =
     ap (λ (front : List ℕ). 32 ∷ (front ++ target_text)) (append-nil word ∙ is) in
     puts_then c0 c2 c3 o0 o2 o3 _ (spaced (fields_of spelling (asked_of request))) (puts_as c0 c1 c2 o0 o1 o2 (spaced (Word word ∷ [])) target_text _ verb target whole) fields
+
+-- names were put, and then that of a driver
+pub list_put : (before between after : Option (List ℕ)) (old mid new : Gathered) (names : List (ArrayVec ℕ)) (driver : Driver) → Puts before between old mid (spaced (name_fields names)) → Puts between after mid new (spaced (Word (driver_name driver) ∷ [])) → Puts before after old new (spaced (list_fields names driver))
+list_put before between after old mid new names driver one other =
+    puts_as before between after old mid new (spaced (name_fields names)) (spaced (Word (driver_name driver) ∷ [])) (spaced (list_fields names driver)) one other (sym (flat_map-append (λ field. 32 ∷ text_of field) (name_fields names) (Word (driver_name driver) ∷ [])))

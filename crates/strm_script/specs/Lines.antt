@@ -15,7 +15,7 @@ use Rattle.strm_call.specs.declared.event.Event.{Event}
 use Rattle.strm_call.specs.declared.event.Event.TheVariants.{Asked, Arrived}
 use Rattle.strm_entry.specs.declared.entry.Who.{Who}
 use Rattle.strm_entry.specs.declared.entry.Who.TheVariants as whos
-use Rattle.strm_entry.specs.declared.entry.Entry.{Entry}
+use Rattle.strm_entry.specs.Entry.{Entry}
 use Rattle.strm_entry.specs.declared.transcript.StreamLog.{StreamLog}
 use Rattle.strm_verb.specs.Field.{Field, Number, Word}
 use Rattle.strm_verb.specs.Table.{word_of, asked_of}

@@ -2,6 +2,8 @@
 use Rattle.std.specs.Prelude.{ℕ, Bool, true, false, List, [], ◌∷◌, ◌++◌, map, Option, Some, None, codes}
 use Rattle.arrayvec.specs.ArrayVec.{ArrayVec}
 use Rattle.strm_msg.specs.Text.{name_of}
+use Rattle.strm_module.specs.declared.driver.Driver.{Driver}
+use Rattle.strm_module.specs.Driver.{driver_name}
 use Rattle.strm_call.specs.Refusal.{errno_of}
 use Rattle.strm_call.specs.declared.answer.More.{More}
 use Rattle.strm_call.specs.declared.answer.More.TheVariants as mores
@@ -49,6 +51,10 @@ acknowledged_fields Timeout = Word (codes "ETIME") ∷ []
 abbrev pub name_fields : List (ArrayVec ℕ) → List Field
 name_fields names = map (λ name. Word name.items) names
 
+-- the driver's name is the last
+abbrev pub list_fields : List (ArrayVec ℕ) → Driver → List Field
+list_fields names driver = name_fields names ++ Word (driver_name driver) ∷ []
+
 abbrev pub reply_fields : Reply → List Field
 reply_fields Reply.Putmsg = done_fields
 reply_fields Reply.Putpmsg = done_fields
@@ -66,7 +72,7 @@ reply_fields (Reply.Ckband waits) = Word (holds_word waits) ∷ []
 reply_fields (Reply.Getband band) = Number band ∷ []
 reply_fields (Reply.Pop name) = Word (codes "popped") ∷ Word name.items ∷ []
 reply_fields (Reply.Look name) = Word name.items ∷ []
-reply_fields (Reply.List names) = name_fields names.items
+reply_fields (Reply.List names driver) = list_fields names.items driver
 reply_fields (Reply.Find found) = Word (holds_word found) ∷ []
 reply_fields (Reply.Str answer) = acknowledged_fields answer
 reply_fields Reply.Flush = done_fields

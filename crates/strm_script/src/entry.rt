@@ -120,9 +120,9 @@ fn add_entry<W: Write, K: PrintKind + Drop>(
 )
     ensures { Puts (W.contents w.old) (W.contents w.new) out.old out.new (text.entry_text K.spelling (map (λ name. name.items) processes.now) stream.now entry.now) }
 {
-    add_who(w, out, processes, entry.who);
-    add_event(w, out, stream, entry.end, &entry.event);
-    add_answer(w, out, &entry.answer);
+    add_who(w, out, processes, entry.who());
+    add_event(w, out, stream, entry.end(), entry.event());
+    add_answer(w, out, entry.answer());
 }
 
 /// Adds the lines of steps, one after another.

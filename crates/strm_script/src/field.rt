@@ -42,8 +42,8 @@ pub(crate) fn part_field(part: &Option<Bytes>) -> Field<'_>
     }
 }
 
-/// A part that a call sends, or `-` where there is none.
-pub(crate) fn sent_field(part: &Part) -> Field<'_>
+/// A part in a box, or `-` where there is none.
+pub(crate) fn boxed_field(part: &Part) -> Field<'_>
     ensures { said result ≡ says.part_field part.now }
 {
     match part.as_bytes() {

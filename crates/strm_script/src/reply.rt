@@ -7,10 +7,13 @@ ghost use Rattle.strm_script.specs.Lines.{answer_text};
 ghost use Rattle.strm_script.specs.Replies as text;
 
 use crate::field::Field::{Number, Word};
-use crate::field::{Field, add_all, add_names, add_number, add_part, add_word, part_field};
+use crate::field::{
+    Field, add_all, add_names, add_number, add_part, add_word, boxed_field, part_field,
+};
 use crate::gathered::Gathered;
 use std::io::{self, Write};
-use strm_call::{Acknowledged, Answer, More, Peeked, Received, Reply};
+use strm_call::{Acknowledged, Answer, More, Name, Peeked, Received, Reply};
+use strm_module::Driver;
 use strm_msg::Bytes;
 use strm_verb::Worded;
 
@@ -62,7 +65,7 @@ fn add_peeked<W: Write>(w: &mut W, out: &mut Gathered, found: &Option<Peeked>)
     match found {
         None => add_word(w, out, b"none"),
         Some(seen) => {
-            let (ctl, dat) = (part_field(&seen.ctl), part_field(&seen.dat));
+            let (ctl, dat) = (boxed_field(&seen.ctl), boxed_field(&seen.dat));
             add_all(w, out, &[ctl, dat, Word(seen.flag.word())])
         }
     }
@@ -79,6 +82,15 @@ fn add_acknowledged<W: Write>(w: &mut W, out: &mut Gathered, answer: &Acknowledg
         }
         Acknowledged::Timeout => add_word(w, out, b"ETIME"),
     }
+}
+
+/// Adds the names of modules, and then that of the driver.
+#[tactic(auto, using(crate::proofs::GatheredLemmas::list_put))]
+fn add_list<W: Write>(w: &mut W, out: &mut Gathered, names: &[Name], driver: Driver)
+    ensures { Puts (W.contents w.old) (W.contents w.new) out.old out.new (spaced (text.list_fields names.now driver)) }
+{
+    add_names(w, out, names);
+    add_word(w, out, driver.name());
 }
 
 /// Adds what any call that is done gives back, from a list of fields. Stands apart, so that the room of the lists is not made where an
@@ -123,7 +135,7 @@ fn add_listed<W: Write>(w: &mut W, out: &mut Gathered, reply: &Reply)
         Reply::Getband { band } => add_number(w, out, *band),
         Reply::Pop { name } => add_all(w, out, &[Word(b"popped"), Word(name.as_slice())]),
         Reply::Look { name } => add_word(w, out, name.as_slice()),
-        Reply::List { names } => add_names(w, out, names.as_slice()),
+        Reply::List { names, driver } => add_list(w, out, names.as_slice(), *driver),
         Reply::Find { found } => add_word(w, out, holds_word(*found)),
         Reply::Str { answer } => add_acknowledged(w, out, answer),
         Reply::Close { names } => {

@@ -5,7 +5,7 @@ ghost use Rattle.strm_script.specs.Fields as text;
 ghost use Rattle.strm_script.specs.Gathered.{Puts};
 
 use crate::field::Field::{Number, Word};
-use crate::field::{Field, add_all, add_number, add_part, maximum_field, part_field, sent_field};
+use crate::field::{Field, add_all, add_number, add_part, boxed_field, maximum_field, part_field};
 use crate::gathered::Gathered;
 use crate::module::{PrintKind, add_module};
 use std::io::Write;
@@ -55,24 +55,21 @@ fn add_listed<W: Write, K: PrintKind + Drop>(
     ensures { Puts (W.contents w.old) (W.contents w.new) out.old out.new (text.spaced (text.fields_of K.spelling (asked_of request.now))) }
 {
     match request {
-        Request::Putmsg { flag, ctl, dat } => {
-            add_all(
-                w,
-                out,
-                &[sent_field(ctl), sent_field(dat), Word(flag.word())],
-            )
-        }
-        Request::Putpmsg {
-            band,
-            flag,
-            ctl,
-            dat,
-        } => add_all(
+        Request::Putmsg { flag, parts } => add_all(
             w,
             out,
             &[
-                sent_field(ctl),
-                sent_field(dat),
+                part_field(&parts.ctl),
+                part_field(&parts.dat),
+                Word(flag.word()),
+            ],
+        ),
+        Request::Putpmsg { band, flag, parts } => add_all(
+            w,
+            out,
+            &[
+                part_field(&parts.ctl),
+                part_field(&parts.dat),
                 Number(u64::from(*band)),
                 Word(flag.word()),
             ],
@@ -114,7 +111,7 @@ fn add_listed<W: Write, K: PrintKind + Drop>(
         Request::Write { dat } => add_all(w, out, &[Field::Bytes(dat.as_slice())]),
         Request::Push { instance } => add_module(w, out, instance.shape()),
         Request::Find { name } => add_part(w, out, name.as_slice()),
-        Request::Str { cmd, dat } => add_all(w, out, &[Number(u64::from(*cmd)), part_field(dat)]),
+        Request::Str { cmd, dat } => add_all(w, out, &[Number(u64::from(*cmd)), boxed_field(dat)]),
         Request::Flush { r, w: write } => add_all(w, out, &[Word((*r, *write).word())]),
         Request::FlushBand { band, r, w: write } => {
             add_all(

@@ -30,7 +30,7 @@ use Rattle.strm_head.specs.Step.{Step}
 use Rattle.strm_head.proofs.RefusalLemmas.{first_of_all}
 use Rattle.strm_entry.specs.declared.call.Called.{Called}
 use Rattle.strm_entry.specs.declared.call.Called.TheVariants.{Done, NoRoom}
-use Rattle.strm_entry.specs.declared.entry.Entry.{Entry}
+use Rattle.strm_entry.specs.Entry.{Entry}
 use Rattle.strm_entry.specs.Entry.{asked_of, serial_of}
 use Rattle.strm_history.specs.Steps.{due_back}
 use Rattle.strm_history.specs.Log.{LogValue, CallsBy, IsCalled}
@@ -64,8 +64,8 @@ module _ {K : Type 0} (means : Meaning K) where
       (second_none (first_that_holds (common_refusals image e Requests.Pop)) (first_that_holds (pop_refusals image e)) (sym (first_of_all image e Requests.Pop (λ same. cc)) ∙ none))
       replies comes
   hands_out image e Requests.Close answer back kept none replies comes = close_out (end_of image e).modules answer back replies comes
-  hands_out image e (Requests.Putmsg flag ctl dat) answer back kept none replies comes = comes
-  hands_out image e (Requests.Putpmsg band flag ctl dat) answer back kept none replies comes = comes
+  hands_out image e (Requests.Putmsg flag parts) answer back kept none replies comes = comes
+  hands_out image e (Requests.Putpmsg band flag parts) answer back kept none replies comes = comes
   hands_out image e (Requests.Getmsg maxctl maxdat flag) answer back kept none replies comes = comes
   hands_out image e (Requests.Getpmsg maxctl maxdat band flag) answer back kept none replies comes = comes
   hands_out image e (Requests.Read zero) answer back kept none replies comes = comes

@@ -13,7 +13,7 @@ use Rattle.strm_call.specs.declared.call.Call.{Call}
 use Rattle.strm_call.specs.declared.event.Event.TheVariants.{Asked}
 use Rattle.strm_head.specs.Begin.{pushed_of, handed_out}
 use Rattle.strm_entry.specs.declared.entry.Who.TheVariants.{Caller}
-use Rattle.strm_entry.specs.declared.entry.Entry.{Entry}
+use Rattle.strm_entry.specs.Entry.{Entry}
 use Rattle.strm_entry.specs.declared.call.Called.{Called}
 use Rattle.strm_entry.specs.declared.call.Called.TheVariants.{Done, NoRoom}
 use Rattle.strm_entry.specs.Entry.{asked_of, serial_of}

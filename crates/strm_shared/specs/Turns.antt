@@ -4,7 +4,7 @@ use Rattle.strm_msg.specs.declared.words.End.{End}
 use Rattle.strm_module.specs.declared.shape.Shape.{Shape}
 use Rattle.strm_module.specs.Driver.{is_line}
 use Rattle.strm_call.specs.declared.event.Event.{Event}
-use Rattle.strm_entry.specs.declared.entry.Entry.{Entry}
+use Rattle.strm_entry.specs.Entry.{Entry}
 use Rattle.strm_entry.specs.declared.call.Called.{Called}
 use Rattle.strm_entry.specs.declared.call.Called.TheVariants.{Done, NoRoom}
 use Rattle.strm_entry.specs.Entry.{asked_of}

@@ -75,8 +75,8 @@ pub data Asked (K : Type 0) : Type 0 where
   Pushed : (shape : Shape K) → Asked K
 
 abbrev pub asked_of : {K : Type 0} → Request (Shape K) → Asked K
-asked_of (Request.Putmsg flag ctl dat) = Told Verb.Putmsg (part_field ctl ∷ part_field dat ∷ Word (priority_word flag) ∷ [])
-asked_of (Request.Putpmsg band flag ctl dat) = Told Verb.Putpmsg (part_field ctl ∷ part_field dat ∷ Number band ∷ Word (put_word flag) ∷ [])
+asked_of (Request.Putmsg flag parts) = Told Verb.Putmsg (part_field parts.ctl ∷ part_field parts.dat ∷ Word (priority_word flag) ∷ [])
+asked_of (Request.Putpmsg band flag parts) = Told Verb.Putpmsg (part_field parts.ctl ∷ part_field parts.dat ∷ Number band ∷ Word (put_word flag) ∷ [])
 asked_of (Request.Getmsg maxctl maxdat flag) = Told Verb.Getmsg (maximum_field maxctl ∷ maximum_field maxdat ∷ Word (wanted_word flag) ∷ [])
 asked_of (Request.Getpmsg maxctl maxdat band flag) = Told Verb.Getpmsg (maximum_field maxctl ∷ maximum_field maxdat ∷ Number band ∷ Word (get_word flag) ∷ [])
 asked_of (Request.Read max) = Told Verb.Read (Number max ∷ [])

@@ -88,8 +88,8 @@ pub(crate) fn optional_at(alloc: Global, text: &[u8]) -> Result<Option<Bytes>, R
     Ok(Some(part_at(alloc, text)?))
 }
 
-/// A part that a call sends, or none for `-`. Refused where the text is neither, or for want of memory.
-pub(crate) fn sent_at(alloc: Global, text: &[u8]) -> Result<Part, ReadError>
+/// A part in a box, or none for `-`. Refused where the text is neither, or for want of memory.
+pub(crate) fn boxed_at(alloc: Global, text: &[u8]) -> Result<Part, ReadError>
     ensures { Gives (λ part. part) result (fields.optional_at text.now) }
 {
     let bytes = optional_at(alloc, text)?;

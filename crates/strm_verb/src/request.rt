@@ -4,12 +4,12 @@ ghost use Rattle.strm_verb.specs.Fault.{Gives, Tells};
 ghost use Rattle.strm_verb.specs.Table as table;
 
 use crate::fault::{Cause, ReadError};
-use crate::field::{byte_at, maximum_at, optional_at, part_at, sent_at, short_at, word_at};
+use crate::field::{boxed_at, byte_at, maximum_at, optional_at, part_at, short_at, word_at};
 use crate::kinds::{PlayModule, ReadKind, shape_at};
 use crate::verb::Verb;
 use crate::worded::choice_at;
 use std::alloc::Global;
-use strm_call::Request;
+use strm_call::{BoxedParts, Request};
 use strm_module::{Boxed, Instance, ModuleOf};
 
 /// `putmsg CTL DAT FLAG`.
@@ -19,10 +19,11 @@ fn putmsg<M: ModuleOf>(alloc: Global, texts: &[&[u8]]) -> Result<Request<Boxed<M
     let [ctl, dat, flag] = texts else {
         return Err(ReadError::Fault(Cause::Fields));
     };
-    let ctl = sent_at(alloc, ctl)?;
-    let dat = sent_at(alloc, dat)?;
+    let ctl = optional_at(alloc, ctl)?;
+    let dat = optional_at(alloc, dat)?;
     let flag = choice_at(flag)?;
-    Ok(Request::Putmsg { flag, ctl, dat })
+    let parts = BoxedParts::new(alloc, ctl, dat)?;
+    Ok(Request::Putmsg { flag, parts })
 }
 
 /// `putpmsg CTL DAT BAND FLAG`.
@@ -32,16 +33,12 @@ fn putpmsg<M: ModuleOf>(alloc: Global, texts: &[&[u8]]) -> Result<Request<Boxed<
     let [ctl, dat, band, flag] = texts else {
         return Err(ReadError::Fault(Cause::Fields));
     };
-    let ctl = sent_at(alloc, ctl)?;
-    let dat = sent_at(alloc, dat)?;
+    let ctl = optional_at(alloc, ctl)?;
+    let dat = optional_at(alloc, dat)?;
     let band = byte_at(band)?;
     let flag = choice_at(flag)?;
-    Ok(Request::Putpmsg {
-        band,
-        flag,
-        ctl,
-        dat,
-    })
+    let parts = BoxedParts::new(alloc, ctl, dat)?;
+    Ok(Request::Putpmsg { band, flag, parts })
 }
 
 /// `getmsg MAXCTL MAXDAT FLAG`.
@@ -121,7 +118,7 @@ fn str<M: ModuleOf>(alloc: Global, texts: &[&[u8]]) -> Result<Request<Boxed<M>>,
         return Err(ReadError::Fault(Cause::Fields));
     };
     let cmd = word_at(cmd)?;
-    let dat = optional_at(alloc, dat)?;
+    let dat = boxed_at(alloc, dat)?;
     Ok(Request::Str { cmd, dat })
 }
 

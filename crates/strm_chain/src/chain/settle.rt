@@ -71,9 +71,9 @@ impl<M: ModuleOf> Chain<M> {
         }
         self.restart();
         if self.enabling.len() == 0 {
-            return Ok(Settled::none(self.ends.alloc()));
+            return Ok(Settled::none());
         }
-        let mut moves = Moves::new(self.ends.alloc());
+        let mut moves = Moves::new();
         let mut hops = self.take_hops();
         while let Some((place, may)) = self.look() {
             if may {
@@ -110,7 +110,7 @@ impl<M: ModuleOf> Chain<M> {
         ensures first { IfErr result (λ fault. fault ≡ ChainFault.NoMem → moves.old ≡ []) }
     {
         let is_first = moves.is_empty();
-        match moves.push(place) {
+        match moves.push(self.ends.alloc(), place) {
             Ok(()) => {}
             Err(_) => return Err(self.refuse(is_first)),
         }

@@ -81,13 +81,13 @@ fn is_asked(
     back: &[u64],
     at: usize,
 ) -> bool {
-    is_call(&entry.event)
-        && pushed(&entry.event) == pushed_at(call, at)
-        && entry.who == Who::Caller(caller_of(at))
-        && is_answer(&entry.answer, answer_of(rt, alloc, want))
-        && entry.moves.len() == moves
-        && moves as u64 <= entry.looks
-        && entry.out.as_slice() == taken_out(want, back)
+    is_call(entry.event())
+        && pushed(entry.event()) == pushed_at(call, at)
+        && entry.who() == Who::Caller(caller_of(at))
+        && is_answer(entry.answer(), answer_of(rt, alloc, want))
+        && entry.moves().len() == moves
+        && moves as u64 <= entry.looks()
+        && entry.out() == taken_out(want, back)
 }
 
 /// Whether an event is that this message came in.
@@ -107,12 +107,12 @@ fn is_taken(
     entry: &Entry<Kind>,
     (comes, moves, looks): (Comes, usize, u64),
 ) -> bool {
-    is_arrival(&entry.event, message(rt, alloc, comes))
-        && entry.who == Who::Line
-        && entry.answer == Answer::Done(Reply::Line)
-        && entry.moves.len() == moves
-        && entry.looks == looks
-        && entry.out.as_slice().is_empty()
+    is_arrival(entry.event(), message(rt, alloc, comes))
+        && entry.who() == Who::Line
+        && *entry.answer() == Answer::Done(Reply::Line)
+        && entry.moves().len() == moves
+        && entry.looks() == looks
+        && entry.out().is_empty()
 }
 
 /// Whether this is the entry of a row.
@@ -127,7 +127,7 @@ fn is_entry(
         return false;
     };
     let entry = kept.entry();
-    entry.end == end
+    entry.end() == end
         && match happens {
             Happens::Asked(call, want, moves, back) => {
                 is_asked(rt, alloc, entry, (call, want, moves), back, at)

@@ -1,6 +1,6 @@
 //! What happens to streams, and what becomes of it.
 use super::{Call, Comes, Happens, Pushes, Row, Want};
-use strm_head::Refusal;
+use strm_head::{Driver, Refusal};
 use strm_msg::End::{A, B};
 use strm_msg::Errno;
 
@@ -165,7 +165,12 @@ pub(super) const MIXED: &[Row] = &[
     (A, Happens::Taken(Comes::High(b"h"), 0, 0)),
     (
         A,
-        Happens::Asked(Call::List, Want::Listed(&[b"m5", b"m0", b"line"]), 0, &[]),
+        Happens::Asked(
+            Call::List,
+            Want::Listed(&[b"m5", b"m0"], Driver::Line),
+            0,
+            &[],
+        ),
     ),
     (
         A,

@@ -6,7 +6,7 @@ use Rattle.strm_msg.specs.declared.words.End.TheVariants.{A, B}
 use Rattle.strm_module.specs.Driver.{is_line}
 use Rattle.strm_ends.specs.Image.{Image, end_of}
 use Rattle.strm_call.specs.declared.setup.Setup.{Setup}
-use Rattle.strm_entry.specs.declared.entry.Entry.{Entry}
+use Rattle.strm_entry.specs.Entry.{Entry}
 use Rattle.strm_ended.specs.declared.holding.Receipts.{Receipts}
 use Rattle.strm_ended.specs.Ended.{EndedValue}
 use Rattle.strm_shared.specs.declared.fault.EndFault.{EndFault}

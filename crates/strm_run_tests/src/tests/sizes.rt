@@ -14,18 +14,18 @@ fn what_a_call_moves_is_small(rt: HostRuntime) {
         ("a message", size_of::<Message>(), 96),
         ("a message in its box", size_of::<BoxedMessage>(), 8),
         ("what a module sends", size_of::<Outs>(), 48),
-        ("a reply", size_of::<Reply>(), 88),
-        ("an answer", size_of::<Answer>(), 96),
-        ("a request", size_of::<Request<Boxed<Plain>>>(), 40),
-        ("an event", size_of::<Event<BoxedShape<Kind>>>(), 48),
-        ("an entry", size_of::<Entry<Kind>>(), 216),
+        ("a reply", size_of::<Reply>(), 80),
+        ("an answer", size_of::<Answer>(), 88),
+        ("a request", size_of::<Request<Boxed<Plain>>>(), 32),
+        ("an event", size_of::<Event<BoxedShape<Kind>>>(), 40),
+        ("an entry", size_of::<Entry<Kind>>(), 160),
         ("an entry in its place", size_of::<Kept<Kind>>(), 16),
         ("a receipt", size_of::<Receipt<Kind>>(), 24),
-        ("an outcome", size_of::<Outcome<Plain>>(), 272),
+        ("an outcome", size_of::<Outcome<Plain>>(), 248),
         (
             "what becomes of a call",
             size_of::<Called<Boxed<Plain>, Kind>>(),
-            272,
+            264,
         ),
         (
             "what becomes of a call whose answer its receipt shows",
@@ -35,7 +35,7 @@ fn what_a_call_moves_is_small(rt: HostRuntime) {
         (
             "a call of a script",
             size_of::<ScriptCall<Boxed<Plain>>>(),
-            56,
+            48,
         ),
     ] {
         check(&rt, (what, size), size == wanted);

@@ -3,13 +3,12 @@ use super::names_of;
 use super::printing::log;
 use std::alloc::Global;
 use std::process::Abort;
-use strm_call::{Answer, Reply};
 use strm_chart::chart;
-use strm_head::{Event, Place};
-use strm_history::{Entry, Kept, Serials, Who};
+use strm_entry::{Entry, Kept, room_for_arrival, taken};
+use strm_head::{Moves, Place};
 use strm_module::Kind;
 use strm_msg::End::A;
-use strm_msg::{BoxedMessage, Message};
+use strm_msg::Message;
 use strm_plan::Names;
 use strm_run::{StreamLog, Transcript};
 
@@ -22,45 +21,23 @@ const DRAWN: &str = "stream l\np\n|   l\n|   |   line\n|   |   |\n\
     |   |<--| hangup\n|   |   | : ENOSR broke\n\
     open a m\nfeed accepted 3 arrived 2 overrun 1\n";
 
-/// A message that came in, and what moved.
-fn came(
-    rt: &impl Abort,
-    alloc: Global,
-    m: Message,
-    moves: Vec<Place>,
-    answer: Answer,
-) -> Kept<Kind> {
-    let entry = Entry {
-        who: Who::Line,
-        end: A,
-        event: Event::Arrived(BoxedMessage::new(alloc, m).expect(rt, "no memory")),
-        answer,
-        moves: moves.into(),
-        looks: 0,
-        out: Serials::none(),
-    };
-    Kept::plain(Box::new(alloc, entry).expect(rt, "no memory"))
-}
-
 /// The places that moved.
-fn places(rt: &impl Abort, alloc: Global) -> Vec<Place> {
+fn places(rt: &impl Abort, alloc: Global) -> Moves {
     let driver = Place::Drv { end: A };
     let (lower, upper) = (Place::Rd { end: A, i: 10 }, Place::Rd { end: A, i: 1 });
-    vec![in alloc; driver, lower, upper].expect(rt, "no memory")
+    Moves::from_slice(alloc, &[driver, lower, upper]).expect(rt, "no memory")
+}
+
+/// The entry of a message that came in, as it is if the stream breaks.
+fn came(rt: &impl Abort, alloc: Global, m: &Message) -> Box<Entry<Kind>> {
+    room_for_arrival(alloc, m).expect(rt, "no memory")
 }
 
 /// The messages that came in.
 fn arrivals(rt: &impl Abort, alloc: Global) -> Vec<Kept<Kind>> {
     let data = Message::of_data(alloc, 0, b"abc").expect(rt, "no memory");
-    let first = came(
-        rt,
-        alloc,
-        data,
-        places(rt, alloc),
-        Answer::Done(Reply::Line),
-    );
-    let hangup = Message::of_hangup();
-    let second = came(rt, alloc, hangup, Vec::new(alloc), Answer::Broke);
+    let first = taken(came(rt, alloc, &data), places(rt, alloc), 3);
+    let second = Kept::plain(came(rt, alloc, &Message::of_hangup()));
     vec![in alloc; first, second].expect(rt, "no memory")
 }
 

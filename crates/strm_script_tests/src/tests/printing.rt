@@ -7,9 +7,9 @@ use arrayvec::ArrayVec;
 use std::alloc::Global;
 use std::io::{self, ErrorKind, Write};
 use std::process::Abort;
-use strm_call::{Acknowledged, Answer, Name, NameList, Refusal, Reply, Request};
-use strm_head::{Event, MOST_MODULES, Moves};
-use strm_history::{Entry, Kept, Serials, Who};
+use strm_call::{Acknowledged, Answer, Name, NameList, Part as BoxedPart, Refusal, Reply, Request};
+use strm_head::{Event, MOST_MODULES};
+use strm_history::{Entry, Kept, Who};
 use strm_module::{BoxedShape, Kind};
 use strm_msg::End::{A, B};
 use strm_msg::{BoxedMessage, Bytes, End, Errno, Message};
@@ -154,7 +154,7 @@ fn request(rt: &impl Abort, alloc: Global, ask: Ask) -> Request<BoxedShape> {
         Nread => Request::Nread,
         Str(cmd, dat) => Request::Str {
             cmd,
-            dat: part(rt, alloc, dat),
+            dat: BoxedPart::new(alloc, part(rt, alloc, dat)).expect(rt, "no memory"),
         },
         Getband => Request::Getband,
     }
@@ -185,15 +185,7 @@ fn step(
     event: Event<BoxedShape>,
     answer: Answer,
 ) -> Kept<Kind> {
-    let entry = Entry {
-        who,
-        end,
-        event,
-        answer,
-        moves: Moves::new(alloc),
-        looks: 0,
-        out: Serials::none(),
-    };
+    let entry = Entry::new(who, end, event, answer);
     Kept::plain(Box::new(alloc, entry).expect(rt, "no memory"))
 }
 

@@ -6,8 +6,8 @@ use Rattle.strm_head.proofs.beginning.begin_putmsg.Goals as goal
 
 pub returns : goal.returns
 returns g c =
-    rw c.sent.ensures
-    (sent_begins g.M.Kind.Kinds.means c.args.chain.now.image c.args.end (Requests.Putmsg c.args.flag c.args.ctl c.args.dat) c.putmsg.result c.putmsg.new.chain.image c.putmsg.ensures.reply c.putmsg.ensures.image c.putmsg.ensures.refused refl refl refl c.requires.whole)
+    rw (c.sent.ensures, ← c.into_parts.ensures)
+    (sent_begins g.M.Kind.Kinds.means c.args.chain.now.image c.args.end (Requests.Putmsg c.args.flag c.into_parts.result) c.putmsg.result c.putmsg.new.chain.image c.putmsg.ensures.reply c.putmsg.ensures.image c.putmsg.ensures.refused refl refl refl c.requires.whole)
 
 pub sent-requires : goal.sent-requires
 sent-requires g c = bare_reply c.putmsg.result Replies.Putmsg c.putmsg.ensures.reply refl

@@ -6,8 +6,8 @@ use Rattle.strm_head.proofs.beginning.begin_putpmsg.Goals as goal
 
 pub returns : goal.returns
 returns g c =
-    rw c.sent.ensures
-    (sent_begins g.M.Kind.Kinds.means c.args.chain.now.image c.args.end (Requests.Putpmsg c.args.band c.args.flag c.args.ctl c.args.dat) c.putpmsg.result c.putpmsg.new.chain.image c.putpmsg.ensures.reply c.putpmsg.ensures.image c.putpmsg.ensures.refused refl refl refl c.requires.whole)
+    rw (c.sent.ensures, ← c.into_parts.ensures)
+    (sent_begins g.M.Kind.Kinds.means c.args.chain.now.image c.args.end (Requests.Putpmsg c.args.band c.args.flag c.into_parts.result) c.putpmsg.result c.putpmsg.new.chain.image c.putpmsg.ensures.reply c.putpmsg.ensures.image c.putpmsg.ensures.refused refl refl refl c.requires.whole)
 
 pub sent-requires : goal.sent-requires
 sent-requires g c = bare_reply c.putpmsg.result Replies.Putpmsg c.putpmsg.ensures.reply refl

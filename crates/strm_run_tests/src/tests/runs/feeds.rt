@@ -17,7 +17,7 @@ fn first_of(kept: &Kept<Kind>) -> Option<u8> {
 
 /// How many bytes a read took, where an entry is one.
 fn read(kept: &Kept<Kind>) -> Option<usize> {
-    match &kept.entry().answer {
+    match kept.entry().answer() {
         Answer::Done(Reply::Read { dat }) => Some(dat.len()),
         _ => None,
     }

@@ -25,7 +25,7 @@ fn long_script(rt: &impl Abort, alloc: Global) -> Vec<Row> {
 
 /// Whether an even call wrote three bytes, and an odd one read them.
 fn is_answered(kept: &Kept<Kind>, at: usize) -> bool {
-    match &kept.entry().answer {
+    match kept.entry().answer() {
         Answer::Done(Reply::Write { len }) => at % 2 == 0 && *len == 3,
         Answer::Done(Reply::Read { dat }) => at % 2 == 1 && dat.as_slice() == b"abc".as_slice(),
         _ => false,

@@ -101,7 +101,7 @@ pub(super) fn is_closed(end: &Ended<Plain>, out: &[u64]) -> bool {
     let Some(last) = end.history().last() else {
         return false;
     };
-    last.entry().out.as_slice() == out && !end.stream().is_open(End::A)
+    last.entry().out() == out && !end.stream().is_open(End::A)
 }
 
 #[test]

@@ -8,7 +8,7 @@ use std::alloc::Global;
 use std::marker::Brand;
 use std::process::Abort;
 use std::sync::Wait;
-use strm_head::{Answer, Part, Priority, Refusal, Reply, Request, Wanted};
+use strm_head::{Answer, BoxedParts, Priority, Refusal, Reply, Request, Wanted};
 use strm_history::Kept;
 use strm_module::{Boxed, Kind, Plain};
 use strm_msg::{Errno, Message, Prot, ReadMode};
@@ -215,8 +215,10 @@ fn refused_of(rt: &impl Abort, alloc: Global, ask: Ask) -> Request<Boxed<Plain>>
         Ask::Look => Request::Look,
         Ask::Putmsg => Request::Putmsg {
             flag: Priority::Norm,
-            ctl: Part::none(),
-            dat: Part::new(alloc, Some(bytes(rt, alloc, b"y"))).expect(rt, "no memory"),
+            parts: BoxedParts::new(alloc, None, Some(bytes(rt, alloc, b"y"))).expect(
+                rt,
+                "no memory",
+            ),
         },
         Ask::Canput => Request::Canput { band: 0 },
         Ask::Write => Request::Write {

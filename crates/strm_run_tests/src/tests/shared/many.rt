@@ -96,7 +96,7 @@ fn is_number(m: &Message, next: u32) -> bool {
 pub(super) fn count_in_order(ended: &Ended<Plain>) -> Option<u32> {
     let mut next: u32 = 0;
     for kept in ended.history() {
-        if let Event::Arrived(m) = &kept.entry().event {
+        if let Event::Arrived(m) = kept.entry().event() {
             if !is_number(m, next) {
                 return None;
             }

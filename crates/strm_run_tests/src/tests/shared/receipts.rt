@@ -30,10 +30,10 @@ fn last(rt: &impl Abort, seats: &mut Vec<Seat>) -> Seat {
 
 /// Whether this is the entry of the caller's write of these bytes.
 fn is_write(entry: &Entry<Kind>, caller: u32, bytes: &[u8]) -> bool {
-    match (&entry.event, &entry.answer) {
+    match (entry.event(), entry.answer()) {
         (Event::Asked(Request::Write { dat }), Answer::Done(Reply::Write { len })) => {
-            entry.who == Who::Caller(caller)
-                && entry.end == End::A
+            entry.who() == Who::Caller(caller)
+                && entry.end() == End::A
                 && dat.as_slice() == bytes
                 && *len == bytes.len() as u64
         }
@@ -86,7 +86,7 @@ fn has_both(end: &Ended<Plain>, of_q: &Receipt<Kind>, of_p: &Receipt<Kind>) -> b
 
 /// Whether a receipt is of a call that was refused as invalid.
 fn is_invalid(receipt: &Receipt<Kind>) -> bool {
-    matches!(receipt.entry().answer, Answer::Refused(Refusal::Invalid))
+    matches!(receipt.entry().answer(), Answer::Refused(Refusal::Invalid))
 }
 
 /// Whether a stream on which caller 1 wrote `q1` and then caller 0 `p1` has ended, its history holds their receipts, and it does

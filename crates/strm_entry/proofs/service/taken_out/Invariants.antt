@@ -1,7 +1,7 @@
 use Rattle.std.proofs.Common.{◌≡◌, ◌≤◌, length, take}
 use Rattle.std.specs.Prelude.{flat_map}
 use Rattle.strm_entry.specs.Entry.{serial_of}
-use Rattle.strm_entry.proofs.serials.taken_out.Given as goal
+use Rattle.strm_entry.proofs.service.taken_out.Given as goal
 
 -- the serials of the modules so far
 abbrev pub invariant-loop-module : goal.invariant-loop-module

@@ -1,5 +1,5 @@
 -- Room for an entry, and what a receipt shows.
-use Rattle.std.specs.Prelude.{ℕ, Bool, ◌≡◌, false, List, []}
+use Rattle.std.specs.Prelude.{ℕ, Bool, false, List, []}
 use Rattle.strm_msg.specs.Message.{Msg}
 use Rattle.strm_msg.specs.declared.words.End.{End}
 use Rattle.strm_msg.specs.declared.words.End.TheVariants.{A}
@@ -29,12 +29,6 @@ pub record ReceiptValue (K : Type 0) : Type 0 where
 abbrev pub may_take_out : {K : Type 0} → Event (Shape K) → Bool
 may_take_out (Asked request) = changes_modules request
 may_take_out (Arrived m) = false
-
--- an entry says whose call it is, at which end, and what is asked, as the room does for which it was made
-pub record IsBlankOf {K : Type 0} (room : RoomValue K) (entry : Entry K) : Type 0 where
-  pub who : entry.who ≡ Caller room.caller
-  pub end : entry.end ≡ room.end
-  pub event : entry.event ≡ room.event
 
 -- the entry of a call, with what became of it (no public clause cites it)
 abbrev pub filled : {K : Type 0} → RoomValue K → Answer → List Place → ℕ → List ℕ → Entry K

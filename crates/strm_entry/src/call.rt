@@ -19,13 +19,12 @@ pub enum Called<P, K, A = Answer> {
         /// The modules that come back, each as `Some`: that of a push that was refused, or those that
         /// were taken out, topmost first.
         back: ArrayVec<Option<P>, MOST_MODULES>,
-        /// What shows the call's entry in the history. It is not proved that there is one: where the entry can have no second
-        /// holder there is none, which no test has met, and then a shared stream does not end without a fault.
+        /// What shows the call's entry in the history. It is not proved that there is one: where a cell did not take the
+        /// entry there is none, which no test has met, and then a shared stream does not end without a fault.
         receipt: Option<Receipt<K>>,
     },
     /// It was not made, for want of memory for its entry in the history, or on a shared stream since the
-    /// seat can count no more calls; or since the room for its entry has another holder, which std does not rule out and no
-    /// test has met. Nothing was changed, and here it is again.
+    /// seat can count no more calls. Nothing was changed, and here it is again.
     NoRoom(Call<P>),
 }
 

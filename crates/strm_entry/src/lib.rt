@@ -17,6 +17,6 @@ pub use call::{Called, Landed};
 pub use entry::{Entry, Who};
 pub use kept::Kept;
 pub use receipt::Receipt;
-pub use room::{Pending, Room, room_for, room_for_arrival, taken};
+pub use room::{EntryCell, Room, room_for, room_for_arrival, taken};
 pub use shared::SharedEntry;
 pub use transcript::{StreamLog, Transcript};

@@ -1,38 +1,36 @@
 //! The entry of a call, as its history and its receipt share it.
 ghost use Rattle.std.specs.Prelude.{◌≡◌};
-ghost use Rattle.std.specs.Arc.{arc_value};
 
 use crate::entry::Entry;
 use std::marker::Model;
-use std::sync::Arc;
+use strm_once::Held;
 
-/// The entry of a call, which the history has too: a word, and no copy. A contract sees the entry.
+/// The entry of a call, which the history has too: two words, and no copy. A contract sees the entry.
 #[derive(Drop)]
 pub struct SharedEntry<K> {
-    entry: Arc<Entry<K>>,
+    held: Held<Entry<K>>,
 }
 
 impl<K> Model for SharedEntry<K> {
-    ghost use Rattle.std.specs.Arc.{arc_value};
     ghost use Rattle.strm_entry.specs.Entry.{Entry};
 
     ghost Value = { Entry K };
 
-    ghost view = { λ shared. arc_value shared.entry };
+    ghost view = { λ shared. shared.held.value };
 }
 
 impl<K> SharedEntry<K> {
     /// An entry that is shared. Takes no memory.
-    pub(crate) fn new(entry: Arc<Entry<K>>) -> SharedEntry<K>
-        ensures { result ≡ arc_value entry }
+    pub(crate) fn new(held: Held<Entry<K>>) -> SharedEntry<K>
+        ensures { result ≡ held.value }
     {
-        SharedEntry { entry }
+        SharedEntry { held }
     }
 
     /// The entry.
     pub fn entry(&self) -> &Entry<K>
         ensures { result.now ≡ self.now }
     {
-        &self.entry
+        self.held.get()
     }
 }

@@ -23,11 +23,7 @@ use Rattle.strm_entry.specs.Entry.{Entry}
 use Rattle.strm_entry.specs.Entry.{serial_of, out_in}
 use Rattle.strm_history.specs.Steps.{due_back, IsStep}
 use Rattle.strm_history.specs.History.{Legal}
-use Rattle.strm_entry.specs.Receipt.{arrival_entry, filled, may_take_out, IsBlankOf, RoomValue}
-
--- an entry that was made for a room, when what became of the call was put into it
-pub is_filled : {K : Type 0} (room : RoomValue K) (blank entry : Entry K) (answer : Answer) (moves : List Place) (looks : ℕ) (out : List ℕ) → IsBlankOf room blank → entry ≡ record blank { answer = answer; moves = moves; looks = looks; out = record { items = out } } → entry ≡ filled room answer moves looks out
-is_filled room blank entry answer moves looks out of is = rw (is, of.who, of.end, of.event) refl
+use Rattle.strm_entry.specs.Receipt.{arrival_entry, filled, may_take_out, RoomValue}
 
 -- for kinds of any meaning
 module _ {K : Type 0} (means : Meaning K) where

@@ -17,12 +17,61 @@ use Rattle.strm_entry.specs.Entry.{Entry}
 use Rattle.strm_entry.specs.Entry.{out_in}
 use Rattle.strm_history.specs.Steps.{IsStep}
 use Rattle.strm_entry.specs.Receipt.{arrival_entry}
-use Rattle.strm_history.specs.Log.{LogValue, HasLanded, IsCalled}
+use Rattle.strm_msg.specs.declared.words.End.{End}
+use Rattle.strm_call.specs.declared.event.Event.{Event}
+use Rattle.strm_entry.specs.declared.entry.Who.{Who}
+use Rattle.strm_entry.specs.declared.call.Called.{Called}
+use Rattle.strm_entry.specs.declared.call.Called.TheVariants.{Done, NoRoom}
+use Rattle.strm_history.specs.Log.{LogValue, CallsBy, Enters, HasLanded, IsCalled, IsSameLog}
 use Rattle.strm_entry.specs.Receipt.{filled, ReceiptValue, RoomValue}
 use Rattle.strm_history.proofs.EntryLemmas.{call_back, landed_step}
 
+-- the same log, whatever room it has
+pub same_log : {K : Type 0} (log : LogValue K) → IsSameLog log log
+same_log log = record { setup = refl; image = refl; history = refl }
+
+pub same_logs : {K : Type 0} (old between new : LogValue K) → IsSameLog old between → IsSameLog between new → IsSameLog old new
+same_logs old between new before after = record {
+  setup = after.setup ∙ before.setup;
+  image = after.image ∙ before.image;
+  history = after.history ∙ before.history;
+}
+
 -- for kinds of any meaning
 module _ {K : Type 0} (means : Meaning K) where
+  -- a step more, whatever room there was before
+  pub enters_same : (old between new : LogValue K) (maker : Who) (at_end : End) (happened : Event (Shape K)) (answered : Answer) → IsSameLog old between → Enters means between maker at_end happened answered new → Enters means old maker at_end happened answered new
+  enters_same old between new maker at_end happened answered same enters = record {
+    entry = enters.entry;
+    by = enters.by;
+    at = enters.at;
+    has = enters.has;
+    answers = enters.answers;
+    step = rw same.image at enters.step;
+    history = rw same.history at enters.history;
+    setup = enters.setup ∙ same.setup;
+  }
+
+  pub landed_same : (old between new : LogValue K) (m : Msg) → IsSameLog old between → HasLanded means between m new → HasLanded means old m new
+  landed_same old between new m same lands = record {
+    answer = lands.answer;
+    enters = enters_same old between new _ _ _ lands.answer same lands.enters;
+  }
+
+  pub calls_same : {A : Type 0} (Agrees : A → Answer → Type 0) (old between new : LogValue K) (caller number : ℕ) (call : Call (Shape K)) (result : Called (Shape K) K A) → IsSameLog old between → CallsBy means Agrees between caller number call result new → CallsBy means Agrees old caller number call result new
+  unfolding enters_same
+  calls_same Agrees old between new caller number call (Done has back receipt) same by = (
+    by.0,
+    by.1,
+    record {
+      enters = enters_same old between new _ _ _ by.0 same by.2.enters;
+      comes_back = rw same.image at by.2.comes_back;
+      handed = by.2.handed;
+      shown = by.2.shown;
+    },
+  )
+  calls_same Agrees old between new caller number call (NoRoom again) same by = (by.0, same_logs old between new same by.1)
+
   -- a message that came in stands in the history
   pub landed : (old new : LogValue K) (m copy : Msg) (answer : Answer) (moves : List Place) (looks : ℕ) (entry : Entry K) → copy ≡ m → entry ≡ arrival_entry copy answer moves looks → Lands means old.image A m answer moves [] new.image → IsLooked answer moves looks → (IsCalm means → IsBounded (arrived_of means old.image A m) answer moves looks new.image) → new.history ≡ old.history ++ entry ∷ [] → new.setup ≡ old.setup → HasLanded means old m new
   landed old new m copy answer moves looks entry same is lands looked bound history setup = record {

@@ -1,5 +1,5 @@
 -- What a call and an arrival do to a stream that keeps its history.
-use Rattle.std.specs.Prelude.{◌≡◌, ℕ, false, List, [], ◌∷◌, ◌++◌, Option, IfSome, flat_map}
+use Rattle.std.specs.Prelude.{◌≡◌, ◌<◌, ℕ, false, List, [], ◌∷◌, ◌++◌, Option, IfSome, flat_map}
 use Rattle.strm_msg.specs.Message.{Msg}
 use Rattle.strm_msg.specs.declared.words.End.{End}
 use Rattle.strm_msg.specs.declared.words.End.TheVariants.{A}
@@ -24,11 +24,22 @@ use Rattle.strm_entry.specs.Entry.{serial_of}
 use Rattle.strm_entry.specs.Receipt.{ReceiptValue}
 use Rattle.strm_history.specs.Steps.{due_back, IsStep}
 
--- a stream with its history: how it was made, its image, and its history
+-- a stream with its history: how it was made, its image, its history, and for how many entries more the history has room
 pub record LogValue (K : Type 0) : Type 0 where
   pub setup : Setup
   pub image : Image K
   pub history : List (Entry K)
+  pub room : ℕ
+
+-- the same stream with the same history, whatever room there is
+pub record IsSameLog {K : Type 0} (old new : LogValue K) : Type 0 where
+  pub setup : new.setup ≡ old.setup
+  pub image : new.image ≡ old.image
+  pub history : new.history ≡ old.history
+
+-- room for one entry that was there is there still
+abbrev pub KeepsRoom : {K : Type 0} → LogValue K → LogValue K → Type 0
+KeepsRoom old new = 0 < old.room → 0 < new.room
 
 -- the caller has an equal answer
 abbrev pub Equals : Answer → Answer → Type 0
@@ -59,7 +70,7 @@ module _ {K : Type 0} (means : Meaning K) where
   abbrev pub CallsBy : {A : Type 0} → (A → Answer → Type 0) → LogValue K → ℕ → ℕ → Call (Shape K) → Called (Shape K) K A → LogValue K → Type 0
   CallsBy Agrees old caller number call (Done has back receipt) new =
       (answer : Answer) × Agrees has answer × IsCalled old caller number call answer back.items receipt new
-  CallsBy Agrees old caller number call (NoRoom same) new = (same ≡ call) × (new ≡ old)
+  CallsBy Agrees old caller number call (NoRoom same) new = (same ≡ call) × IsSameLog old new
 
   -- a message that came in: a step that the history has
   pub record HasLanded (old : LogValue K) (m : Msg) (new : LogValue K) : Type 0 where
@@ -70,5 +81,5 @@ module _ {K : Type 0} (means : Meaning K) where
   -- is looked at first
   abbrev pub Lands : LogValue K → Msg → Landed → LogValue K → Type 0
   Lands old m Entered new = HasLanded old m new
-  Lands old m (Full same) new = (can_arrive old.image A m ≡ false) × (same ≡ m) × (new ≡ old)
-  Lands old m (NoMem same) new = (same ≡ m) × (new ≡ old)
+  Lands old m (Full same) new = (can_arrive old.image A m ≡ false) × (same ≡ m) × IsSameLog old new
+  Lands old m (NoMem same) new = (same ≡ m) × IsSameLog old new

@@ -9,5 +9,6 @@ mod log;
 pub use log::Log;
 pub use strm_call::{Call, MOST_RING, SameKind, Setup};
 pub use strm_entry::{
-    Called, Entry, Kept, Landed, Receipt, Room, SharedEntry, StreamLog, Transcript, Who, room_for,
+    Called, Entry, EntryCell, Kept, Landed, Receipt, Room, SharedEntry, StreamLog, Transcript, Who,
+    room_for,
 };

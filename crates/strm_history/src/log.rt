@@ -1,9 +1,10 @@
 //! A stream that keeps its history.
-ghost use Rattle.std.specs.Prelude.{◌≡◌, ◌↔◌, true, false, [], IfOk, IsErrOf};
+ghost use Rattle.std.specs.Prelude.{◌≡◌, ◌↔◌, ◌<◌, true, false, [], IfOk, OnOk, IsErrOf};
 ghost use Rattle.strm_msg.specs.Kind.{is_from_line};
 ghost use Rattle.strm_call.specs.Setup.{is_fit};
 ghost use Rattle.strm_history.specs.History.{Legal};
-ghost use Rattle.strm_history.specs.Log.{CallsBy, Equals, Lands};
+ghost use Rattle.strm_entry.specs.Called.{is_done};
+ghost use Rattle.strm_history.specs.Log.{CallsBy, Equals, IsSameLog, KeepsRoom, Lands};
 ghost use Rattle.strm_call.specs.declared.event.Event.TheVariants.{Asked};
 ghost use Rattle.strm_history.specs.Serials.{AreAccounted};
 ghost use Rattle.strm_history.specs.Opened.{opened};
@@ -11,12 +12,12 @@ ghost use Rattle.strm_history.specs.Opened.{opened};
 use arrayvec::ArrayVec;
 use std::alloc::Global;
 use std::marker::Model;
-use std::sync::Arc;
 use strm_call::{Call, Replied, Setup, Twins};
-use strm_entry::{Called, Kept, Landed, Room, room_for, room_for_arrival, taken};
+use strm_entry::{Called, Entry, EntryCell, Kept, Landed, Room, room_for, room_for_arrival, taken};
 use strm_head::{Answered, Arrived, NewFault, Stream};
 use strm_module::{Boxed, ModuleOf};
-use strm_msg::Message;
+use strm_msg::{Message, NoMem};
+use strm_once::Cells;
 
 /// A stream that keeps its history.
 ///
@@ -27,17 +28,20 @@ pub struct Log<M: ModuleOf> {
     setup: Setup,
     stream: Stream<M>,
     history: Vec<Kept<M::Kind>>,
+    cells: Cells<Entry<M::Kind>>,
     alloc: Global,
 }
 
 impl<M: ModuleOf> Model for Log<M> {
+    ghost use Rattle.std.specs.Prelude.{◌-◌, vec_len};
+    ghost use Rattle.std.specs.Vec.{vec_capacity};
     ghost use Rattle.strm_history.specs.Log.{LogValue};
     ghost use Rattle.strm_history.specs.History.{Legal};
     ghost use Rattle.strm_history.specs.Opened.{opened};
 
     ghost Value = { LogValue M.Kind };
 
-    ghost view = { λ s. record { setup = s.setup; image = s.stream; history = s.history.items } };
+    ghost view = { λ s. record { setup = s.setup; image = s.stream; history = s.history.items; room = vec_capacity s.history - vec_len s.history } };
 
     ghost invariant = { λ s. Legal M.Kind.means (opened s.setup) s.history.items s.stream };
 }
@@ -48,14 +52,18 @@ impl<M: ModuleOf> Log<M> {
     /// Refused with `Marks` exactly where a low mark is not below its high one, and with `NoMem` for want
     /// of memory.
     pub fn new(alloc: Global, setup: Setup) -> Result<Log<M>, NewFault>
-        ensures ok { IfOk result (λ log. log ≡ record { setup = setup; image = opened setup; history = [] }) }
+        ensures ok { IfOk result (λ log. log ≡ record { setup = setup; image = opened setup; history = []; room = 0 }) }
         ensures marks { IsErrOf result NewFault.Marks ↔ (is_fit setup ≡ false) }
     {
         let stream = Stream::new(alloc, setup.driver, setup.head, setup.drv)?;
+        let Ok(cells) = Cells::new(alloc) else {
+            return Err(NewFault::NoMem);
+        };
         Ok(Log {
             setup,
             stream,
             history: Vec::new(alloc),
+            cells,
             alloc,
         })
     }
@@ -74,36 +82,46 @@ impl<M: ModuleOf> Log<M> {
     ) -> Called<Boxed<M>, M::Kind>
         ensures { CallsBy M.Kind.means Equals self.old caller number call result self.new }
     {
-        match room_for(self.alloc, caller, number, &call) {
-            Ok(room) => self.enter::<Twins>(call, room),
-            Err(_) => Called::NoRoom(call),
-        }
+        let Ok(room) = room_for(self.alloc, caller, number, &call) else {
+            return Called::NoRoom(call);
+        };
+        let Ok(cell) = self.reserve() else {
+            drop(room);
+            return Called::NoRoom(call);
+        };
+        self.enter::<Twins>(call, room, cell)
+    }
+
+    /// Finds a cell for the entry of a call, and room for it in the history, which messages that come in meanwhile leave there.
+    /// Refused for want of memory alone.
+    pub fn reserve(&mut self) -> Result<EntryCell<M::Kind>, NoMem>
+        ensures same { IsSameLog self.old self.new }
+        ensures room { OnOk result (0 < self.new.room) }
+    {
+        self.history.reserve(1)?;
+        Ok(self.cells.next(self.alloc)?)
     }
 
     /// One call, as `call` makes it, with room that was found for its entry before, as where a lock is held for the call. With
     /// `Twins` the caller has an equal answer; with `Reply` it has none, and the answer stands in the history alone.
+    ///
+    /// To be called with a cell, where the history has room for one entry more (`reserve`). The call is made, whatever its answer.
     pub fn enter<A: Replied>(
         &mut self,
         call: Call<Boxed<M>>,
         room: Room<M::Kind>,
+        cell: EntryCell<M::Kind>,
     ) -> Called<Boxed<M>, M::Kind, A::Beside>
-        requires { (room.end ≡ call.end) × (room.event ≡ Asked call.request) }
-        ensures { CallsBy M.Kind.means A.Agrees self.old room.caller room.number call result self.new }
+        requires asked { (room.end ≡ call.end) × (room.event ≡ Asked call.request) }
+        requires room { 0 < self.old.room }
+        ensures made { is_done result ≡ true }
+        ensures call { CallsBy M.Kind.means A.Agrees self.old room.caller room.number call result self.new }
     {
-        let Ok(()) = self.history.reserve(1) else {
-            drop(room);
-            return Called::NoRoom(call);
-        };
-        let (mut entry, mut pending) = room.open();
-        let Some(blank) = Arc::get_mut(&mut entry) else {
-            return Called::NoRoom(call);
-        };
         let Call { end, request } = call;
         let mut back = ArrayVec::new();
         let answered: Answered<A> = self.stream.call(end, request, &mut back);
         let (answer, beside, settled) = answered.into_parts();
-        pending.fill(blank, answer, settled.moves, settled.looks, &back);
-        let (kept, receipt) = pending.enter(entry);
+        let (kept, receipt) = room.fill(cell, answer, settled.moves, settled.looks, &back);
         self.history.push_reserved(kept);
         Called::Done {
             answer: beside,
@@ -116,16 +134,17 @@ impl<M: ModuleOf> Log<M> {
     /// and nothing is changed.
     ///
     /// To be called with a message of a kind that comes from a line (`Message::from_line`). Room for the
-    /// entry is found first, and the message is copied for it.
+    /// entry is found first, beside that for a call (`reserve`), and the message is copied for it.
     #[inline(never)]
     pub fn arrive(&mut self, m: Message) -> Landed
         requires { is_from_line m.kind ≡ true }
-        ensures { Lands M.Kind.means self.old m result self.new }
+        ensures landed { Lands M.Kind.means self.old m result self.new }
+        ensures room { KeepsRoom self.old self.new }
     {
         let Ok(entry) = room_for_arrival(self.alloc, &m) else {
             return Landed::NoMem(m);
         };
-        if self.history.reserve(1).is_err() {
+        if self.history.reserve(2).is_err() {
             drop(entry);
             return Landed::NoMem(m);
         }
@@ -182,6 +201,7 @@ impl<M: ModuleOf> Log<M> {
             setup: _,
             stream,
             history,
+            cells: _,
             alloc: _,
         } = self;
         (history, stream)

@@ -31,7 +31,7 @@ use Rattle.strm_crew.specs.Transcript.{AreLogs, IsFed, IsLog}
 use Rattle.strm_feed.specs.Feeding.{IsPartOf}
 use Rattle.strm_crew.specs.Play.{ArePlayed, AreStreams, HasPlayed}
 use Rattle.strm_run.specs.Inside.Table.{IsTransposed}
-use Rattle.strm_run.specs.Inside.Ending.{AreLinesFed, AreOf, AreParted, AreSeatsPlayed, is_end_refused, IsDue, IsOffered, IsStream, Leaves}
+use Rattle.strm_run.specs.Inside.Ending.{AreLinesFed, AreOf, AreParted, AreSeatsPlayed, IsDue, IsLate, IsOffered, IsStream, Leaves}
 use Rattle.strm_run.proofs.TableLemmas.{row_there}
 
 -- past the last caller there is no script
@@ -96,8 +96,8 @@ fed_by run shared (Some feed) history left overrun log unfed offered fed came sa
     }
 
 -- what a stream leaves that ended
-pub log_left : {K : Type 0} (means : Meaning K) (run : RunValue K) (shared : SharedValue) (seats : List SeatValue) (receipts : List (Receipts K)) (feed : Option FeedValue) (overrun : ℕ) (ended : Result (EndedValue K) EndFault) (result : Result (Option (StreamLog K)) RunFault) → IsStream run shared → All (HasPlayed run shared.number) seats → (is_line shared.setup.driver ≡ false → feed_of run.feeds shared.number ≡ []) → IsOffered run feed overrun → Leaves ended receipts overrun result → IfOk ended (λ done. Legal means (opened shared.setup) done.history done.stream) → IfOk ended (λ done. AreAccounted (opened shared.setup) done.history done.stream) → IfOk ended (λ done. CountsAgree done.history seats) → IfOk ended (λ done. (caller : ℕ) → AreFirstOf (Some (calls_on shared.number (script_of run.scripts caller))) (own caller done.history)) → IfOk ended (λ done. arrivals done.history ++ done.left ≡ accepted_of feed) → IfOk ended (λ done. is_fed shared.number shared.setup feed ≡ true) → IfOk ended (λ done. AreSeats shared.number shared.seats seats) → IfOk result (λ found. IfSome found (λ log. IsLog means run shared.number shared.setup log))
-log_left means run shared seats receipts feed overrun (Ok done) (Ok (Some log)) stream played unfed offered leaves legal accounts counts first came fed are =
+pub log_left : {K : Type 0} (means : Meaning K) (run : RunValue K) (shared : SharedValue) (seats : List SeatValue) (receipts : List (Receipts K)) (feed : Option FeedValue) (overrun : ℕ) (ended : Result (EndedValue K) EndFault) (result : Result (StreamLog K) RunFault) → IsStream run shared → All (HasPlayed run shared.number) seats → (is_line shared.setup.driver ≡ false → feed_of run.feeds shared.number ≡ []) → IsOffered run feed overrun → Leaves ended receipts overrun result → IfOk ended (λ done. Legal means (opened shared.setup) done.history done.stream) → IfOk ended (λ done. AreAccounted (opened shared.setup) done.history done.stream) → IfOk ended (λ done. CountsAgree done.history seats) → IfOk ended (λ done. (caller : ℕ) → AreFirstOf (Some (calls_on shared.number (script_of run.scripts caller))) (own caller done.history)) → IfOk ended (λ done. arrivals done.history ++ done.left ≡ accepted_of feed) → IfOk ended (λ done. is_fed shared.number shared.setup feed ≡ true) → IfOk ended (λ done. AreSeats shared.number shared.seats seats) → IfOk result (λ log. IsLog means run shared.number shared.setup log)
+log_left means run shared seats receipts feed overrun (Ok done) (Ok log) stream played unfed offered leaves legal accounts counts first came fed are =
     let is = leaves.0 in
     record {
       legal = record {
@@ -110,10 +110,8 @@ log_left means run shared seats receipts feed overrun (Ok done) (Ok (Some log)) 
       calls = λ caller. subst (λ h. map asked_of (own caller h) ≡ calls_on shared.number (script_of run.scripts caller)) (sym is.same) (calls_all run shared seats stream are played done.history caller counts (first caller));
       fed = fed_by run shared feed done.history done.left overrun log unfed offered fed came is.same is.accepted_is is.arrived is.overrun_is;
     }
-log_left means run shared seats receipts feed overrun (Ok done) (Ok None) stream played unfed offered leaves legal accounts counts first came fed are = tt
 log_left means run shared seats receipts feed overrun (Ok done) (Err fault) stream played unfed offered leaves legal accounts counts first came fed are = tt
-log_left means run shared seats receipts feed overrun (Err fault) (Ok (Some log)) stream played unfed offered leaves legal accounts counts first came fed are = absurd leaves
-log_left means run shared seats receipts feed overrun (Err fault) (Ok None) stream played unfed offered leaves legal accounts counts first came fed are = tt
+log_left means run shared seats receipts feed overrun (Err fault) (Ok log) stream played unfed offered leaves legal accounts counts first came fed are = absurd leaves
 log_left means run shared seats receipts feed overrun (Err fault) (Err other) stream played unfed offered leaves legal accounts counts first came fed are = tt
 
 -- one seat more, and its receipts
@@ -183,16 +181,10 @@ module _ {K : Type 0} (run : RunValue K) (streams so_far later : List SharedValu
       played = λ k d above below. subst (λ v. All (HasPlayed run k) v.items) (sym (get_or-set_other seats at k none d (λ same. omega arith))) (was.played k d (omega arith) below);
     }
 
--- the elements of a list, each as `Some`
-get_some : {A : Type 0} (all : List A) (k : ℕ) (d : A) → get_or (map Some all) k (Some d) ≡ Some (get_or all k d)
-get_some [] k d = refl
-get_some (x ∷ xs) zero d = refl
-get_some (x ∷ xs) (suc k) d = get_some xs k d
-
 -- the others may be refused likewise
-pub refusals_rest : {A : Type 0} (all rest : List (Result A RunFault)) (one : Result A RunFault) → all ≡ one ∷ rest → All (λ r. IfErr r (λ fault. is_end_refused fault ≡ true)) all → All (λ r. IfErr r (λ fault. is_end_refused fault ≡ true)) rest
+pub refusals_rest : {A : Type 0} (all rest : List (Result A RunFault)) (one : Result A RunFault) → all ≡ one ∷ rest → All (λ r. IfErr r (λ fault. IsLate fault)) all → All (λ r. IfErr r (λ fault. IsLate fault)) rest
 refusals_rest {A} all rest one is refusals =
-    All-tail (λ (r : Result A RunFault). IfErr r (λ fault. is_end_refused fault ≡ true)) one rest (subst (λ (l : List (Result A RunFault)). All (λ r. IfErr r (λ fault. is_end_refused fault ≡ true)) l) is refusals)
+    All-tail (λ (r : Result A RunFault). IfErr r (λ fault. IsLate fault)) one rest (subst (λ (l : List (Result A RunFault)). All (λ r. IfErr r (λ fault. IsLate fault)) l) is refusals)
 
 -- one stream more has ended
 pub found_more : {A E : Type 0} (all more : List A) (so_far : List (Result A E)) (one : Result A E) (found : A) → map Ok all ≡ so_far → more ≡ all ++ found ∷ [] → one ≡ Ok found → map Ok more ≡ so_far ++ one ∷ []
@@ -207,18 +199,17 @@ get_ok (x ∷ xs) (one ∷ rest) zero d is = cc
 get_ok (x ∷ xs) (one ∷ rest) (suc k) d is = get_ok xs rest k d cc
 
 -- what is left of each stream is its log, where each has left one
-pub logs_of : {K : Type 0} (means : Meaning K) (run : RunValue K) (due : List SharedValue) (ended : List (Result (Option (StreamLog K)) RunFault)) (found : List (Option (StreamLog K))) (logs : List (StreamLog K)) → AreStreams run due → length ended ≡ length due → ((k : ℕ) (d : Result (Option (StreamLog K)) RunFault) → k < length due → (one : SharedValue) × (one ≡ get_or due k one) × IfOk (get_or ended k d) (λ left. IfSome left (λ log. IsLog means run one.number one.setup log))) → map Ok found ≡ ended → map Some logs ≡ found → AreLogs means run logs
-logs_of {K} means run due ended found logs are long each all some =
-    let many : length logs ≡ length run.setups = sym (length-map logs Some) ∙ ap (λ l. length l) some ∙ sym (length-map found Ok) ∙ ap (λ l. length l) all ∙ long ∙ are.many in
+pub logs_left : {K : Type 0} (means : Meaning K) (run : RunValue K) (due : List SharedValue) (ended : List (Result (StreamLog K) RunFault)) (logs : List (StreamLog K)) → AreStreams run due → length ended ≡ length due → ((k : ℕ) (d : Result (StreamLog K) RunFault) → k < length due → (one : SharedValue) × (one ≡ get_or due k one) × IfOk (get_or ended k d) (λ log. IsLog means run one.number one.setup log)) → map Ok logs ≡ ended → AreLogs means run logs
+logs_left {K} means run due ended logs are long each all =
+    let many : length logs ≡ length run.setups = sym (length-map logs Ok) ∙ ap (λ l. length l) all ∙ long ∙ are.many in
     record {
       many = many;
       each = λ k s d below.
           let there : k < length due = subst (λ n. k < n) (sym are.many) below in
-          let one = each k (Ok (Some d)) there in
+          let one = each k (Ok d) there in
           let is : one.0 ≡ record { number = k; setup = get_or run.setups k s; seats = length run.scripts } = one.1 ∙ are.each k one.0 s there in
-          let stands : get_or ended k (Ok (Some d)) ≡ Ok (Some (get_or logs k d)) = get_ok found ended k (Some d) all ∙ ap (λ (l : List (Option (StreamLog K))). Ok (get_or l k (Some d))) (sym some) ∙ ap (λ o. Ok o) (get_some logs k d) in
           subst (λ (v : SharedValue). IsLog means run v.number v.setup (get_or logs k d)) is
-          (subst (λ r. IfOk r (λ left. IfSome left (λ log. IsLog means run one.0.number one.0.setup log))) stands one.2);
+          (subst (λ r. IfOk r (λ log. IsLog means run one.0.number one.0.setup log)) (get_ok logs ended k d all) one.2);
     }
 
 -- the seats of callers that have played their scripts, by the streams

@@ -1,8 +1,9 @@
 //! The streams of a run, as they end.
-ghost use Rattle.std.specs.Prelude.{◌≡◌, ◌<◌, true, length, map, option_map, All, IfErr, IfOk, IfSome, Some};
+ghost use Rattle.std.specs.Prelude.{◌≡◌, ◌<◌, length, map, option_map, All, IfErr, IfOk, IfSome, Ok, Err};
+ghost use Rattle.std.specs.List.{list_any};
 ghost use Rattle.strm_crew.specs.Transcript.{AreLogs, IsLog};
 ghost use Rattle.strm_crew.specs.Play.{ArePlayed, AreStreams};
-ghost use Rattle.strm_run.specs.Inside.Ending.{is_end_refused, overrun_of, AreLinesFed, AreParted, AreSeatsPlayed, IsLate, IsOffered, Leaves};
+ghost use Rattle.strm_run.specs.Inside.Ending.{first_fault, is_fault, overrun_of, AreLinesFed, AreParted, AreSeatsPlayed, IsLate, IsOffered, Leaves};
 
 use crate::due::{Due, all_due};
 use crate::feeds::offered_on;
@@ -32,27 +33,27 @@ fn fed<K, N: Plays<K>>(offered: Option<Offered<K, N>>) -> (Option<FeedEnd<K, Of<
     }
 }
 
-/// What is left of a stream, where it ended, and its history holds each receipt; nothing where a call has none, or the history
-/// does not hold it.
+/// What is left of a stream, where it ended, and its history holds each receipt.
+///
+/// Refused with `NoReceipt` where a call has none or the history does not hold it, and else as the end of the stream was.
 fn log_of_end<M: ModuleOf>(
     ended: Result<Ended<M>, EndFault>,
     receipts: Vec<Receipts<M::Kind>>,
     overrun: u64,
-) -> Result<Option<StreamLog<M::Kind>>, RunFault>
+) -> Result<StreamLog<M::Kind>, RunFault>
 where
     M::Kind: SameKind,
-    ensures left { Leaves ended receipts.items overrun result }
-    ensures refusal { IfErr result (λ fault. is_end_refused fault ≡ true) }
+    ensures { Leaves ended receipts.items overrun result }
 {
     match ended {
         Ok(ended) => {
             if holds_all(&ended, receipts) {
-                Ok(Some(log_of(ended, overrun)))
+                Ok(log_of(ended, overrun))
             } else {
-                Ok(None)
+                Err(RunFault::NoReceipt)
             }
         }
-        Err(EndFault::NoReceipt) => Ok(None),
+        Err(EndFault::NoReceipt) => Err(RunFault::NoReceipt),
         Err(EndFault::NoMem) => Err(RunFault::NoMem),
         Err(EndFault::Seats | EndFault::Unfinished) => Err(RunFault::Unfinished),
     }
@@ -76,15 +77,15 @@ fn parted<K: Drop, N: Plays<K>>(
     Ok((seats, receipts))
 }
 
-/// Ends one stream of a run: what is left of it, or nothing, where a call has no receipt that its history holds.
+/// Ends one stream of a run: what is left of it.
 fn end_one<M: ModuleOf, N: Plays<M::Kind>>(
     alloc: Global,
     due: Due<M, N>,
-) -> Result<Option<StreamLog<M::Kind>>, RunFault>
+) -> Result<StreamLog<M::Kind>, RunFault>
 where
     M::Kind: SameKind,
-    ensures log { IfOk result (λ found. IfSome found (λ log. IsLog M.Kind.means N.run due.number due.setup log)) }
-    ensures refusal { IfErr result (λ fault. is_end_refused fault ≡ true) }
+    ensures log { IfOk result (λ log. IsLog M.Kind.means N.run due.number due.setup log) }
+    ensures late { IfErr result (λ fault. IsLate fault) }
 {
     let (shared, accounts, offered) = due.into_parts();
     let (feed, overrun) = fed(offered);
@@ -92,44 +93,76 @@ where
     log_of_end(shared.end(seats, feed), receipts, overrun)
 }
 
-/// What was found of each stream, where each ended. The first that did not gives the fault; else want of memory may.
-fn all_found<K: Drop>(
+/// Whether a stream ended with this fault.
+fn is_fault<K>(one: &Result<StreamLog<K>, RunFault>, fault: RunFault) -> bool
+    ensures { result ≡ is_fault fault one.now }
+{
+    match one {
+        Ok(_) => false,
+        Err(other) => other.number() == fault.number(),
+    }
+}
+
+/// Whether one of these streams ended with this fault.
+fn has_fault<K>(ended: &[Result<StreamLog<K>, RunFault>], fault: RunFault) -> bool
+    ensures { result ≡ list_any (λ one. is_fault fault one) ended.now }
+{
+    ended.iter().any(|one| is_fault(one, fault))
+}
+
+/// The fault of a run whose streams ended so, if one of them has a fault: of all that they have the first in the order of a run,
+/// whichever stream has it.
+fn first_fault<K>(ended: &[Result<StreamLog<K>, RunFault>]) -> Option<RunFault>
+    ensures { result ≡ first_fault ended.now }
+{
+    if has_fault(ended, RunFault::NoMem) {
+        Some(RunFault::NoMem)
+    } else if has_fault(ended, RunFault::Unfinished) {
+        Some(RunFault::Unfinished)
+    } else if has_fault(ended, RunFault::NoReceipt) {
+        Some(RunFault::NoReceipt)
+    } else {
+        None
+    }
+}
+
+/// The logs, where each stream has left one; else the fault of a stream, and want of memory may be.
+fn all_logs<K: Drop>(
     alloc: Global,
-    ended: Vec<Result<Option<StreamLog<K>>, RunFault>>,
-) -> Result<Vec<Option<StreamLog<K>>>, RunFault>
-    requires refusals { All (λ one. IfErr one (λ fault. is_end_refused fault ≡ true)) ended.items }
-    ensures found { IfOk result (λ all. map Ok all.items ≡ ended.items) }
-    ensures refusal { IfErr result (λ fault. is_end_refused fault ≡ true) }
+    ended: Vec<Result<StreamLog<K>, RunFault>>,
+) -> Result<Vec<StreamLog<K>>, RunFault>
+    requires late { All (λ one. IfErr one (λ fault. IsLate fault)) ended.items }
+    ensures logs { IfOk result (λ logs. map Ok logs.items ≡ ended.items) }
+    ensures late { IfErr result (λ fault. IsLate fault) }
 {
     let mut all = Vec::new(alloc);
     for one in ended {
-        let found = one?;
-        let Ok(()) = all.push(found) else {
+        let log = one?;
+        let Ok(()) = all.push(log) else {
             return Err(RunFault::NoMem);
         };
     }
     Ok(all)
 }
 
-/// The logs, where each stream has left one. Refused for want of memory alone.
-fn all_of<K: Drop>(
+/// The logs that streams have left. Where one has a fault the run is refused with the first of them in the order of a run; and else it
+/// may be for want of memory.
+fn logs_of<K: Drop>(
     alloc: Global,
-    found: Vec<Option<StreamLog<K>>>,
-) -> Result<Option<Vec<StreamLog<K>>>, NoMem>
-    ensures { IfOk result (λ all. IfSome all (λ logs. map Some logs.items ≡ found.items)) }
+    ended: Vec<Result<StreamLog<K>, RunFault>>,
+) -> Result<Vec<StreamLog<K>>, RunFault>
+    requires late { All (λ one. IfErr one (λ fault. IsLate fault)) ended.items }
+    ensures first { IfSome (first_fault ended.items) (λ fault. result ≡ Err fault) }
+    ensures logs { IfOk result (λ logs. map Ok logs.items ≡ ended.items) }
+    ensures late { IfErr result (λ fault. IsLate fault) }
 {
-    let mut logs = Vec::new(alloc);
-    for one in found {
-        let Some(log) = one else {
-            return Ok(None);
-        };
-        logs.push(log)?;
+    match first_fault(ended.as_slice()) {
+        Some(fault) => Err(fault),
+        None => all_logs(alloc, ended),
     }
-    Ok(Some(logs))
 }
 
-/// Ends the streams of a run, in at most so many threads. The first in order that does not end gives the fault; else a stream
-/// with a call that has no receipt that its history holds does.
+/// Ends the streams of a run, in at most so many threads, each whatever becomes of the others. Refused as `logs_of` is.
 fn end_all<M: ModuleOf, N: Plays<M::Kind> + Send + Sync, R: Threads + Sync>(
     rt: &R,
     alloc: Global,
@@ -148,16 +181,12 @@ where
         alloc,
         due,
         threads,
-        &|due: Due<M, N>| -> Result<Option<StreamLog<M::Kind>>, RunFault>
-            ensures log { IfOk result (λ found. IfSome found (λ log. IsLog M.Kind.means N.run due.number due.setup log)) }
-            ensures refusal { IfErr result (λ fault. is_end_refused fault ≡ true) }
+        &|due: Due<M, N>| -> Result<StreamLog<M::Kind>, RunFault>
+            ensures log { IfOk result (λ log. IsLog M.Kind.means N.run due.number due.setup log) }
+            ensures late { IfErr result (λ fault. IsLate fault) }
         { end_one(alloc, due) },
     )?;
-    let found = all_found(alloc, ended)?;
-    match all_of(alloc, found)? {
-        Some(logs) => Ok(logs),
-        None => Err(RunFault::NoReceipt),
-    }
+    logs_of(alloc, ended)
 }
 
 /// What callers leave, in order of their numbers: the seats of each, with their receipts. Refused for want of memory alone.

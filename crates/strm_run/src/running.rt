@@ -78,9 +78,9 @@ where
 ///
 /// Refused, in this order: with `Workers` exactly where there are not 1 to 64 workers; with `NoSuch`
 /// exactly where a call is on a stream or an end that is not there, or a feed is for no line or for one
-/// that has another; both before anything is made. Then with `NoMem` for want of memory or of a thread,
-/// with `Unfinished` where a stream did not end, the first of them, and else with `NoReceipt`, where a call has no
-/// receipt or one that its stream's history does not hold. Then all modules are dropped.
+/// that has another; both before anything is made. Then, over all streams, with `NoMem` for want of memory or of a thread;
+/// else with `Unfinished` where some stream did not end; and else with `NoReceipt`, where a call has no receipt or one
+/// that its stream's history does not hold. Then all modules are dropped.
 pub fn run<M: ModuleOf, R: Threads + Wait + Sync, G: Gate>(
     rt: &R,
     alloc: Global,

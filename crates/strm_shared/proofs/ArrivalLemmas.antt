@@ -1,5 +1,6 @@
 -- What stands under the lock, with one message or one call more.
 use Rattle.std.proofs.Common.{◌≡◌, ℕ, ◌+◌, ◌++◌, Option, Some, None, List, [], ◌∷◌, append-nil, refl, sym, ◌∙◌, ap, subst}
+use Rattle.std.specs.Prelude.{IsSome, is_some}
 use Rattle.std.proofs.lemmas.List.Concat.{flat_map-append}
 use Rattle.strm_msg.specs.Message.{Msg}
 use Rattle.strm_msg.specs.declared.words.End.{End}
@@ -15,7 +16,8 @@ use Rattle.strm_entry.specs.declared.call.Called.{Called}
 use Rattle.strm_entry.specs.declared.call.Called.TheVariants.{Done, NoRoom}
 use Rattle.strm_entry.specs.Entry.{came_in}
 use Rattle.strm_entry.specs.Own.{arrivals}
-use Rattle.strm_history.specs.Log.{LogValue, HasLanded, CallsBy}
+use Rattle.strm_history.specs.Log.{LogValue, HasLanded, CallsBy, IsSameLog}
+use Rattle.strm_history.proofs.LogLemmas.{landed_same, same_log, same_logs}
 use Rattle.strm_line.specs.Inlet.{InletValue}
 use Rattle.strm_line.specs.Runs.{IsNextOf}
 use Rattle.strm_shared.specs.Seat.{SeatValue}
@@ -34,7 +36,7 @@ arrivals_more history longer entry event is has =
 module _ {K : Type 0} (means : Meaning K) where
   -- some messages that came in, and one more
   takes_more : (old between new : LogValue K) (came : List Msg) (m : Msg) → TakesIn means old came between → HasLanded means between m new → TakesIn means old (came ++ m ∷ []) new
-  takes_more old between new [] m same lands = (new, subst (λ (l : LogValue K). HasLanded means l m new) same lands, refl)
+  takes_more old between new [] m same lands = (new, landed_same means old between new m same lands, same_log new)
   takes_more old between new (first ∷ rest) m takes lands = (takes.0, takes.1, takes_more takes.0 between new rest m takes.2 lands)
 
   pub comes_more : (old between new : LogValue K) (m : Msg) → ComesIn means old between → HasLanded means between m new → ComesIn means old new
@@ -43,16 +45,38 @@ module _ {K : Type 0} (means : Meaning K) where
     takes = takes_more old between new comes.came m comes.takes lands;
   }
 
+  -- some messages that came in, with other room before them
+  takes_same : (old between new : LogValue K) (came : List Msg) → IsSameLog old between → TakesIn means between came new → TakesIn means old came new
+  takes_same old between new [] same takes = same_logs old between new same takes
+  takes_same old between new (m ∷ rest) same takes = (takes.0, landed_same means old between takes.0 m same takes.1, takes.2)
+
+  pub comes_same : (old between new : LogValue K) → IsSameLog old between → ComesIn means between new → ComesIn means old new
+  comes_same old between new same comes = record {
+    came = comes.came;
+    takes = takes_same old between new comes.came same comes.takes;
+  }
+
+  -- and with other room behind them
+  takes_then : (old between new : LogValue K) (came : List Msg) → TakesIn means old came between → IsSameLog between new → TakesIn means old came new
+  takes_then old between new [] takes same = same_logs old between new takes same
+  takes_then old between new (m ∷ rest) takes same = (takes.0, takes.1, takes_then takes.0 between new rest takes.2 same)
+
+  pub comes_then : (old between new : LogValue K) → ComesIn means old between → IsSameLog between new → ComesIn means old new
+  comes_then old between new comes same = record {
+    came = comes.came;
+    takes = takes_then old between new comes.came comes.takes same;
+  }
+
   -- a call has let nothing in, and keeps the setup
   call_arrivals : {A : Type 0} (Agrees : A → Answer → Type 0) (old new : LogValue K) (caller nth : ℕ) (call : Call (Shape K)) (result : Called (Shape K) K A) → CallsBy means Agrees old caller nth call result new → arrivals new.history ≡ arrivals old.history
   call_arrivals Agrees old new caller nth call (Done has back receipt) by =
       let enters = by.2.enters in
       arrivals_more old.history new.history enters.entry (Asked call.request) enters.history enters.has ∙ append-nil (arrivals old.history)
-  call_arrivals Agrees old new caller nth call (NoRoom same) by = ap (λ (l : LogValue K). arrivals l.history) by.1
+  call_arrivals Agrees old new caller nth call (NoRoom same) by = ap (λ (l : List (Entry K)). arrivals l) by.1.history
 
   call_setup : {A : Type 0} (Agrees : A → Answer → Type 0) (old new : LogValue K) (caller nth : ℕ) (call : Call (Shape K)) (result : Called (Shape K) K A) → CallsBy means Agrees old caller nth call result new → is_line new.setup.driver ≡ is_line old.setup.driver
   call_setup Agrees old new caller nth call (Done has back receipt) by = ap (λ s. is_line s.driver) by.2.enters.setup
-  call_setup Agrees old new caller nth call (NoRoom same) by = ap (λ (l : LogValue K). is_line l.setup.driver) by.1
+  call_setup Agrees old new caller nth call (NoRoom same) by = ap (λ s. is_line s.driver) by.1.setup
 
   module _ (calls : ℕ → ℕ → Option (List (End × Event (Shape K)))) (number : ℕ) where
     pub call_locked : {A : Type 0} (Agrees : A → Answer → Type 0) (old new : LogValue K) (seat : SeatValue) (call : Call (Shape K)) (result : Called (Shape K) K A) (turns after : TurnsValue) (inlet : InletValue) → CallsBy means Agrees old seat.caller (seat.calls + 1) call result new → after ≡ turned number seat result turns → IsNextOf (calls seat.number seat.caller) seat.calls (call.end, Asked call.request) → IsLocked (calls number) number old turns inlet → IsLocked (calls number) number new after inlet
@@ -75,14 +99,28 @@ module _ {K : Type 0} (means : Meaning K) where
         }
 
 -- a message that has left the inlet and is held back leaves what stands under the lock as it was
-pub held_locked : {K : Type 0} (calls : ℕ → ℕ → Option (List (End × Event (Shape K)))) (number : ℕ) (old new : LogValue K) (m same : Msg) (turns : TurnsValue) (inlet taken after : InletValue) → same ≡ m → new ≡ old → taken ≡ record inlet { came = inlet.came ++ m ∷ []; held = None } → ((before : List Msg) → taken.came ≡ before ++ same ∷ [] → after ≡ record taken { came = before; held = Some same }) → IsLocked (calls number) number old turns inlet → IsLocked (calls number) number new turns after
+pub held_locked : {K : Type 0} (calls : ℕ → ℕ → Option (List (End × Event (Shape K)))) (number : ℕ) (old new : LogValue K) (m same : Msg) (turns : TurnsValue) (inlet taken after : InletValue) → same ≡ m → IsSameLog old new → taken ≡ record inlet { came = inlet.came ++ m ∷ []; held = None } → ((before : List Msg) → taken.came ≡ before ++ same ∷ [] → after ≡ record taken { came = before; held = Some same }) → IsLocked (calls number) number old turns inlet → IsLocked (calls number) number new turns after
 held_locked calls number old new m same turns inlet taken after is kept left held was =
     let last : taken.came ≡ inlet.came ++ same ∷ [] = ap (λ (i : InletValue). i.came) left ∙ ap (λ (x : Msg). inlet.came ++ x ∷ []) (sym is) in
     let back = held inlet.came last in
-    rw kept
+    rw (kept.history, kept.setup)
     (record {
       in_turn = was.in_turn;
       came_in = was.came_in ∙ sym (ap (λ (i : InletValue). i.came) back);
       of = ap (λ (i : InletValue). i.number) back ∙ ap (λ (i : InletValue). i.number) left ∙ was.of;
       fed = ap (λ (i : InletValue). i.is_fed) back ∙ ap (λ (i : InletValue). i.is_fed) left ∙ was.fed;
     })
+
+-- so does other room
+pub same_locked : {K : Type 0} (calls : ℕ → ℕ → Option (List (End × Event (Shape K)))) (number : ℕ) (old new : LogValue K) (turns : TurnsValue) (inlet : InletValue) → IsSameLog old new → IsLocked (calls number) number old turns inlet → IsLocked (calls number) number new turns inlet
+same_locked calls number old new turns inlet same was = record {
+  in_turn = rw same.history was.in_turn;
+  came_in = rw same.history was.came_in;
+  of = was.of;
+  fed = rw same.setup was.fed;
+}
+
+-- a message that was handed back is held
+pub held_some : (m same : Msg) (inlet taken after : InletValue) → same ≡ m → taken ≡ record inlet { came = inlet.came ++ m ∷ []; held = None } → ((before : List Msg) → taken.came ≡ before ++ same ∷ [] → after ≡ record taken { came = before; held = Some same }) → IsSome after.held
+held_some m same inlet taken after is left held =
+    ap (λ (i : InletValue). is_some i.held) (held inlet.came (ap (λ (i : InletValue). i.came) left ∙ ap (λ (x : Msg). inlet.came ++ x ∷ []) (sym is)))

@@ -133,7 +133,7 @@ module _ {K : Type 0} (means : Meaning K) (calls : ℕ → ℕ → Option (List 
   call_keeps Agrees old new seat call (Done has back receipt) turns after by is one was so =
       done_in_turn old new seat call by.0 turns after (is_next number seat turns.counts) refl by.2.enters is one was so
   call_keeps Agrees old new seat call (NoRoom same) turns after by is one was so =
-      subst (λ (l : LogValue K). AreInTurn (calls number) after.counts l.history) (sym by.1) (subst (λ (t : TurnsValue). AreInTurn (calls number) t.counts old.history) (sym is) (was (sym (ap (λ t. t.in_turn) is) ∙ so)))
+      subst (λ (l : List (Entry K)). AreInTurn (calls number) after.counts l) (sym by.1.history) (subst (λ (t : TurnsValue). AreInTurn (calls number) t.counts old.history) (sym is) (was (sym (ap (λ t. t.in_turn) is) ∙ so)))
 
 -- a call that was made, or not, is counted in the turns as the seat counts it
 pub done_turned : {P K A : Type 0} (number : ℕ) (seat after : SeatValue) (shown : Bool) (result : Called P K A) (turns new : TurnsValue) (next : Bool) → true ≡ is_done result → next ≡ is_next number seat turns.counts → after ≡ record seat { calls = seat.calls + 1; shown = shown } → new ≡ (if next then record { counts = set turns.counts after.caller after.calls; in_turn = turns.in_turn } else record { counts = turns.counts; in_turn = false }) → new ≡ turned number seat result turns

@@ -1,23 +1,24 @@
 //! What stands under the lock of a shared stream.
-ghost use Rattle.std.specs.Prelude.{◌≡◌, ◌↔◌, ◌+◌, ◌<◌, ◌^◌, true, false, [], All, IfOk, length, replicate};
+ghost use Rattle.std.specs.Prelude.{◌≡◌, ◌↔◌, ◌+◌, ◌<◌, ◌^◌, true, false, [], All, IfOk, IsSome, length, replicate};
 ghost use Rattle.strm_module.specs.Driver.{is_line};
 ghost use Rattle.strm_call.specs.Setup.{is_fit};
 ghost use Rattle.strm_call.specs.declared.event.Event.TheVariants.{Asked};
 ghost use Rattle.strm_entry.specs.Own.{arrivals};
-ghost use Rattle.strm_history.specs.Log.{CallsBy};
+ghost use Rattle.strm_entry.specs.Called.{is_done};
+ghost use Rattle.strm_history.specs.Log.{CallsBy, KeepsRoom};
 ghost use Rattle.strm_history.specs.Opened.{opened};
 ghost use Rattle.strm_line.specs.Runs.{IsNextOf};
 ghost use Rattle.strm_line.specs.Inlet.{fresh_inlet};
 ghost use Rattle.strm_shared.specs.Ending.{room_of, Counted};
 ghost use Rattle.strm_shared.specs.Turns.{has_count, turned, AreInTurn};
-ghost use Rattle.strm_shared.specs.Arrivals.{Intakes, CallsAfter, ComesIn};
+ghost use Rattle.strm_shared.specs.Arrivals.{Intakes, CallsAfter, ComesBack, ComesIn, HoldsBack};
 
 use crate::seat::Seat;
 use crate::turns::Turns;
 use std::alloc::Global;
 use std::marker::Model;
 use strm_call::Replied;
-use strm_history::{Call, Called, Landed, Log, Room, Setup};
+use strm_history::{Call, Called, EntryCell, Landed, Log, Room, Setup};
 use strm_line::{Inlet, Runs};
 use strm_module::{Boxed, ModuleOf};
 use strm_msg::NoMem;
@@ -69,7 +70,7 @@ impl<M: ModuleOf, N: Runs<M::Kind>> Locked<M, N> {
         requires marks { is_fit setup ≡ true }
         requires inlet { inlet ≡ fresh_inlet number (is_line setup.driver) }
         ensures number { IfOk result (λ all. all.number ≡ number) }
-        ensures log { IfOk result (λ all. all.log ≡ record { setup = setup; image = opened setup; history = [] }) }
+        ensures log { IfOk result (λ all. all.log ≡ record { setup = setup; image = opened setup; history = []; room = 0 }) }
         ensures turns { IfOk result (λ all. all.turns ≡ record { counts = replicate callers 0; in_turn = true }) }
     {
         let turns = Turns::new(alloc, callers)?;
@@ -98,11 +99,14 @@ impl<M: ModuleOf, N: Runs<M::Kind>> Locked<M, N> {
         self.turns.do_agree(callers, seats)
     }
 
-    /// The next message of the line comes in, if there is one and it can; else it is held back, and nothing is changed.
+    /// The next message of the line comes in, if there is one and it can; else it is held back, and nothing is changed. Room for
+    /// a call's entry stays.
     #[inline(never)]
     fn take_next(&mut self) -> Intake
         ensures number { self.new.number ≡ self.old.number }
         ensures log { Intakes M.Kind.means self.old.log result self.new.log }
+        ensures room { KeepsRoom self.old.log self.new.log }
+        ensures held { HoldsBack result self.new.inlet.held }
         ensures turns { self.new.turns ≡ self.old.turns }
     {
         let Some(m) = self.inlet.take() else {
@@ -122,10 +126,12 @@ impl<M: ModuleOf, N: Runs<M::Kind>> Locked<M, N> {
     }
 
     /// Messages of the line come in, in order, as long as they can, at most as many as its ring holds; and whether memory
-    /// was not wanting for one.
+    /// was not wanting for one, which is then held back. Room for a call's entry stays.
     fn take_in(&mut self) -> bool
         ensures number { self.new.number ≡ self.old.number }
         ensures log { ComesIn M.Kind.means self.old.log self.new.log }
+        ensures room { KeepsRoom self.old.log self.new.log }
+        ensures held { result ≡ false → IsSome self.new.inlet.held }
         ensures turns { self.new.turns ≡ self.old.turns }
     {
         if !self.log.setup().is_line() {
@@ -141,32 +147,35 @@ impl<M: ModuleOf, N: Runs<M::Kind>> Locked<M, N> {
         true
     }
 
-    /// One call of a seat, as `Log::enter` makes it, which the seat counts, and which is counted in its turn.
+    /// One call of a seat, as `Log::enter` makes it, which the seat counts, and which is counted in its turn. There is room for
+    /// its entry in the history.
     fn enter<A: Replied>(
         &mut self,
         seat: &mut Seat,
         call: Call<Boxed<M>>,
         room: Room<M::Kind>,
+        cell: EntryCell<M::Kind>,
     ) -> Called<Boxed<M>, M::Kind, A::Beside>
         requires room { room ≡ room_of seat.old call }
         requires next { IsNextOf (N.calls seat.old.number seat.old.caller) seat.old.calls (call.end, Asked call.request) }
         requires counts { seat.old.calls + 1 < 2 ^ 64 }
+        requires reserved { 0 < self.old.log.room }
         ensures number { self.new.number ≡ self.old.number }
         ensures log { CallsBy M.Kind.means A.Agrees self.old.log seat.old.caller (seat.old.calls + 1) call result self.new.log }
+        ensures made { is_done result ≡ true }
         ensures counts { Counted call seat.old result seat.new }
         ensures turns { self.new.turns ≡ turned self.old.number seat.old result self.old.turns }
     {
         let is_next = self.turns.is_next(self.number, seat);
-        let called = self.log.enter::<A>(call, room);
-        if called.is_done() {
-            seat.count(called.has_receipt());
-            self.turns.count(is_next, seat);
-        }
+        let called = self.log.enter::<A>(call, room, cell);
+        seat.count(called.has_receipt());
+        self.turns.count(is_next, seat);
         called
     }
 
-    /// One call of a seat, with room for its entry, after the messages of the line that can come in. Where memory was
-    /// wanting for a message, those before it came in, and the call comes back.
+    /// One call of a seat, with room for its entry, after the messages of the line that can come in. Its place in the history is
+    /// found first: where memory is wanting for that, the call comes back and nothing came in. Where memory was wanting
+    /// for a message, those before it came in, that one is held back, and the call comes back.
     ///
     /// To be called with the call that the run has next for the seat, which can count one more.
     pub(crate) fn call<A: Replied>(
@@ -180,14 +189,20 @@ impl<M: ModuleOf, N: Runs<M::Kind>> Locked<M, N> {
         requires counts { seat.old.calls + 1 < 2 ^ 64 }
         ensures number { self.new.number ≡ self.old.number }
         ensures log { CallsAfter M.Kind.means A.Agrees self.old.log seat.old.caller (seat.old.calls + 1) call result self.new.log }
+        ensures back { ComesBack result self.old.log self.new.log self.new.inlet.held }
         ensures counts { Counted call seat.old result seat.new }
         ensures turns { self.new.turns ≡ turned self.old.number seat.old result self.old.turns }
     {
+        let Ok(cell) = self.log.reserve() else {
+            drop(room);
+            return Called::NoRoom(call);
+        };
         if !self.take_in() {
+            drop(cell);
             drop(room);
             return Called::NoRoom(call);
         }
-        self.enter::<A>(seat, call, room)
+        self.enter::<A>(seat, call, room, cell)
     }
 
     /// The stream with its history, the counts, and the inlet.

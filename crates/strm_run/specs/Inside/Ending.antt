@@ -1,6 +1,7 @@
 -- The seats and feeders of a run when its threads have ended, and how its streams end.
-use Rattle.std.specs.Prelude.{◌≡◌, ℕ, ◌+◌, ◌<◌, Bool, true, false, Option, Some, None, Result, Ok, Err, List, [], All, get_or, length, Vec, ⊤}
+use Rattle.std.specs.Prelude.{◌≡◌, ◌==◌, ℕ, ◌+◌, ◌<◌, Bool, true, false, if◌then◌else◌, Option, Some, None, Result, Ok, Err, List, [], All, get_or, length, Vec, ⊤}
 use Rattle.std.specs.Global.{Global}
+use Rattle.std.specs.List.{list_any}
 use Rattle.strm_msg.specs.Message.{Msg}
 use Rattle.strm_msg.specs.declared.words.End.TheVariants.{A, B}
 use Rattle.strm_module.specs.Driver.{is_line}
@@ -15,6 +16,7 @@ use Rattle.strm_entry.specs.Own.{arrivals}
 use Rattle.strm_shared.specs.Seat.{SeatValue}
 use Rattle.strm_line.specs.Feed.{FeedValue}
 use Rattle.strm_shared.specs.Ending.{SharedValue}
+use Rattle.strm_job.specs.Fault.{number_of}
 use Rattle.strm_job.specs.declared.fault.RunFault.{RunFault}
 use Rattle.strm_job.specs.declared.fault.RunFault.TheVariants as RunFaults
 use Rattle.strm_entry.specs.declared.transcript.StreamLog.{StreamLog}
@@ -57,14 +59,6 @@ abbrev pub IsOffered : {K : Type 0} → RunValue K → Option FeedValue → ℕ 
 IsOffered run None overrun = overrun ≡ 0
 IsOffered run (Some feed) overrun = HasOffered run feed overrun
 
--- the end of a stream was refused: memory was wanting, or the stream is unfinished
-abbrev pub is_end_refused : RunFault → Bool
-is_end_refused RunFaults.Workers = false
-is_end_refused RunFaults.NoSuch = false
-is_end_refused RunFaults.NoMem = true
-is_end_refused RunFaults.Unfinished = true
-is_end_refused RunFaults.NoReceipt = false
-
 -- what is left of a stream that ended with this history, and with these messages not come in
 pub record IsLogOf {K : Type 0} (history : List (Entry K)) (stream : Image K) (left : List Msg) (overrun : ℕ) (log : StreamLog K) : Type 0 where
   pub same : log.history.items ≡ history
@@ -74,19 +68,34 @@ pub record IsLogOf {K : Type 0} (history : List (Entry K)) (stream : Image K) (l
   pub arrived : log.arrived ≡ length (arrivals history)
   pub overrun_is : log.overrun ≡ overrun
 
--- what is left of a stream, where each receipt holds, or nothing, where one does not or a call has none: of a stream that ended, or did
--- not
-abbrev pub Leaves : {K : Type 0} → Result (EndedValue K) EndFault → List (Receipts K) → ℕ → Result (Option (StreamLog K)) RunFault → Type 0
-Leaves (Ok ended) receipts overrun (Ok (Some log)) =
+-- the fault of a run of which a stream did not end
+abbrev pub end_fault : EndFault → RunFault
+end_fault EndFaults.Seats = RunFaults.Unfinished
+end_fault EndFaults.Unfinished = RunFaults.Unfinished
+end_fault EndFaults.NoMem = RunFaults.NoMem
+end_fault EndFaults.NoReceipt = RunFaults.NoReceipt
+
+-- what is left of a stream that ended, where each receipt holds; and else the fault
+abbrev pub Leaves : {K : Type 0} → Result (EndedValue K) EndFault → List (Receipts K) → ℕ → Result (StreamLog K) RunFault → Type 0
+Leaves (Ok ended) receipts overrun (Ok log) =
     IsLogOf ended.history ended.stream ended.left overrun log × All (λ mine. AreHeld ended.history mine) receipts
-Leaves (Ok ended) receipts overrun (Ok None) = All (λ mine. AreHeld ended.history mine) receipts → ⊥
-Leaves (Ok ended) receipts overrun (Err fault) = ⊥
-Leaves (Err fault) receipts overrun (Ok (Some log)) = ⊥
-Leaves (Err fault) receipts overrun (Ok None) = fault ≡ EndFaults.NoReceipt
-Leaves (Err EndFaults.Seats) receipts overrun (Err refused) = refused ≡ RunFaults.Unfinished
-Leaves (Err EndFaults.Unfinished) receipts overrun (Err refused) = refused ≡ RunFaults.Unfinished
-Leaves (Err EndFaults.NoMem) receipts overrun (Err refused) = refused ≡ RunFaults.NoMem
-Leaves (Err EndFaults.NoReceipt) receipts overrun (Err refused) = ⊥
+Leaves (Ok ended) receipts overrun (Err fault) =
+    (fault ≡ RunFaults.NoReceipt) × (All (λ mine. AreHeld ended.history mine) receipts → ⊥)
+Leaves (Err fault) receipts overrun (Ok log) = ⊥
+Leaves (Err fault) receipts overrun (Err refused) = refused ≡ end_fault fault
+
+-- a stream ended with this fault
+abbrev pub is_fault : {K : Type 0} → RunFault → Result (StreamLog K) RunFault → Bool
+is_fault fault (Ok log) = false
+is_fault fault (Err other) = number_of other == number_of fault
+
+-- the order of a run's faults, over all its streams: want of memory, then a stream that did not end, then a receipt that does not hold
+abbrev pub first_fault : {K : Type 0} → List (Result (StreamLog K) RunFault) → Option RunFault
+first_fault ended =
+    if list_any (is_fault RunFaults.NoMem) ended then Some RunFaults.NoMem
+    else if list_any (is_fault RunFaults.Unfinished) ended then Some RunFaults.Unfinished
+    else if list_any (is_fault RunFaults.NoReceipt) ended then Some RunFaults.NoReceipt
+    else None
 
 -- the receipts of the calls that were made from a seat
 pub record AreOf {K : Type 0} (run : RunValue K) (seat : SeatValue) (receipts : Receipts K) : Type 0 where

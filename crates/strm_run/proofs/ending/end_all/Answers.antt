@@ -1,10 +1,9 @@
 use Rattle.std.proofs.Common.{rules}
-use Rattle.strm_run.proofs.EndingLemmas.{logs_of}
+use Rattle.strm_run.proofs.EndingLemmas.{logs_left}
+use Rattle.strm_run.proofs.RunLemmas.{if_ok}
 use Rattle.strm_run.proofs.ending.end_all.Goals as goal
 
 -- what the work leaves of a stream is what ending it leaves
-pub returns-in-Some-clause-logs : goal.returns-in-Some-clause-logs
-returns-in-Some-clause-logs g c =
-    logs_of g.M.Kind.Kinds.means g.N.Plays.run c.args.due.items c.in_ok-ended.ended.items c.in_ok-found.found.items c.in-Some.logs.items c.requires.streams (search rules)
-    (λ k d below. let one = (c.in_ok-ended.ensures.each k d below).1 in (one.job, one.job_read, one.call.met.0))
-    c.in_ok-found.ensures.found (rw c.in-Some.is at c.in_ok-logs.ensures)
+pub returns-clause-logs : goal.returns-clause-logs
+returns-clause-logs g c =
+    if_ok _ _ c.logs_of.result (λ logs all. logs_left g.M.Kind.Kinds.means g.N.Plays.run c.args.due.items c.in_ok-ended.ended.items logs.items c.requires.streams (search rules) (λ k d below. let one = (c.in_ok-ended.ensures.each k d below).1 in (one.job, one.job_read, one.call.met.0)) all) c.logs_of.ensures.logs

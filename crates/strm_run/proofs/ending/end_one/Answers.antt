@@ -1,5 +1,4 @@
 use Rattle.std.proofs.Common.{IfOk, sym, subst}
-use Rattle.std.specs.Prelude.{IfSome}
 use Rattle.strm_shared.specs.Ending.{SharedValue}
 use Rattle.strm_crew.specs.Transcript.{IsLog}
 use Rattle.strm_run.specs.Inside.Ending.{IsDue}
@@ -12,5 +11,5 @@ returns-clause-log g c =
     let parts = c.into_parts-shared in
     let seats = c.in_ok-seats.seats.items in
     let due = subst (λ (s : SharedValue). IsDue g.N.Plays.run s parts.result.1.items) (sym parts.ensures.stream) parts.ensures.due in
-    subst (λ (s : SharedValue). IfOk c.log_of_end.result (λ found. IfSome found (λ log. IsLog g.M.Kind.Kinds.means g.N.Plays.run s.number s.setup log))) parts.ensures.stream
-    (log_left g.M.Kind.Kinds.means g.N.Plays.run parts.result.0 seats c.in_ok-seats.receipts.items c.fed-feed.result.0 c.fed-feed.result.1 c.end.result c.log_of_end.result due.stream (rw c.in_ok-seats.ensures.seats due.played) due.unfed c.fed-feed.ensures.offered c.log_of_end.ensures.left c.end.ensures.legal c.end.ensures.accounts c.end.ensures.counts c.end.ensures.first c.end.ensures.arrived c.end.ensures.fed c.end.ensures.seated)
+    subst (λ (s : SharedValue). IfOk c.log_of_end.result (λ log. IsLog g.M.Kind.Kinds.means g.N.Plays.run s.number s.setup log)) parts.ensures.stream
+    (log_left g.M.Kind.Kinds.means g.N.Plays.run parts.result.0 seats c.in_ok-seats.receipts.items c.fed-feed.result.0 c.fed-feed.result.1 c.end.result c.log_of_end.result due.stream (rw c.in_ok-seats.ensures.seats due.played) due.unfed c.fed-feed.ensures.offered c.log_of_end.ensures c.end.ensures.legal c.end.ensures.accounts c.end.ensures.counts c.end.ensures.first c.end.ensures.arrived c.end.ensures.fed c.end.ensures.seated)

@@ -19,8 +19,8 @@ invariant_of-self-in-Broke g c =
     let step = landed_step means c.self.inside.stream c.arrive.new.self c.args.m c.args.m _ _ _ c.in-Ok.entry.value refl c.in-Ok.ensures c.in-Broke.ensures refl (λ calm. tt) in
     legal_more means _ _ _ _ _ _ longer c.self.invariant step
 
-pub returns-in-Taken : goal.returns-in-Taken
-returns-in-Taken g c =
+pub returns-in-Taken-clause-landed : goal.returns-in-Taken-clause-landed
+returns-in-Taken-clause-landed g c =
     let longer = rw c.reserve.ensures.items at c.push_reserved.ensures.items in
     let came = c.in-Taken.ensures in
     let entry = rw c.in-Ok.ensures at c.taken.ensures in

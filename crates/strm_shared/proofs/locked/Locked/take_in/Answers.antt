@@ -1,5 +1,5 @@
 use Rattle.std.proofs.Common.{◌∙◌}
-use Rattle.strm_shared.proofs.ArrivalLemmas.{comes_more}
+use Rattle.strm_shared.proofs.ArrivalLemmas.{comes_more, comes_then}
 use Rattle.strm_shared.proofs.locked.Locked.take_in.Goals as goal
 
 pub loop-at-preserved : goal.loop-at-preserved
@@ -9,5 +9,14 @@ loop-at-preserved g c =
     record {
       number = c.take_next.ensures.number ∙ was.number;
       turns = c.take_next.ensures.turns ∙ was.turns;
+      room = λ has. c.take_next.ensures.room (was.room has);
       comes = comes_more g.M.Kind.Kinds.means _ _ _ landed.0 was.comes landed.1;
     }
+
+pub returns-in-Rests-clause-log : goal.returns-in-Rests-clause-log
+returns-in-Rests-clause-log g c =
+    comes_then g.M.Kind.Kinds.means _ _ _ c.loop-at.invariant.comes c.in-Rests.ensures.log
+
+pub returns-in-NoMem-clause-log : goal.returns-in-NoMem-clause-log
+returns-in-NoMem-clause-log g c =
+    comes_then g.M.Kind.Kinds.means _ _ _ c.loop-at.invariant.comes c.in-NoMem.ensures.log

@@ -1,4 +1,5 @@
 use Rattle.std.proofs.Common.{◌≡◌}
+use Rattle.strm_history.specs.Log.{KeepsRoom}
 use Rattle.strm_shared.specs.Arrivals.{ComesIn}
 use Rattle.strm_shared.proofs.locked.Locked.take_in.Given as goal
 
@@ -7,5 +8,6 @@ abbrev pub invariant-loop-at : goal.invariant-loop-at
 invariant-loop-at g l = record {
   number : l.self.number ≡ l.fn.self.number;
   turns : l.self.turns ≡ l.fn.self.turns;
+  room : KeepsRoom l.fn.self.log l.self.log;
   comes : ComesIn g.M.Kind.Kinds.means l.fn.self.log l.self.log;
 }

@@ -1,20 +1,25 @@
-use Rattle.strm_shared.proofs.ArrivalLemmas.{held_locked, landed_locked}
+use Rattle.strm_shared.proofs.ArrivalLemmas.{held_locked, held_some, landed_locked}
 use Rattle.strm_shared.proofs.locked.Locked.take_next.Goals as goal
 
 pub invariant_of-self-in-Entered : goal.invariant_of-self-in-Entered
 invariant_of-self-in-Entered g c =
-    landed_locked g.M.Kind.Kinds.means (λ number. g.N.Runs.calls number) c.self.inside.number c.self.inside.log c.arrive.new.self c.in-Some.m c.self.inside.turns c.self.inside.inlet c.take.new.self c.in-Entered.ensures c.in-Some.ensures.next c.self.invariant
+    landed_locked g.M.Kind.Kinds.means (λ number. g.N.Runs.calls number) c.self.inside.number c.self.inside.log c.arrive.new.self c.in-Some.m c.self.inside.turns c.self.inside.inlet c.take.new.self c.in-Entered.ensures.landed c.in-Some.ensures.next c.self.invariant
 
 pub invariant_of-self-in-Full : goal.invariant_of-self-in-Full
 invariant_of-self-in-Full g c =
-    held_locked (λ number. g.N.Runs.calls number) c.self.inside.number c.self.inside.log c.arrive.new.self c.in-Some.m c.in-Full.m c.self.inside.turns c.self.inside.inlet c.take.new.self c.hold.new.self c.in-Full.ensures.1 c.in-Full.ensures.2 c.in-Some.ensures.next c.hold.ensures c.self.invariant
+    held_locked (λ number. g.N.Runs.calls number) c.self.inside.number c.self.inside.log c.arrive.new.self c.in-Some.m c.in-Full.m c.self.inside.turns c.self.inside.inlet c.take.new.self c.hold.new.self c.in-Full.ensures.landed.1 c.in-Full.ensures.landed.2 c.in-Some.ensures.next c.hold.ensures c.self.invariant
 
 pub invariant_of-self-in-NoMem : goal.invariant_of-self-in-NoMem
 invariant_of-self-in-NoMem g c =
-    held_locked (λ number. g.N.Runs.calls number) c.self.inside.number c.self.inside.log c.arrive.new.self c.in-Some.m c.in-NoMem.m c.self.inside.turns c.self.inside.inlet c.take.new.self c.hold-in-NoMem.new.self c.in-NoMem.ensures.0 c.in-NoMem.ensures.1 c.in-Some.ensures.next c.hold-in-NoMem.ensures c.self.invariant
+    held_locked (λ number. g.N.Runs.calls number) c.self.inside.number c.self.inside.log c.arrive.new.self c.in-Some.m c.in-NoMem.m c.self.inside.turns c.self.inside.inlet c.take.new.self c.hold-in-NoMem.new.self c.in-NoMem.ensures.landed.0 c.in-NoMem.ensures.landed.1 c.in-Some.ensures.next c.hold-in-NoMem.ensures c.self.invariant
 
 pub returns-in-Full-clause-log : goal.returns-in-Full-clause-log
-returns-in-Full-clause-log g c = rw (← c.self.view_is) c.in-Full.ensures.2
+returns-in-Full-clause-log g c = rw (← c.self.view_is) c.in-Full.ensures.landed.2
 
 pub returns-in-NoMem-clause-log : goal.returns-in-NoMem-clause-log
-returns-in-NoMem-clause-log g c = rw (← c.self.view_is) c.in-NoMem.ensures.1
+returns-in-NoMem-clause-log g c = rw (← c.self.view_is) c.in-NoMem.ensures.landed.1
+
+-- a message for which memory was wanting is held back
+pub returns-in-NoMem-clause-held : goal.returns-in-NoMem-clause-held
+returns-in-NoMem-clause-held g c =
+    held_some c.in-Some.m c.in-NoMem.m c.self.inside.inlet c.take.new.self c.hold-in-NoMem.new.self c.in-NoMem.ensures.landed.0 c.in-Some.ensures.next c.hold-in-NoMem.ensures

@@ -2,7 +2,7 @@ use Rattle.std.proofs.Common.{◌++◌, [], ◌∷◌, sym, ap, ◌∙◌, appen
 use Rattle.std.specs.Vec.Iter.{into_iter_items}
 use Rattle.strm_job.proofs.LoopLemmas.{rest_shorter}
 use Rattle.strm_run.proofs.EndingLemmas.{found_more, refusals_rest}
-use Rattle.strm_run.proofs.ending.all_found.Goals as goal
+use Rattle.strm_run.proofs.ending.all_logs.Goals as goal
 
 -- one stream more has ended
 pub loop-one-preserved : goal.loop-one-preserved
@@ -12,6 +12,6 @@ loop-one-preserved g c =
     record {
       left = rest_shorter (into_iter_items c.loop-one.one-iterator) (into_iter_items c.next.new.self) c.in-Some.one _ _ was.left next c.in-Some.ensures.steps.1;
       rest = append_assoc c.loop-one.yielded (c.in-Some.one ∷ []) (into_iter_items c.next.new.self) ∙ ap (λ l. c.loop-one.yielded ++ l) (sym next) ∙ was.rest;
-      refusals = refusals_rest (into_iter_items c.loop-one.one-iterator) (into_iter_items c.next.new.self) c.in-Some.one next was.refusals;
-      found = found_more c.loop-one.all.items c.push.new.self.items c.loop-one.yielded c.in-Some.one c.in_ok-found.found was.found c.in-Ok.ensures.items c.in_ok-found.was;
+      late = refusals_rest (into_iter_items c.loop-one.one-iterator) (into_iter_items c.next.new.self) c.in-Some.one next was.late;
+      logs = found_more c.loop-one.all.items c.push.new.self.items c.loop-one.yielded c.in-Some.one c.in_ok-log.log was.logs c.in-Ok.ensures.items c.in_ok-log.was;
     }

@@ -5,7 +5,7 @@ use std::alloc::Global;
 use std::io;
 use std::sync::Wait;
 use std::thread::Threads;
-use strm_head::{Driver, Outcome, Part, Request, Stream};
+use strm_head::{Driver, Outcome, Request, Stream};
 use strm_module::Boxed;
 use strm_msg::{Bytes, End, Message};
 use strm_play::play;
@@ -49,15 +49,7 @@ pub fn play_calls<R: Print>(rt: &R, alloc: Global) -> Option<()> {
         let _ = stream.arrive(Message::of_data(alloc, 0, bytes).ok()?);
     }
     ask(rt, &mut stream, "read", Request::Read { max: 16 })?;
-    ask(
-        rt,
-        &mut stream,
-        "str",
-        Request::Str {
-            cmd: 1,
-            dat: Part::none(),
-        },
-    )?;
+    ask(rt, &mut stream, "str", Request::str(alloc, 1, None).ok()?)?;
     take_out(rt, &mut stream)
 }
 

@@ -1,5 +1,5 @@
 //! What a call answers.
-ghost use Rattle.std.specs.Prelude.{◌≡◌, false, IfOk, IsOk};
+ghost use Rattle.std.specs.Prelude.{◌≡◌, false, IfOk, IsOk, option_copied};
 ghost use Rattle.strm_call.specs.Reply.{has_bytes};
 
 use crate::name::Name;
@@ -195,6 +195,20 @@ pub fn copy_part(alloc: Global, part: &Option<Bytes>) -> Result<Option<Bytes>, N
 }
 
 impl Peeked {
+    /// The bytes of control, if it was shown.
+    pub fn ctl(&self) -> Option<&Bytes>
+        ensures { option_copied result ≡ self.now.ctl }
+    {
+        self.ctl.as_bytes()
+    }
+
+    /// The bytes of data, if they were shown.
+    pub fn dat(&self) -> Option<&Bytes>
+        ensures { option_copied result ≡ self.now.dat }
+    {
+        self.dat.as_bytes()
+    }
+
     /// An equal one. Refused for want of memory alone.
     pub fn copy(&self, alloc: Global) -> Result<Peeked, NoMem>
         ensures { IfOk result (λ copy. copy ≡ self.now) }

@@ -1,7 +1,11 @@
 //! What is asked of a stream.
+ghost use Rattle.std.specs.Prelude.{◌≡◌, IfOk, IsNone, IsOk};
+ghost use Rattle.strm_call.specs.declared.request.Request.TheVariants as Requests;
+
 use crate::part::Part;
 use crate::parts::BoxedParts;
-use strm_msg::{Bytes, Prot, ReadMode};
+use std::alloc::Global;
+use strm_msg::{Bytes, NoMem, Prot, ReadMode};
 
 /// The most bytes of control that a call sends; more is refused with ERANGE.
 pub const MAX_CONTROL: usize = 1024;
@@ -158,7 +162,8 @@ pub enum Request<P> {
     },
     /// Asks how reads treat messages (I_GRDOPT).
     GetRead,
-    /// Asks whether an ordinary message of a band could be sent (I_CANPUT).
+    /// Asks whether the first write queue has room for an ordinary message of a band (I_CANPUT). It looks at no hangup: at a hung
+    /// up end it may tell yes where a write gets ENXIO.
     Canput {
         /// The band.
         band: u8,
@@ -225,4 +230,42 @@ pub enum Request<P> {
     ///
     /// Refused where the end is closed, and for nothing else. On a broken stream no service follows.
     Close,
+}
+
+impl<P> Request<P> {
+    /// A putmsg of these parts. Refused for want of memory alone.
+    pub fn putmsg(
+        alloc: Global,
+        ctl: Option<Bytes>,
+        dat: Option<Bytes>,
+        flag: Priority,
+    ) -> Result<Self, NoMem>
+        ensures { IfOk result (λ request. request ≡ Requests.Putmsg flag (record { ctl = ctl; dat = dat })) }
+    {
+        let parts = BoxedParts::new(alloc, ctl, dat)?;
+        Ok(Request::Putmsg { flag, parts })
+    }
+
+    /// A putpmsg of these parts. Refused for want of memory alone.
+    pub fn putpmsg(
+        alloc: Global,
+        ctl: Option<Bytes>,
+        dat: Option<Bytes>,
+        band: u8,
+        flag: PutFlag,
+    ) -> Result<Self, NoMem>
+        ensures { IfOk result (λ request. request ≡ Requests.Putpmsg band flag (record { ctl = ctl; dat = dat })) }
+    {
+        let parts = BoxedParts::new(alloc, ctl, dat)?;
+        Ok(Request::Putpmsg { band, flag, parts })
+    }
+
+    /// An ioctl of this command and these data. Refused for want of memory alone, and not where there are no data.
+    pub fn str(alloc: Global, cmd: u32, dat: Option<Bytes>) -> Result<Self, NoMem>
+        ensures str { IfOk result (λ request. request ≡ Requests.Str cmd dat) }
+        ensures nothing { IsNone dat → IsOk result }
+    {
+        let dat = Part::new(alloc, dat)?;
+        Ok(Request::Str { cmd, dat })
+    }
 }

@@ -62,6 +62,18 @@ impl<P> Script<P> {
         }
     }
 
+    /// The calls of blocks, one block after another, and then others: so many. Takes no memory.
+    pub fn of_blocks(
+        full: Vec<Vec<ScriptCall<P>>>,
+        last: Vec<ScriptCall<P>>,
+        many: usize,
+    ) -> Script<P>
+        requires { many ≡ length (in_blocks full.items last.items) }
+        ensures { result ≡ in_blocks full.items last.items }
+    {
+        Script { full, last, many }
+    }
+
     /// How many calls there are.
     pub fn len(&self) -> usize
         ensures { result ≡ length self.now }

@@ -15,7 +15,7 @@ use strm_history::{Call, Called, Receipt, Setup, StreamLog, Transcript};
 use strm_job::{Feed, Script, ScriptCall};
 use strm_module::{Boxed, Kind, ModuleOf, Plain};
 use strm_msg::{Message, NoMem};
-use strm_plan::{Handed, Names, hand_over, parse};
+use strm_plan::{Handed, Names, hand_over, parse_made};
 use strm_script::print;
 use strm_shared::{EndFault, Ended, Feeder, Ring, Runs, Seat, Shared};
 
@@ -301,7 +301,7 @@ fn done<N: Runs<Kind>, R: Print + Wait>(
 
 /// What a script hands over.
 fn handed(alloc: Global, bytes: &[u8]) -> anyhow::Result<Handed<Boxed<Plain>>> {
-    let plan = parse::<Plain>(alloc, bytes)?;
+    let plan = parse_made::<Plain>(alloc, bytes)?;
     Ok(hand_over(alloc, plan)?)
 }
 

@@ -8,6 +8,7 @@ ghost use Rattle.strm_plan.specs.Reading as reading;
 ghost use Rattle.strm_plan.specs.Section.{AreRead, IsFaultOfLine, IsFaultOfLines, IsSection};
 ghost use Rattle.strm_plan.specs.Sound.{IsSound};
 ghost use Rattle.strm_plan.specs.Spelling.{IsNoMemory, Spells};
+ghost use Rattle.strm_verb.specs.Push.{builtin_words};
 
 use crate::draft::Draft;
 use crate::fault::ScriptFault;
@@ -25,13 +26,22 @@ pub const LONGEST_SCRIPT: usize = 1_048_576;
 /// How long a script is, in bytes, whose lines one thread reads.
 const SHORT: usize = 32_768;
 
-/// The plan that a script spells, whose modules are of type `M`, and of the kinds that its vocabulary has words for: what
-/// a run asks of streams, processes and feeds holds of it.
+/// The plan that a script spells, whose pushes declare modules of the built-in kinds: what a run asks of streams, processes and feeds
+/// holds of it. A program makes the modules (`with_modules`).
 ///
 /// Refused with the first fault: too long a script before any line, then the faults of the lines in order,
 /// and those of a line from left to right. Want of memory, which says nothing of the script, is told of
 /// line 0.
-pub fn parse<M: PlayModule>(alloc: Global, bytes: &[u8]) -> Result<Plan<Boxed<M>>, ScriptFault>
+pub fn parse(alloc: Global, bytes: &[u8]) -> Result<Plan, ScriptFault>
+    ensures spells { Spells result (reading.spelt builtin_words bytes.now) }
+    ensures sound { IfOk result (λ plan. IsSound (plan_view plan)) }
+{
+    parse_made(alloc, bytes)
+}
+
+/// The plan that a script spells, as `parse` reads it, whose pushes have modules of type `M`, of the kinds that its vocabulary has words
+/// for. Each is made with its object as its line is read; an `Object` is not made yet.
+pub fn parse_made<M: PlayModule>(alloc: Global, bytes: &[u8]) -> Result<Plan<Boxed<M>>, ScriptFault>
 where
     M::Kind: ReadKind,
     ensures spells { Spells result (reading.spelt M.Kind.words bytes.now) }
@@ -43,7 +53,7 @@ where
     parse_lines(alloc, bytes)
 }
 
-/// The plan that a script spells, as `parse` reads it, with its processes read in at most so many threads.
+/// The plan that a script spells, as `parse_made` reads it, with its processes read in at most so many threads.
 ///
 /// A long script is cut before each line that begins with `process`. The calls behind such a line are read by themselves, onto the
 /// streams that are declared before the first of these lines; where something else stands there, or streams were declared meanwhile,

@@ -21,7 +21,7 @@ pub use reply::put_answer;
 pub use sharing::print_shared_out;
 pub use stream::{put_end, put_far_end, put_feed, put_heading};
 pub use strm_plan::{
-    Cause, LoadFault, Name, Names, Plan, PlayModule, ProcessDecl, ReadKind, ScriptFault, load,
-    parse,
+    CallDecl, Cause, LoadFault, Name, Names, Object, Plan, PlayModule, ProcessDecl, PushDecl,
+    ReadKind, ScriptFault, load, parse, with_modules,
 };
 pub use strm_verb::{ReadError, byte_at, number_at, part_at, short_at, word_at};

@@ -3,15 +3,18 @@
 use std::alloc::Global;
 use std::process::Abort;
 use strm_module::{Boxed, Plain};
-use strm_plan::{Handed, Names, hand_over, parse};
+use strm_plan::{Handed, Names, hand_over, parse_made};
 
 mod charting;
+mod declaring;
 mod loading;
 mod printing;
 
 /// What a script hands over.
 fn handed(rt: &impl Abort, alloc: Global, script: &[u8]) -> Handed<Boxed<Plain>> {
-    let plan = parse::<Plain>(alloc, script).ok().expect(rt, "a script");
+    let plan = parse_made::<Plain>(alloc, script)
+        .ok()
+        .expect(rt, "a script");
     hand_over(alloc, plan).ok().expect(rt, "no memory")
 }
 

@@ -6,7 +6,6 @@ ghost use Rattle.strm_verb.specs.Field as fields;
 
 use crate::fault::{Cause, ReadError};
 use std::alloc::Global;
-use strm_call::Part;
 use strm_msg::{Bytes, Marks};
 use strm_text::{number, part, split_once};
 
@@ -86,14 +85,6 @@ pub(crate) fn optional_at(alloc: Global, text: &[u8]) -> Result<Option<Bytes>, R
         return Ok(None);
     }
     Ok(Some(part_at(alloc, text)?))
-}
-
-/// A part in a box, or none for `-`. Refused where the text is neither, or for want of memory.
-pub(crate) fn boxed_at(alloc: Global, text: &[u8]) -> Result<Part, ReadError>
-    ensures { Gives (λ part. part) result (fields.optional_at text.now) }
-{
-    let bytes = optional_at(alloc, text)?;
-    Ok(Part::new(alloc, bytes)?)
 }
 
 /// A number up to `MOST_ASKED`, or none for `-1`. Refused where the text is neither.

@@ -4,12 +4,12 @@ ghost use Rattle.strm_verb.specs.Fault.{Gives, Tells};
 ghost use Rattle.strm_verb.specs.Table as table;
 
 use crate::fault::{Cause, ReadError};
-use crate::field::{boxed_at, byte_at, maximum_at, optional_at, part_at, short_at, word_at};
+use crate::field::{byte_at, maximum_at, optional_at, part_at, short_at, word_at};
 use crate::kinds::{PlayModule, ReadKind, shape_at};
 use crate::verb::Verb;
 use crate::worded::choice_at;
 use std::alloc::Global;
-use strm_call::{BoxedParts, Request};
+use strm_call::Request;
 use strm_module::{Boxed, Instance, ModuleOf};
 
 /// `putmsg CTL DAT FLAG`.
@@ -22,8 +22,7 @@ fn putmsg<M: ModuleOf>(alloc: Global, texts: &[&[u8]]) -> Result<Request<Boxed<M
     let ctl = optional_at(alloc, ctl)?;
     let dat = optional_at(alloc, dat)?;
     let flag = choice_at(flag)?;
-    let parts = BoxedParts::new(alloc, ctl, dat)?;
-    Ok(Request::Putmsg { flag, parts })
+    Ok(Request::putmsg(alloc, ctl, dat, flag)?)
 }
 
 /// `putpmsg CTL DAT BAND FLAG`.
@@ -37,8 +36,7 @@ fn putpmsg<M: ModuleOf>(alloc: Global, texts: &[&[u8]]) -> Result<Request<Boxed<
     let dat = optional_at(alloc, dat)?;
     let band = byte_at(band)?;
     let flag = choice_at(flag)?;
-    let parts = BoxedParts::new(alloc, ctl, dat)?;
-    Ok(Request::Putpmsg { band, flag, parts })
+    Ok(Request::putpmsg(alloc, ctl, dat, band, flag)?)
 }
 
 /// `getmsg MAXCTL MAXDAT FLAG`.
@@ -118,8 +116,8 @@ fn str<M: ModuleOf>(alloc: Global, texts: &[&[u8]]) -> Result<Request<Boxed<M>>,
         return Err(ReadError::Fault(Cause::Fields));
     };
     let cmd = word_at(cmd)?;
-    let dat = boxed_at(alloc, dat)?;
-    Ok(Request::Str { cmd, dat })
+    let dat = optional_at(alloc, dat)?;
+    Ok(Request::str(alloc, cmd, dat)?)
 }
 
 /// `flush SIDES`.

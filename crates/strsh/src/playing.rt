@@ -17,7 +17,7 @@ use std::sync::Wait;
 use std::thread::Threads;
 use std::{fs, mem};
 use strm_chart::chart;
-use strm_module::Plain;
+use strm_module::{Boxed, Plain};
 use strm_plan::{Plan, parse_shared_out};
 use strm_play::{Outcome, play_plan};
 use strm_script::{LoadFault, load, print_shared_out};
@@ -37,7 +37,7 @@ fn plan_at<R: Files + Threads + Sync>(
     alloc: Global,
     path: &str,
     threads: usize,
-) -> Result<Plan, Fault>
+) -> Result<Plan<Boxed<Plain>>, Fault>
     requires { 0 < threads }
     ensures { IfOk result (λ plan. IsSound (plan_view plan)) }
 {

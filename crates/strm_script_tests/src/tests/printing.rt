@@ -7,7 +7,7 @@ use arrayvec::ArrayVec;
 use std::alloc::Global;
 use std::io::{self, ErrorKind, Write};
 use std::process::Abort;
-use strm_call::{Acknowledged, Answer, Name, NameList, Part as BoxedPart, Refusal, Reply, Request};
+use strm_call::{Acknowledged, Answer, Name, NameList, Refusal, Reply, Request};
 use strm_head::{Event, MOST_MODULES};
 use strm_history::{Entry, Kept, Who};
 use strm_module::{BoxedShape, Kind};
@@ -152,10 +152,10 @@ fn part(rt: &impl Abort, alloc: Global, part: Part) -> Option<Bytes> {
 fn request(rt: &impl Abort, alloc: Global, ask: Ask) -> Request<BoxedShape> {
     match ask {
         Nread => Request::Nread,
-        Str(cmd, dat) => Request::Str {
-            cmd,
-            dat: BoxedPart::new(alloc, part(rt, alloc, dat)).expect(rt, "no memory"),
-        },
+        Str(cmd, dat) => {
+            let dat = part(rt, alloc, dat);
+            Request::str(alloc, cmd, dat).expect(rt, "no memory")
+        }
         Getband => Request::Getband,
     }
 }

@@ -8,7 +8,7 @@ use std::alloc::Global;
 use std::marker::Brand;
 use std::process::Abort;
 use std::sync::Wait;
-use strm_head::{Answer, BoxedParts, Priority, Refusal, Reply, Request, Wanted};
+use strm_head::{Answer, Priority, Refusal, Reply, Request, Wanted};
 use strm_history::Kept;
 use strm_module::{Boxed, Kind, Plain};
 use strm_msg::{Errno, Message, Prot, ReadMode};
@@ -213,13 +213,10 @@ fn refused_of(rt: &impl Abort, alloc: Global, ask: Ask) -> Request<Boxed<Plain>>
     match ask {
         Ask::Read => Request::Read { max: 8 },
         Ask::Look => Request::Look,
-        Ask::Putmsg => Request::Putmsg {
-            flag: Priority::Norm,
-            parts: BoxedParts::new(alloc, None, Some(bytes(rt, alloc, b"y"))).expect(
-                rt,
-                "no memory",
-            ),
-        },
+        Ask::Putmsg => {
+            let dat = bytes(rt, alloc, b"y");
+            Request::putmsg(alloc, None, Some(dat), Priority::Norm).expect(rt, "no memory")
+        }
         Ask::Canput => Request::Canput { band: 0 },
         Ask::Write => Request::Write {
             dat: bytes(rt, alloc, b"z"),

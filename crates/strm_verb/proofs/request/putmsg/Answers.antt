@@ -9,7 +9,7 @@ use Rattle.strm_verb.proofs.request.putmsg.Goals as goal
 pub returns : goal.returns
 returns g c =
     let texts = c.args.texts.now in
-    rw c.in_ok-parts.ensures (of_three g.row.M-Kind.Denot Verb.Putmsg texts Optional Optional (Choice (map priority_word all_priorities)) (part_field c.in_ok-ctl.ctl) (part_field c.in_ok-dat.dat) (Word (priority_word c.in_ok-flag.flag)) c.in-len3.len_at_least c.in-len3.len_below (optional (at texts 0) c.in_ok-ctl.ctl c.in_ok-ctl.ensures) (optional (at texts 1) c.in_ok-dat.dat c.in_ok-dat.ensures) (choice (map priority_word all_priorities) (at texts 2) (priority_word c.in_ok-flag.flag) c.in_ok-flag.ensures.choice))
+    rw c.in_ok-putmsg.ensures (of_three g.row.M-Kind.Denot Verb.Putmsg texts Optional Optional (Choice (map priority_word all_priorities)) (part_field c.in_ok-ctl.ctl) (part_field c.in_ok-dat.dat) (Word (priority_word c.in_ok-flag.flag)) c.in-len3.len_at_least c.in-len3.len_below (optional (at texts 0) c.in_ok-ctl.ctl c.in_ok-ctl.ensures) (optional (at texts 1) c.in_ok-dat.dat c.in_ok-dat.ensures) (choice (map priority_word all_priorities) (at texts 2) (priority_word c.in_ok-flag.flag) c.in_ok-flag.ensures.choice))
 
 pub returns-in_err-ctl : goal.returns-in_err-ctl
 returns-in_err-ctl g c =

@@ -10,7 +10,7 @@ use Rattle.strm_verb.proofs.request.putpmsg.Goals as goal
 pub returns : goal.returns
 returns g c =
     let texts = c.args.texts.now in
-    rw c.in_ok-parts.ensures (of_four g.row.M-Kind.Denot Verb.Putpmsg texts Optional Optional (Upto MOST_BAND) (Choice (map put_word all_puts)) (part_field c.in_ok-ctl.ctl) (part_field c.in_ok-dat.dat) (Number c.in_ok-band.band) (Word (put_word c.in_ok-flag.flag)) c.in-len4.len_at_least c.in-len4.len_below (optional (at texts 0) c.in_ok-ctl.ctl c.in_ok-ctl.ensures) (optional (at texts 1) c.in_ok-dat.dat c.in_ok-dat.ensures) (upto MOST_BAND (at texts 2) c.in_ok-band.band c.in_ok-band.ensures) (choice (map put_word all_puts) (at texts 3) (put_word c.in_ok-flag.flag) c.in_ok-flag.ensures.choice))
+    rw c.in_ok-putpmsg.ensures (of_four g.row.M-Kind.Denot Verb.Putpmsg texts Optional Optional (Upto MOST_BAND) (Choice (map put_word all_puts)) (part_field c.in_ok-ctl.ctl) (part_field c.in_ok-dat.dat) (Number c.in_ok-band.band) (Word (put_word c.in_ok-flag.flag)) c.in-len4.len_at_least c.in-len4.len_below (optional (at texts 0) c.in_ok-ctl.ctl c.in_ok-ctl.ensures) (optional (at texts 1) c.in_ok-dat.dat c.in_ok-dat.ensures) (upto MOST_BAND (at texts 2) c.in_ok-band.band c.in_ok-band.ensures) (choice (map put_word all_puts) (at texts 3) (put_word c.in_ok-flag.flag) c.in_ok-flag.ensures.choice))
 
 pub returns-in_err-ctl : goal.returns-in_err-ctl
 returns-in_err-ctl g c =

@@ -1,5 +1,6 @@
 /* Messages come in from a line faster than they are read: what the head has no room for waits in the line's list, which holds the line
- * up when it is full itself. What is of high priority passes. */
+ * up when it is full itself, for now (EAGAIN). What is of high priority passes. A message that can never come in has another errno, so that
+ * whoever feeds the line stops. */
 #include <stdio.h>
 
 #include "said.h"
@@ -11,6 +12,14 @@ static int arrive(struct strm *s, int kind, const char *text)
     struct strbuf part = { 0, (int)strlen(text), bytes };
     memcpy(bytes, text, strlen(text));
     return strm_arrive(s, kind, 0, kind == M_PCPROTO ? &part : NULL, kind == M_DATA ? &part : NULL, 0);
+}
+
+/* A byte more than a message may have, of which none is copied. */
+static int arrive_long(struct strm *s)
+{
+    static char bytes[4097];
+    struct strbuf part = { 0, sizeof bytes, bytes };
+    return strm_arrive(s, M_DATA, 0, NULL, &part, 0);
 }
 
 /* How the head is to read and its marks, in the bytes that docs/MODEL.md has. */
@@ -71,6 +80,7 @@ int main(void)
     printf("arrive %s\n", said(arrive(&s, M_DATA, "q")));
     read_some(&s, 64);
     printf("no message %s\n", said(strm_arrive(&s, 0x05, 0, NULL, NULL, 0)));
+    printf("too long %s\n", said(arrive_long(&s)));
     printf("no options %s\n", said(set_options(&s, "\4\0\0", 3)));
     printf("options %s\n", said(set_options(&s, "\2\0\1\0\0\0\4\0\0\0\1", 11)));
     printf("getread %s", said(strm_getread(&s, STRM_A, &mode)));
@@ -86,6 +96,10 @@ int main(void)
     printf("write %s\n", said(strm_write(&s, STRM_A, "r", 1, &written)));
     printf("close %s\n", said(strm_close(&s, STRM_A)));
     printf("arrive %s\n", said(arrive(&s, M_DATA, "s")));
+    strm_free(&s);
+
+    printf("open %s\n", said(strm_open(&s, STRM_ECHO, 16, 4, 8, 2)));
+    printf("no line %s\n", said(arrive(&s, M_DATA, "t")));
     strm_free(&s);
     return 0;
 }

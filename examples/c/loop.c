@@ -1,4 +1,5 @@
-/* Two ends of a loop, and two modules on the first: one counts what goes down, the other turns LF into CR LF. */
+/* Two ends of a loop, and two modules on the first: one counts what goes down, the other turns LF into CR LF. An ioctl is answered by one of
+ * them, refused by the driver, or refused before it is sent. */
 #include <stdio.h>
 
 #include "said.h"
@@ -47,9 +48,10 @@ int main(void)
     struct strm_module tally = { "tally", STRM_COUNT, 0, 0, 0, 0, 0, NULL, 0 };
     struct strm_module wrong = { "no name", STRM_PASS, 0, 0, 0, 0, 0, NULL, 0 };
     struct strioctl ask = { 1, 0, -1, NULL };
+    static char bytes[4097];
     char name[FMNAMESZ + 1];
     uint64_t count = 0;
-    int found = 0;
+    int found = 0, answer = STRM_REFUSED;
 
     printf("open %s\n", said(strm_open(&s, STRM_LOOP, 64, 16, 64, 16)));
     printf("push %s", said(strm_push(&s, STRM_A, &term)));
@@ -65,7 +67,12 @@ int main(void)
     printf("count %s", said(strm_str(&s, STRM_A, &ask, &count)));
     printf(" %lu with data of length %d\n", (unsigned long)count, ask.ic_len);
     ask.ic_cmd = 9;
-    printf("an ioctl that is nobody's %s\n", said(strm_str(&s, STRM_A, &ask, &count)));
+    printf("an ioctl that is nobody's %s", said(strm_str_answer(&s, STRM_A, &ask, &count, &answer)));
+    printf(" refused by the driver: %s\n", answer == STRM_NAK ? "yes" : "no");
+    ask.ic_dp = bytes;
+    ask.ic_len = sizeof bytes;
+    printf("an ioctl of 4097 bytes %s", said(strm_str_answer(&s, STRM_A, &ask, &count, &answer)));
+    printf(" refused by the driver: %s\n", answer == STRM_NAK ? "yes" : "no");
     printf("look %s", said(strm_look(&s, STRM_A, name)));
     printf(" %s\n", name);
     printf("pop %s\n", said(strm_pop(&s, STRM_A)));

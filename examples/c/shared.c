@@ -1,6 +1,6 @@
-/* One stream that four threads use, each call under a mutex: three writers send numbers, and the reader takes them. */
+/* One stream that four threads use, each call under a mutex: three writers send numbers, and the reader takes them. A call that would have
+ * to wait is refused with EAGAIN, and its thread waits for a change by a condition, which each call that was done wakes. */
 #include <pthread.h>
-#include <sched.h>
 #include <stdio.h>
 
 #include "said.h"
@@ -11,15 +11,31 @@
 
 static struct strm stream = STRM_CLOSED;
 static pthread_mutex_t lock = PTHREAD_MUTEX_INITIALIZER;
+static pthread_cond_t changed = PTHREAD_COND_INITIALIZER;
 static int numbers[WRITERS] = { 0, 1, 2 };
 
-/* A message of four bytes: the writer in the first, and in the others what it has sent before. */
+/* A message of four bytes: the writer in the first, and in the others what it has sent before. Waits for room. */
 static int put(int writer, int sent)
 {
     unsigned char bytes[4] = { (unsigned char)writer, (unsigned char)(sent >> 16), (unsigned char)(sent >> 8), (unsigned char)sent };
     size_t written = 0;
+    int code;
     pthread_mutex_lock(&lock);
-    int code = strm_write(&stream, STRM_A, bytes, 4, &written);
+    while ((code = strm_write(&stream, STRM_A, bytes, 4, &written)) == EAGAIN)
+        pthread_cond_wait(&changed, &lock);
+    pthread_cond_broadcast(&changed);
+    pthread_mutex_unlock(&lock);
+    return code;
+}
+
+/* The next four bytes. Waits for a message. */
+static int get(unsigned char bytes[4], size_t *len)
+{
+    int code;
+    pthread_mutex_lock(&lock);
+    while ((code = strm_read(&stream, STRM_A, bytes, 4, len)) == EAGAIN)
+        pthread_cond_wait(&changed, &lock);
+    pthread_cond_broadcast(&changed);
     pthread_mutex_unlock(&lock);
     return code;
 }
@@ -27,13 +43,8 @@ static int put(int writer, int sent)
 static void *write_all(void *arg)
 {
     int writer = *(int *)arg;
-    for (int sent = 0; sent < EACH;) {
-        int code = put(writer, sent);
-        if (code == 0)
-            sent++;
-        else if (code == EAGAIN)
-            sched_yield();
-        else
+    for (int sent = 0; sent < EACH; sent++) {
+        if (put(writer, sent) != 0)
             return arg;
     }
     return NULL;
@@ -44,20 +55,12 @@ static void *read_all(void *arg)
 {
     int next[WRITERS] = { 0, 0, 0 };
     int *disordered = (int *)arg;
-    for (int taken = 0; taken < WRITERS * EACH;) {
+    for (int taken = 0; taken < WRITERS * EACH; taken++) {
         unsigned char bytes[4];
         size_t len = 0;
-        pthread_mutex_lock(&lock);
-        int code = strm_read(&stream, STRM_A, bytes, 4, &len);
-        pthread_mutex_unlock(&lock);
-        if (code == EAGAIN) {
-            sched_yield();
-            continue;
-        }
-        if (code != 0 || len != 4 || bytes[0] >= WRITERS)
+        if (get(bytes, &len) != 0 || len != 4 || bytes[0] >= WRITERS)
             return arg;
         *disordered += next[bytes[0]]++ != (bytes[1] << 16 | bytes[2] << 8 | bytes[3]);
-        taken++;
     }
     return NULL;
 }

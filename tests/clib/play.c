@@ -337,7 +337,9 @@ static int do_str(void)
     struct strbuf dat = part(fields[3], dat_room);
     struct strioctl call = { (int)number(fields[2]), 0, dat.len, dat.buf };
     uint64_t rval = 0;
-    int e = strm_str(&stream, end, &call, &rval);
+    int answer = STRM_REFUSED, e = strm_str_answer(&stream, end, &call, &rval, &answer);
+    if (answer == STRM_NAK)
+        add(&line, "nak ");
     if (!e) {
         add_number(&line, (unsigned long)rval);
         add(&line, " ");

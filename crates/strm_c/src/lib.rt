@@ -1,27 +1,27 @@
 //! The calls on a stream, for programs in C: `include/strm.h` declares them in the shape of `stropts.h`.
 //!
 //! A call returns 0 or the number of an errno. It takes the stream out of its handle, makes one step of it, and puts it
-//! back. What a reply has is written where the caller has room for it, and nothing beyond.
+//! back. What its caller sends is copied where nothing else refuses the call. What a reply has is written where the caller has
+//! room for it, and nothing beyond.
 #![tactic(auto)]
 
 ghost use Rattle.std.specs.Prelude.{◌≡◌, true, false, [], Ok};
 ghost use Rattle.strm_call.specs.declared.request.Request.TheVariants as Requests;
+ghost use Rattle.strm_call.specs.Refusal.{first_that_holds};
 ghost use Rattle.strm_handle.specs.Codes.{driver_of};
 ghost use Rattle.strm_handle.specs.Asked as asks;
 ghost use Rattle.strm_handle.specs.Told.{HasTaken, IsValue, AreValues, IsNamed, Nothing};
 ghost use Rattle.strm_handle.specs.Call.{Calls, CopiesAndCalls, Opens};
 ghost use Rattle.strm_abi.specs.Messages.{message_of};
-ghost use Rattle.strm_handle.specs.Arrival.{CopiesAndHandsIn};
+ghost use Rattle.strm_handle.specs.Arrival.{arrival_refusals, CopiesAndHandsIn};
 
 use std::alloc::Global;
-use strm_abi::message_of;
 use strm_call::Request;
 pub use strm_handle::{Got, Handle};
 use strm_handle::{
-    call, call_for_name, call_for_value, call_for_values, call_taking, driver_of, find_of,
-    flush_of, flushband_of, free_stream, getmsg_of, getpmsg_of, hand_in, kind_of, marks_of,
-    open_stream, part_of, peek_of, push_of, putmsg_of, putpmsg_of, read_of, setread_of, str_of,
-    write_of,
+    arrive, call, call_for_name, call_for_value, call_for_values, call_taking, driver_of, find_of,
+    flush_of, flushband_of, free_stream, getmsg_of, getpmsg_of, kind_of, marks_of, open_stream,
+    peek_of, push_of, putmsg_of, putpmsg_of, read_of, setread_of, str_of, write_of,
 };
 
 /// Opens a stream into a closed handle.
@@ -65,9 +65,9 @@ pub extern "C" fn strm_putmsg_parts(
 ) -> i32
     requires { s.old.is_open ≡ true }
     ensures open { s.new.is_open ≡ true }
-    ensures call { CopiesAndCalls s.old.held.stream end (asks.putmsg_of has_ctl ctl.now has_dat dat.now flags) Nothing result s.new.held.stream }
+    ensures call { Calls s.old.held.stream end (asks.putmsg_of has_ctl ctl.now has_dat dat.now flags) Nothing result s.new.held.stream }
 {
-    let asked = putmsg_of(alloc, has_ctl, ctl, has_dat, dat, flags);
+    let asked = putmsg_of(alloc, s, end, has_ctl, ctl, has_dat, dat, flags);
     call(alloc, s, end, asked)
 }
 
@@ -86,9 +86,9 @@ pub extern "C" fn strm_putpmsg_parts(
 ) -> i32
     requires { s.old.is_open ≡ true }
     ensures open { s.new.is_open ≡ true }
-    ensures call { CopiesAndCalls s.old.held.stream end (asks.putpmsg_of has_ctl ctl.now has_dat dat.now band flags) Nothing result s.new.held.stream }
+    ensures call { Calls s.old.held.stream end (asks.putpmsg_of has_ctl ctl.now has_dat dat.now band flags) Nothing result s.new.held.stream }
 {
-    let asked = putpmsg_of(alloc, has_ctl, ctl, has_dat, dat, band, flags);
+    let asked = putpmsg_of(alloc, s, end, has_ctl, ctl, has_dat, dat, band, flags);
     call(alloc, s, end, asked)
 }
 
@@ -184,9 +184,9 @@ pub extern "C" fn strm_write_bytes(
 ) -> i32
     requires { s.old.is_open ≡ true }
     ensures open { s.new.is_open ≡ true }
-    ensures call { CopiesAndCalls s.old.held.stream end (Ok (Requests.Write bytes.now)) (IsValue written.old written.new) result s.new.held.stream }
+    ensures call { Calls s.old.held.stream end (Ok (Requests.Write bytes.now)) (IsValue written.old written.new) result s.new.held.stream }
 {
-    let asked = write_of(alloc, bytes);
+    let asked = write_of(alloc, s, end, bytes);
     call_for_value(alloc, s, end, asked, written)
 }
 
@@ -213,7 +213,7 @@ pub extern "C" fn strm_push_kind(
     let rd = marks_of(rd_hi, rd_lo);
     let wr = marks_of(wr_hi, wr_lo);
     let kind = kind_of(alloc, kind, number, table);
-    let asked = push_of(alloc, name, rd, wr, kind);
+    let asked = push_of(alloc, s, end, name, rd, wr, kind);
     call(alloc, s, end, asked)
 }
 
@@ -273,7 +273,7 @@ pub extern "C" fn strm_find_name(
     ensures open { s.new.is_open ≡ true }
     ensures call { CopiesAndCalls s.old.held.stream end (Ok (Requests.Find name.now)) (IsValue found.old found.new) result s.new.held.stream }
 {
-    let asked = find_of(alloc, name);
+    let asked = find_of(alloc, s, end, name);
     call_for_value(alloc, s, end, asked, found)
 }
 
@@ -290,9 +290,9 @@ pub extern "C" fn strm_str_bytes(
 ) -> i32
     requires { s.old.is_open ≡ true }
     ensures open { s.new.is_open ≡ true }
-    ensures call { CopiesAndCalls s.old.held.stream end (Ok (Requests.Str cmd (asks.part_of has_dat dat.old))) (HasTaken [] dat.old got.old [] dat.new got.new) result s.new.held.stream }
+    ensures call { Calls s.old.held.stream end (Ok (Requests.Str cmd (asks.part_of has_dat dat.old))) (HasTaken [] dat.old got.old [] dat.new got.new) result s.new.held.stream }
 {
-    let asked = str_of(alloc, cmd, has_dat, dat);
+    let asked = str_of(alloc, s, end, cmd, has_dat, dat);
     call_taking(alloc, s, end, asked, &mut [], dat, got)
 }
 
@@ -418,17 +418,9 @@ pub extern "C" fn strm_arrive_parts(
 ) -> i32
     requires { s.old.is_open ≡ true }
     ensures open { s.new.is_open ≡ true }
-    ensures lands { CopiesAndHandsIn s.old.held.stream (message_of kind band (asks.part_of has_ctl ctl.now) (asks.part_of has_dat dat.now) number) result s.new.held.stream }
+    ensures lands { CopiesAndHandsIn (first_that_holds (arrival_refusals s.old.held.stream (asks.part_of has_ctl ctl.now) (asks.part_of has_dat dat.now))) s.old.held.stream (message_of kind band (asks.part_of has_ctl ctl.now) (asks.part_of has_dat dat.now) number) result s.new.held.stream }
 {
-    let Ok(ctl) = part_of(alloc, has_ctl, ctl) else {
-        return 63;
-    };
-    let Ok(dat) = part_of(alloc, has_dat, dat) else {
-        drop(ctl);
-        return 63;
-    };
-    let message = message_of(kind, band, ctl, dat, number);
-    hand_in(alloc, s, message)
+    arrive(alloc, s, kind, band, has_ctl, ctl, has_dat, dat, number)
 }
 
 /// Closes an end (close(2)). The handle stays open.

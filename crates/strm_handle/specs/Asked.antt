@@ -1,5 +1,5 @@
 -- What the arguments of a call ask for, or why they ask for nothing.
-use Rattle.std.specs.Prelude.{◌≡◌, ℕ, ◌/◌, ◌%◌, nat_eq, nat_le, min, Bool, Option, Some, None, Result, Ok, Err, ◌⊎◌, List, [], length, if◌then◌else◌, option_map}
+use Rattle.std.specs.Prelude.{ℕ, ◌/◌, ◌%◌, nat_eq, nat_le, min, Bool, Option, Some, None, Result, Ok, Err, List, [], length, if◌then◌else◌, option_map}
 use Rattle.strm_msg.specs.Message.{Part}
 use Rattle.strm_module.specs.Shape.{MarkPair, make_fault, is_split, new_shape}
 use Rattle.strm_module.specs.declared.shape.MakeFault.{MakeFault}
@@ -8,7 +8,7 @@ use Rattle.strm_module.specs.declared.kind.Kind.TheVariants as Kinds
 use Rattle.strm_module.specs.declared.shape.Shape.{Shape}
 use Rattle.strm_call.specs.declared.parts.Parts.{Parts}
 use Rattle.strm_call.specs.declared.refusal.Refusal.{Refusal}
-use Rattle.strm_call.specs.declared.refusal.Refusal.TheVariants.{Invalid, NoMemory}
+use Rattle.strm_call.specs.declared.refusal.Refusal.TheVariants.{Invalid}
 use Rattle.strm_call.specs.declared.request.Request.{Request}
 use Rattle.strm_call.specs.declared.request.Request.TheVariants as Requests
 use Rattle.strm_abi.specs.Numbers.{sides_of, mode_of, prot_of}
@@ -22,10 +22,6 @@ Asked = Result (Request (Shape Kind)) Refusal
 abbrev pub ask : {X : Type 0} → Option X → (X → Asked) → Asked
 ask None asked = Err Invalid
 ask (Some x) asked = asked x
-
--- a request whose arguments were copied: want of memory may take its place
-abbrev pub IsMade : Asked → Asked → Type 0
-IsMade asked made = (made ≡ asked) ⊎ (made ≡ Err NoMemory)
 
 abbrev pub part_of : Bool → List ℕ → Part
 part_of has bytes = if has then Some bytes else None

@@ -1,6 +1,7 @@
 -- What an exported call does: a step of the stream, whose answer has the code that the call returns and is written where the
 -- caller has room for it.
 use Rattle.std.specs.Prelude.{◌≡◌, ℕ, Bool, true, false, ◌⊎◌, Option, Some, None, Result, Ok, Err, List, ℤ, pos}
+use Rattle.strm_msg.specs.declared.errno.Errno.TheVariants.{ENOSR}
 use Rattle.strm_msg.specs.declared.words.End.{End}
 use Rattle.strm_module.specs.Builtin.{builtin}
 use Rattle.strm_module.specs.declared.kind.Kind.{Kind}
@@ -10,16 +11,17 @@ use Rattle.strm_ends.specs.Image.{Image, fresh}
 use Rattle.strm_ends.specs.declared.place.Place.{Place}
 use Rattle.strm_call.specs.declared.request.Request.{Request}
 use Rattle.strm_call.specs.declared.refusal.Refusal.{Refusal}
-use Rattle.strm_call.specs.declared.refusal.Refusal.TheVariants.{Closed}
+use Rattle.strm_call.specs.declared.refusal.Refusal.TheVariants.{Closed, NoMemory}
 use Rattle.strm_call.specs.declared.answer.Answer.{Answer}
 use Rattle.strm_call.specs.declared.answer.Answer.TheVariants.{Refused}
 use Rattle.strm_call.specs.Setup.{are_marks}
 use Rattle.strm_call.specs.declared.event.Event.TheVariants.{Asked as Call}
 use Rattle.strm_head.specs.Begin.{out_of, takes_no_memory, wants_memory}
 use Rattle.strm_head.specs.Step.{Step}
-use Rattle.strm_abi.specs.Numbers.{end_of}
+use Rattle.strm_abi.specs.Numbers.{end_of, number_of}
 use Rattle.strm_handle.specs.Codes.{code_of}
-use Rattle.strm_handle.specs.Asked.{Asked, IsMade}
+use Rattle.strm_handle.specs.Asked.{Asked}
+use Rattle.strm_handle.specs.Judged.{refused_at}
 use Rattle.strm_handle.specs.Fits.{Fits}
 
 -- the stream took the step of a request, which this answers, with no part that is longer than was asked for
@@ -48,11 +50,17 @@ pub record Calls (old : Image Kind) (end : ℕ) (asked : Asked) (writes : Answer
   pub code_is : code ≡ pos (code_of answer)
   pub written : writes answer
 
--- an exported call whose arguments are copied first, for which memory may be wanting
-pub record CopiesAndCalls (old : Image Kind) (end : ℕ) (asked : Asked) (writes : Answer → Type 0) (code : ℤ) (new : Image Kind) : Type 0 where
-  pub made : Asked
-  pub is_made : IsMade asked made
-  pub calls : Calls old end made writes code new
+-- memory was wanting for a copy of the caller's bytes, and nothing else refuses the call
+pub record LacksMemory (old : Image Kind) (end : ℕ) (asked : Asked) (writes : Answer → Type 0) (code : ℤ) (new : Image Kind) : Type 0 where
+  pub is_last : refused_at old (end_of end) asked ≡ NoMemory
+  pub code_is : code ≡ pos (number_of ENOSR)
+  pub written : writes (Refused NoMemory)
+  pub unchanged : new ≡ old
+
+-- an exported call for which want of memory is no refusal of the model's: the call, or want of memory for its copy
+abbrev pub CopiesAndCalls : Image Kind → ℕ → Asked → (Answer → Type 0) → ℤ → Image Kind → Type 0
+CopiesAndCalls old end asked writes code new =
+    Calls old end asked writes code new ⊎ LacksMemory old end asked writes code new
 
 -- a stream was not opened, for this errno, and the handle is as it was
 abbrev pub IsNotOpened : ℕ → ℤ → Type 0 → Type 0

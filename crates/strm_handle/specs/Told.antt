@@ -4,7 +4,8 @@ use Rattle.arrayvec.specs.ArrayVec.{ArrayVec}
 use Rattle.strm_msg.specs.Message.{Part}
 use Rattle.strm_module.specs.declared.driver.Driver.{Driver}
 use Rattle.strm_module.specs.Driver.{driver_name}
-use Rattle.strm_call.specs.declared.answer.Acknowledged.TheVariants.{Ack}
+use Rattle.strm_call.specs.declared.answer.Acknowledged.{Acknowledged}
+use Rattle.strm_call.specs.declared.answer.Acknowledged.TheVariants.{Ack, Nak, Timeout}
 use Rattle.strm_call.specs.declared.answer.Received.{Received}
 use Rattle.strm_call.specs.declared.answer.Received.TheVariants as Receiveds
 use Rattle.strm_call.specs.declared.answer.Reply.{Reply}
@@ -53,12 +54,23 @@ got ctl dat found flags band more rval =
       rval = rval;
     }
 
+-- what has answered an ioctl: STRM_ACK is 1, STRM_NAK is 2, and STRM_TIMEOUT, where nothing has, is 3
+abbrev pub answer_number : Acknowledged → ℕ
+answer_number (Ack rval dat) = 1
+answer_number (Nak errno) = 2
+answer_number Timeout = 3
+
+-- the value of an ioctl that was carried out
+abbrev pub rval_of : Acknowledged → ℕ
+rval_of (Ack rval dat) = rval
+rval_of answer = 0
+
 abbrev pub got_of : Reply → Got
 got_of (Replies.Getmsg ctl dat flag more) = got ctl dat 1 (priority_number flag) 0 (more_number more) 0
 got_of (Replies.Getpmsg ctl dat flag more) = got ctl dat 1 (received_flags flag) (received_band flag) (more_number more) 0
 got_of (Replies.Peek (Some seen)) = got seen.ctl seen.dat 1 (priority_number seen.flag) 0 0 0
 got_of (Replies.Read dat) = got None (Some dat) 1 0 0 0 0
-got_of (Replies.Str (Ack rval dat)) = got None dat 1 0 0 0 rval
+got_of (Replies.Str answer) = got None (dat_of (Replies.Str answer)) (answer_number answer) 0 0 0 (rval_of answer)
 got_of reply = got None None 0 0 0 0 0
 
 -- what is told of an answer, and what was told before where it is no reply

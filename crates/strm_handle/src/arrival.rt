@@ -1,12 +1,20 @@
 //! A message that is handed in from a line.
 ghost use Rattle.std.specs.Prelude.{◌≡◌, true, IfSome, pos};
 ghost use Rattle.strm_msg.specs.Kind.{is_from_line};
+ghost use Rattle.strm_call.specs.Refusal.{first_that_holds};
+ghost use Rattle.strm_abi.specs.Messages.{message_of};
+ghost use Rattle.strm_handle.specs.Asked as asks;
 ghost use Rattle.strm_handle.specs.Arrival as arrivals;
 
+use crate::asked::part_of;
 use crate::handle::Handle;
+use crate::judged::are_too_long;
 use std::alloc::Global;
-use strm_head::Arrived;
-use strm_msg::Message;
+use strm_abi::{message_of, number_of};
+use strm_call::Refusal;
+use strm_head::{Arrived, Driver, Stream};
+use strm_module::Plain;
+use strm_msg::{End, Message};
 
 /// The code of what became of a message.
 fn arrived_code(arrived: &Arrived) -> i32
@@ -21,7 +29,7 @@ fn arrived_code(arrived: &Arrived) -> i32
 }
 
 /// A message comes in to the stream of an open handle, if it is one.
-pub fn hand_in(alloc: Global, s: &mut Handle, message: Option<Message>) -> i32
+fn hand_in(alloc: Global, s: &mut Handle, message: Option<Message>) -> i32
     requires open { s.old.is_open ≡ true }
     requires line { IfSome message (λ m. is_from_line m.kind ≡ true) }
     ensures open { s.new.is_open ≡ true }
@@ -36,4 +44,63 @@ pub fn hand_in(alloc: Global, s: &mut Handle, message: Option<Message>) -> i32
     let code = arrived_code(&arrived);
     drop(arrived);
     code
+}
+
+/// What refuses a message from a line whatever its bytes are.
+fn arrival_refusal(
+    stream: &Stream<Plain>,
+    has_ctl: bool,
+    ctl: &[u8],
+    has_dat: bool,
+    dat: &[u8],
+) -> Option<Refusal>
+    ensures { result ≡ first_that_holds (arrivals.arrival_refusals stream.now (asks.part_of has_ctl ctl.now) (asks.part_of has_dat dat.now)) }
+{
+    if !stream.is_open(End::A) {
+        return Some(Refusal::Closed);
+    }
+    if stream.is_broken() {
+        return Some(Refusal::Broken);
+    }
+    if stream.driver() != Driver::Line {
+        return Some(Refusal::Invalid);
+    }
+    if are_too_long(has_ctl, ctl, has_dat, dat) {
+        return Some(Refusal::TooLong);
+    }
+    None
+}
+
+/// The message of these numbers and bytes comes in from a line to the stream of an open handle. Its parts are copied where nothing
+/// refuses them whatever their bytes are.
+pub fn arrive(
+    alloc: Global,
+    s: &mut Handle,
+    kind: u32,
+    band: u8,
+    has_ctl: bool,
+    ctl: &[u8],
+    has_dat: bool,
+    dat: &[u8],
+    number: u32,
+) -> i32
+    requires { s.old.is_open ≡ true }
+    ensures open { s.new.is_open ≡ true }
+    ensures lands { arrivals.CopiesAndHandsIn (first_that_holds (arrivals.arrival_refusals s.old.held.stream (asks.part_of has_ctl ctl.now) (asks.part_of has_dat dat.now))) s.old.held.stream (message_of kind band (asks.part_of has_ctl ctl.now) (asks.part_of has_dat dat.now) number) result s.new.held.stream }
+{
+    let held = s.take(alloc);
+    let refusal = arrival_refusal(&held.stream, has_ctl, ctl, has_dat, dat);
+    s.put(held);
+    if let Some(refusal) = refusal {
+        return number_of(refusal.errno());
+    }
+    let Ok(ctl) = part_of(alloc, has_ctl, ctl) else {
+        return 63;
+    };
+    let Ok(dat) = part_of(alloc, has_dat, dat) else {
+        drop(ctl);
+        return 63;
+    };
+    let message = message_of(kind, band, ctl, dat, number);
+    hand_in(alloc, s, message)
 }

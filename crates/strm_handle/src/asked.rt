@@ -1,11 +1,15 @@
 //! What the arguments of a call ask for.
-ghost use Rattle.std.specs.Prelude.{◌≡◌, [], Ok, IfOk};
+ghost use Rattle.std.specs.Prelude.{◌≡◌, true, [], Ok, IfOk};
 ghost use Rattle.strm_call.specs.declared.request.Request.TheVariants as Requests;
+ghost use Rattle.strm_abi.specs.Numbers.{end_of};
 ghost use Rattle.strm_handle.specs.Asked as asks;
+ghost use Rattle.strm_handle.specs.Judged.{IsMade};
 
 use crate::codes::{get_flag_of, priority_of, put_flag_of, wanted_of};
+use crate::handle::Handle;
+use crate::judged::{find_refusal, putmsg_refusal, putpmsg_refusal, str_refusal, write_refusal};
 use std::alloc::Global;
-use strm_abi::{mode_of, prot_of, sides_of};
+use strm_abi::{end_of, mode_of, prot_of, sides_of};
 use strm_call::{BoxedParts, Part, Refusal, Request};
 use strm_module::{Boxed, Instance, Kind, MOST_SPLIT, Plain, Shape};
 use strm_msg::{Bytes, NoMem};
@@ -57,29 +61,46 @@ fn parts_of(
     BoxedParts::new(alloc, ctl, dat)
 }
 
-/// The putmsg of these arguments.
+/// The putmsg of these arguments at an end of an open stream, or what is told in its place: parts are copied where nothing else
+/// refuses it.
 pub fn putmsg_of(
     alloc: Global,
+    s: &mut Handle,
+    end: u8,
     has_ctl: bool,
     ctl: &[u8],
     has_dat: bool,
     dat: &[u8],
     flags: u32,
 ) -> Asked
-    ensures { asks.IsMade (asks.putmsg_of has_ctl ctl.now has_dat dat.now flags) result }
+    requires { s.old.is_open ≡ true }
+    ensures open { s.new.is_open ≡ true }
+    ensures same { s.new.held ≡ s.old.held }
+    ensures made { IsMade s.old.held.stream (end_of end) (asks.putmsg_of has_ctl ctl.now has_dat dat.now flags) result }
 {
     let Some(flag) = priority_of(flags) else {
         return Err(Refusal::Invalid);
     };
+    let Some(end) = end_of(end) else {
+        return Err(Refusal::Closed);
+    };
+    let held = s.take(alloc);
+    let refusal = putmsg_refusal(alloc, &held.stream, end, has_ctl, ctl, has_dat, dat, flag);
+    s.put(held);
+    if let Some(refusal) = refusal {
+        return Err(refusal);
+    }
     match parts_of(alloc, has_ctl, ctl, has_dat, dat) {
         Ok(parts) => Ok(Request::Putmsg { flag, parts }),
         Err(_) => Err(Refusal::NoMemory),
     }
 }
 
-/// The putpmsg of these arguments.
+/// The putpmsg of these arguments, as `putmsg_of`.
 pub fn putpmsg_of(
     alloc: Global,
+    s: &mut Handle,
+    end: u8,
     has_ctl: bool,
     ctl: &[u8],
     has_dat: bool,
@@ -87,7 +108,10 @@ pub fn putpmsg_of(
     band: u32,
     flags: u32,
 ) -> Asked
-    ensures { asks.IsMade (asks.putpmsg_of has_ctl ctl.now has_dat dat.now band flags) result }
+    requires { s.old.is_open ≡ true }
+    ensures open { s.new.is_open ≡ true }
+    ensures same { s.new.held ≡ s.old.held }
+    ensures made { IsMade s.old.held.stream (end_of end) (asks.putpmsg_of has_ctl ctl.now has_dat dat.now band flags) result }
 {
     let Some(flag) = put_flag_of(flags) else {
         return Err(Refusal::Invalid);
@@ -95,6 +119,16 @@ pub fn putpmsg_of(
     let Some(band) = band_of(band) else {
         return Err(Refusal::Invalid);
     };
+    let Some(end) = end_of(end) else {
+        return Err(Refusal::Closed);
+    };
+    let held = s.take(alloc);
+    let stream = &held.stream;
+    let refusal = putpmsg_refusal(alloc, stream, end, has_ctl, ctl, has_dat, dat, band, flag);
+    s.put(held);
+    if let Some(refusal) = refusal {
+        return Err(refusal);
+    }
     match parts_of(alloc, has_ctl, ctl, has_dat, dat) {
         Ok(parts) => Ok(Request::Putpmsg { band, flag, parts }),
         Err(_) => Err(Refusal::NoMemory),
@@ -163,34 +197,75 @@ pub fn read_of(buffer: &[u8]) -> Asked
     })
 }
 
-/// The write of these bytes.
-pub fn write_of(alloc: Global, bytes: &[u8]) -> Asked
-    ensures { asks.IsMade (Ok (Requests.Write bytes.now)) result }
+/// The write of these bytes at an end of an open stream, or what is told in its place, as `putmsg_of`.
+pub fn write_of(alloc: Global, s: &mut Handle, end: u8, bytes: &[u8]) -> Asked
+    requires { s.old.is_open ≡ true }
+    ensures open { s.new.is_open ≡ true }
+    ensures same { s.new.held ≡ s.old.held }
+    ensures made { IsMade s.old.held.stream (end_of end) (Ok (Requests.Write bytes.now)) result }
 {
+    let Some(end) = end_of(end) else {
+        return Err(Refusal::Closed);
+    };
+    let held = s.take(alloc);
+    let refusal = write_refusal(alloc, &held.stream, end, bytes);
+    s.put(held);
+    if let Some(refusal) = refusal {
+        return Err(refusal);
+    }
     match Bytes::from_slice(alloc, bytes) {
         Ok(dat) => Ok(Request::Write { dat }),
         Err(_) => Err(Refusal::NoMemory),
     }
 }
 
-/// The find of this name.
-pub fn find_of(alloc: Global, name: &[u8]) -> Asked
-    ensures { asks.IsMade (Ok (Requests.Find name.now)) result }
+/// The find of this name, as `putmsg_of`.
+pub fn find_of(alloc: Global, s: &mut Handle, end: u8, name: &[u8]) -> Asked
+    requires { s.old.is_open ≡ true }
+    ensures open { s.new.is_open ≡ true }
+    ensures same { s.new.held ≡ s.old.held }
+    ensures made { IsMade s.old.held.stream (end_of end) (Ok (Requests.Find name.now)) result }
 {
+    let Some(end) = end_of(end) else {
+        return Err(Refusal::Closed);
+    };
+    let held = s.take(alloc);
+    let refusal = find_refusal(&held.stream, end, name);
+    s.put(held);
+    if let Some(refusal) = refusal {
+        return Err(refusal);
+    }
     match Bytes::from_slice(alloc, name) {
         Ok(name) => Ok(Request::Find { name }),
         Err(_) => Err(Refusal::NoMemory),
     }
 }
 
-/// The ioctl of this command and these data.
-pub fn str_of(alloc: Global, cmd: u32, has_dat: bool, dat: &[u8]) -> Asked
-    ensures { asks.IsMade (Ok (Requests.Str cmd (asks.part_of has_dat dat.now))) result }
+/// A copy of the data of an ioctl, if it has any, in a box. Refused for want of memory alone.
+fn data_of(alloc: Global, has: bool, bytes: &[u8]) -> Result<Part, NoMem>
+    ensures { IfOk result (λ part. part ≡ asks.part_of has bytes.now) }
 {
-    let Ok(dat) = part_of(alloc, has_dat, dat) else {
-        return Err(Refusal::NoMemory);
+    let bytes = part_of(alloc, has, bytes)?;
+    Part::new(alloc, bytes)
+}
+
+/// The ioctl of this command and these data, as `putmsg_of`.
+pub fn str_of(alloc: Global, s: &mut Handle, end: u8, cmd: u32, has_dat: bool, dat: &[u8]) -> Asked
+    requires { s.old.is_open ≡ true }
+    ensures open { s.new.is_open ≡ true }
+    ensures same { s.new.held ≡ s.old.held }
+    ensures made { IsMade s.old.held.stream (end_of end) (Ok (Requests.Str cmd (asks.part_of has_dat dat.now))) result }
+{
+    let Some(end) = end_of(end) else {
+        return Err(Refusal::Closed);
     };
-    match Part::new(alloc, dat) {
+    let held = s.take(alloc);
+    let refusal = str_refusal(&held.stream, end, cmd, has_dat, dat);
+    s.put(held);
+    if let Some(refusal) = refusal {
+        return Err(refusal);
+    }
+    match data_of(alloc, has_dat, dat) {
         Ok(dat) => Ok(Request::Str { cmd, dat }),
         Err(_) => Err(Refusal::NoMemory),
     }
@@ -279,15 +354,20 @@ pub fn marks_of(hi: u32, lo: u32) -> Option<(u32, u32)>
     if hi == 0 { None } else { Some((hi, lo)) }
 }
 
-/// The push of a module of this name, these marks and this kind.
+/// The push of a module of this name, these marks and this kind, as `putmsg_of`.
 pub fn push_of(
     alloc: Global,
+    s: &mut Handle,
+    end: u8,
     name: &[u8],
     rd: Option<(u32, u32)>,
     wr: Option<(u32, u32)>,
     kind: Option<Kind>,
 ) -> Asked
-    ensures { asks.IsMade (asks.push_of name.now rd wr kind) result }
+    requires { s.old.is_open ≡ true }
+    ensures open { s.new.is_open ≡ true }
+    ensures same { s.new.held ≡ s.old.held }
+    ensures made { IsMade s.old.held.stream (end_of end) (asks.push_of name.now rd wr kind) result }
 {
     let Some(kind) = kind else {
         return Err(Refusal::Invalid);
@@ -295,6 +375,15 @@ pub fn push_of(
     let Ok(shape) = Shape::new(0, name, rd, wr, kind) else {
         return Err(Refusal::Invalid);
     };
+    let Some(end) = end_of(end) else {
+        return Err(Refusal::Closed);
+    };
+    let held = s.take(alloc);
+    let refusal = held.stream.push_refusal(end);
+    s.put(held);
+    if let Some(refusal) = refusal {
+        return Err(refusal);
+    }
     match Boxed::new(alloc, Instance::new(shape, Plain)) {
         Ok(instance) => Ok(Request::Push { instance }),
         Err(_) => Err(Refusal::NoMemory),

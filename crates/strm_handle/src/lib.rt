@@ -8,14 +8,15 @@ mod calls;
 mod codes;
 mod handle;
 mod held;
+mod judged;
 mod opening;
 mod parts;
 mod told;
 
-pub use arrival::hand_in;
+pub use arrival::arrive;
 pub use asked::{
-    Asked, find_of, flush_of, flushband_of, getmsg_of, getpmsg_of, kind_of, marks_of, part_of,
-    peek_of, push_of, putmsg_of, putpmsg_of, read_of, setread_of, str_of, write_of,
+    Asked, find_of, flush_of, flushband_of, getmsg_of, getpmsg_of, kind_of, marks_of, peek_of,
+    push_of, putmsg_of, putpmsg_of, read_of, setread_of, str_of, write_of,
 };
 pub use calls::{call, call_for_name, call_for_value, call_for_values, call_taking};
 pub use codes::driver_of;

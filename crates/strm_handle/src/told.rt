@@ -18,7 +18,7 @@ pub struct Got {
     pub ctl_len: i32,
     /// The length of data, -1 for none.
     pub dat_len: i32,
-    /// 1, and 0 where nothing was found.
+    /// 1, and 0 where nothing was found; of an ioctl what has answered it: STRM_ACK, STRM_NAK or STRM_TIMEOUT.
     pub found: i32,
     /// RS_HIPRI or 0; of getpmsg MSG_HIPRI or MSG_BAND.
     pub flags: i32,
@@ -65,7 +65,7 @@ fn received(flag: Received) -> (i32, i32)
     }
 }
 
-/// What an ioctl gave.
+/// What an ioctl gave, and what has answered it.
 fn tell_ack(answer: &Acknowledged, dat: &mut [u8]) -> Got
     ensures bytes { dat.new ≡ filled_if (dat_of (Replies.Str answer.now)) dat.old }
     ensures told { result ≡ got_of (Replies.Str answer.now) }
@@ -75,8 +75,8 @@ fn tell_ack(answer: &Acknowledged, dat: &mut [u8]) -> Got
             rval: *rval,
             ..lengths(-1, fill_part(dat, part.as_ref()), 0)
         },
-        Acknowledged::Nak { .. } => nothing(0),
-        Acknowledged::Timeout => nothing(0),
+        Acknowledged::Nak { .. } => nothing(2),
+        Acknowledged::Timeout => nothing(3),
     }
 }
 
@@ -119,8 +119,8 @@ fn tell(reply: &Reply, ctl: &mut [u8], dat: &mut [u8]) -> Got
         }
         Reply::Peek { found } => match found {
             Some(seen) => lengths(
-                fill_part(ctl, seen.ctl.as_bytes()),
-                fill_part(dat, seen.dat.as_bytes()),
+                fill_part(ctl, seen.ctl()),
+                fill_part(dat, seen.dat()),
                 priority_number(seen.flag),
             ),
             None => nothing(0),

@@ -80,7 +80,7 @@ fn error_refusal(looks: (bool, bool), rd: Option<Errno>, wr: Option<Errno>) -> O
 }
 
 /// What refuses every call but a close: a closed end, a broken stream, an error that came up and that the call looks at.
-fn common_refusal<M: ModuleOf>(
+pub(crate) fn common_refusal<M: ModuleOf>(
     chain: &Chain<M>,
     end: End,
     request: &Request<Boxed<M>>,

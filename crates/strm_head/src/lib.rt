@@ -6,6 +6,7 @@
 
 mod answered;
 mod arriving;
+mod asking;
 mod beginning;
 mod call;
 mod fault;
@@ -18,8 +19,7 @@ pub use fault::NewFault;
 pub use outcome::{Arrived, Outcome};
 pub use stream::Stream;
 pub use strm_call::{
-    Acknowledged, Answer, BoxedParts, Event, GetFlag, MAX_CONTROL, MAX_DATA, More, Name, NameList,
-    Part, Parts, Peeked, Priority, PutFlag, Received, Refusal, Replied, Reply, Request, Twins,
-    Wanted,
+    Acknowledged, Answer, Event, GetFlag, MAX_CONTROL, MAX_DATA, More, Name, NameList, Peeked,
+    Priority, PutFlag, Received, Refusal, Replied, Reply, Request, Twins, Wanted,
 };
 pub use strm_chain::{Driver, MOST_MODULES, Moves, Place};

@@ -5,8 +5,10 @@ ghost use Rattle.strm_qpair.specs.End.{pair_at};
 ghost use Rattle.strm_ends.specs.Image.{end_of, fresh};
 ghost use Rattle.strm_call.specs.Setup.{are_marks};
 ghost use Rattle.strm_ioctl.specs.Names.{names_of};
+ghost use Rattle.strm_module.specs.declared.shape.Shape.{Shape};
+ghost use Rattle.strm_call.specs.declared.request.Request.TheVariants as Requests;
 ghost use Rattle.strm_call.specs.declared.event.Event.TheVariants as Events;
-ghost use Rattle.strm_head.specs.Begin.{begun_of, takes_no_memory, back_of, out_of, wants_memory};
+ghost use Rattle.strm_head.specs.Begin.{refusal_of, begun_of, takes_no_memory, back_of, out_of, wants_memory};
 ghost use Rattle.strm_module.specs.Calm.{IsCalm};
 ghost use Rattle.strm_head.specs.Answered.{IsLooked, IsBounded};
 ghost use Rattle.strm_head.specs.Step.{Step};
@@ -14,13 +16,14 @@ ghost use Rattle.strm_head.specs.Arrive.{Arrives};
 
 use crate::answered::Answered;
 use crate::arriving::arrive;
-use crate::call::answer;
+use crate::asking::{refusal_of_push, refusal_of_putmsg, refusal_of_putpmsg};
+use crate::call::{answer, first_refusal};
 use crate::fault::NewFault;
 use crate::outcome::{Arrived, Outcome};
 use arrayvec::ArrayVec;
 use std::alloc::Global;
 use std::marker::Model;
-use strm_call::{Name, Replied, Request};
+use strm_call::{Name, Parts, Priority, PutFlag, Refusal, Replied, Request};
 use strm_chain::{Chain, Driver, MOST_MODULES};
 use strm_ioctl::names_of;
 use strm_module::{Boxed, ModuleOf, Shape};
@@ -93,6 +96,55 @@ impl<M: ModuleOf> Stream<M> {
         ensures { result ≡ (end_of self.now end).is_open }
     {
         self.chain.is_open(end)
+    }
+
+    /// Whether memory ran out after a change, so that every later call but a close is refused.
+    pub fn is_broken(&self) -> bool
+        ensures { result ≡ self.now.broken }
+    {
+        self.chain.is_broken()
+    }
+
+    /// The driver, at the bottom.
+    pub fn driver(&self) -> Driver
+        ensures { result ≡ self.now.driver }
+    {
+        self.chain.driver()
+    }
+
+    /// What would refuse a call if it were made now: the first refusal that holds, but for want of
+    /// memory. Nothing is done, and no memory is taken.
+    pub fn refusal(&self, end: End, request: &Request<Boxed<M>>) -> Option<Refusal>
+        ensures { result ≡ refusal_of self.now end request.now }
+    {
+        first_refusal(&self.chain, end, request)
+    }
+
+    /// What would refuse a putmsg of these parts, as `refusal`. It looks at their lengths alone.
+    pub fn putmsg_refusal(&self, end: End, parts: &Parts, flag: Priority) -> Option<Refusal>
+        ensures { result ≡ refusal_of self.now end (Requests.Putmsg flag parts.now) }
+    {
+        refusal_of_putmsg(&self.chain, end, parts, flag)
+    }
+
+    /// What would refuse a putpmsg of these parts, as `putmsg_refusal`.
+    pub fn putpmsg_refusal(
+        &self,
+        end: End,
+        parts: &Parts,
+        band: u8,
+        flag: PutFlag,
+    ) -> Option<Refusal>
+        ensures { result ≡ refusal_of self.now end (Requests.Putpmsg band flag parts.now) }
+    {
+        refusal_of_putpmsg(&self.chain, end, parts, band, flag)
+    }
+
+    /// What would refuse a push of any module, as `refusal`.
+    pub fn push_refusal(&self, end: End) -> Option<Refusal>
+        ensures { (shape : Shape M.Kind) → result ≡ refusal_of self.now end (Requests.Push shape) }
+    {
+        refusal_of_push(&self.chain, end)
     }
 
     /// The shape of a module, counted from 1 for the topmost; `None` where there is none. A stream that

@@ -7,7 +7,7 @@ use std::sync::Wait;
 use std::thread::Threads;
 use strm_head::{Driver, Outcome, Request, Stream};
 use strm_module::Boxed;
-use strm_msg::{Bytes, End, Message};
+use strm_msg::{End, Message};
 use strm_play::play;
 use strm_script::print;
 

@@ -27,7 +27,7 @@ use Rattle.strm_handle.specs.Codes.{code_of}
 use Rattle.strm_handle.specs.Asked.{Asked, ask, push_if, push_of, parts_of}
 use Rattle.strm_handle.specs.Judged.{refused_at, IsMade}
 use Rattle.strm_handle.specs.Fits.{Fits}
-use Rattle.strm_handle.specs.Call.{IsStep, Answers, admitted, Calls, LacksMemory, CopiesAndCalls}
+use Rattle.strm_handle.specs.Call.{IsStep, Answers, admitted, Calls, CopiesAndCalls}
 
 -- the step of a request that is refused with the first refusal that holds
 refused_step : (old : Image Kind) (e : End) (request : Request (Shape Kind)) (refusal : Refusal) → IsRefusedBy (refusal_of old e request) request refusal → (takes_no_memory request ≡ true → is_no_memory refusal ≡ false) → Fits request (Refused refusal) → IsStep old e request (Refused refusal) old

@@ -1,5 +1,5 @@
 -- The seats and feeders of a run when its threads have ended, and how its streams end.
-use Rattle.std.specs.Prelude.{◌≡◌, ◌==◌, ℕ, ◌+◌, ◌<◌, Bool, true, false, if◌then◌else◌, Option, Some, None, Result, Ok, Err, List, [], All, get_or, length, Vec, ⊤}
+use Rattle.std.specs.Prelude.{◌≡◌, ◌==◌, ℕ, ◌+◌, ◌<◌, Bool, false, if◌then◌else◌, Option, Some, None, Result, Ok, Err, List, [], All, get_or, length, Vec, ⊤}
 use Rattle.std.specs.Global.{Global}
 use Rattle.std.specs.List.{list_any}
 use Rattle.strm_msg.specs.Message.{Msg}

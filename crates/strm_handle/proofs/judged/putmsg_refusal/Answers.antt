@@ -1,4 +1,4 @@
-use Rattle.std.proofs.Common.{Bool, List, Option, ℕ, ap₂, ◌∙◌}
+use Rattle.std.proofs.Common.{Bool, Option, ap₂, ◌∙◌}
 use Rattle.strm_msg.specs.Message.{Part}
 use Rattle.strm_call.specs.declared.refusal.Refusal.{Refusal}
 use Rattle.strm_call.specs.declared.refusal.Refusal.TheVariants.{TooLong}

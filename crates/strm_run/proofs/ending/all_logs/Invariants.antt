@@ -1,4 +1,4 @@
-use Rattle.std.proofs.Common.{◌≡◌, ◌++◌, true, Ok, All, IfErr, length, map}
+use Rattle.std.proofs.Common.{◌≡◌, ◌++◌, Ok, All, IfErr, length, map}
 use Rattle.std.specs.Vec.Iter.{into_iter_items, into_iter_len}
 use Rattle.strm_run.specs.Inside.Ending.{IsLate}
 use Rattle.strm_run.proofs.ending.all_logs.Given as goal

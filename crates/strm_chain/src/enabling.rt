@@ -1,6 +1,7 @@
 //! Which places are enabled, and which wait for a queue to drain.
 ghost use Rattle.std.specs.Prelude.{◌≡◌, ◌+◌, ◌||◌, ◌==◌, ◌<◌, ◌≤◌, ◌≢◌, [], IfOk, IfSome, IfNone, true, false, length, None, slice_get, slice_set, Some, is_some};
-ghost use Rattle.strm_queue.specs.Run.{AreOnce, one_more, with_place};
+ghost use Rattle.strm_msg.specs.Count.{one_more};
+ghost use Rattle.strm_queue.specs.Run.{AreOnce, with_place};
 ghost use Rattle.strm_ends.specs.Flow.{may, is_due};
 ghost use Rattle.strm_ends.specs.Held.{held_by, DiffersIn, AreOrdinary};
 ghost use Rattle.strm_ends.specs.Next.{next_of};
@@ -12,6 +13,7 @@ ghost use Rattle.strm_chain.specs.Number.{number_of, place_number, place_of};
 ghost use Rattle.strm_ends.specs.Image.{Image};
 ghost use Rattle.strm_chain.specs.Enabled.{is_enabled, IsReady, IsReadyBut, ArePlaces, Awaits};
 
+use crate::moves::Looks;
 use crate::number::{QUEUES, number_of, place_number, place_of};
 use std::alloc::Global;
 use std::marker::Model;
@@ -54,10 +56,10 @@ impl Enabling {
     }
 
     /// How many places were looked at since the count began, u64::MAX if more.
-    pub(crate) fn looks(&self) -> u64
+    pub(crate) fn looks(&self) -> Looks
         ensures { result ≡ self.now.run.given }
     {
-        self.run.given()
+        Looks::given(self.run.given())
     }
 
     /// Counts looks from 0 again.

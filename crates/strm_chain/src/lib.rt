@@ -16,7 +16,7 @@ mod spot;
 pub use chain::{Chain, head_sends_once};
 pub use delivery::deliver;
 pub use fault::ChainFault;
-pub use moves::{Moves, Settled};
+pub use moves::{Looks, Moves, Settled};
 pub use spot::Spot;
 pub use strm_ends::Place;
 pub use strm_module::{Driver, MOST_MODULES};

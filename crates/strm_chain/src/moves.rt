@@ -173,13 +173,52 @@ impl Moves {
     }
 }
 
+/// How many places service looked at, each taken out of the run queue. A contract sees the number.
+///
+/// Nobody but a chain counts looks: what a record of an event has of them is what the chain's run queue has given, or none.
+#[derive(Debug, Drop)]
+pub struct Looks {
+    count: u64,
+}
+
+impl Model for Looks {
+    ghost use Rattle.std.specs.Prelude.{ℕ};
+
+    ghost Value = { ℕ };
+
+    ghost view = { λ l. l.count };
+}
+
+impl Looks {
+    /// No place was looked at.
+    pub fn none() -> Looks
+        ensures { result ≡ 0 }
+    {
+        Looks { count: 0 }
+    }
+
+    /// So many places, as a run queue has given them.
+    pub(crate) fn given(count: u64) -> Looks
+        ensures { result ≡ count }
+    {
+        Looks { count }
+    }
+
+    /// How many places: u64::MAX if more.
+    pub fn count(&self) -> u64
+        ensures { result ≡ self.now }
+    {
+        self.count
+    }
+}
+
 /// What a service did.
 #[derive(Debug, Drop)]
 pub struct Settled {
     /// The places that moved, in order.
     pub moves: Moves,
-    /// How many places were looked at, each taken out of the run queue: u64::MAX if more.
-    pub looks: u64,
+    /// How many places were looked at.
+    pub looks: Looks,
 }
 
 impl Settled {
@@ -190,7 +229,7 @@ impl Settled {
     {
         Settled {
             moves: Moves::new(),
-            looks: 0,
+            looks: Looks::none(),
         }
     }
 }

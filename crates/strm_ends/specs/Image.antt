@@ -1,11 +1,11 @@
 -- What a contract sees of the ends of a stream (Programmer's Guide: STREAMS, "Overview of STREAMS").
-use Rattle.std.specs.Prelude.{ℕ, Bool, true, false, List, length, if◌then◌else◌}
+use Rattle.std.specs.Prelude.{ℕ, Bool, false, List, length, if◌then◌else◌}
 use Rattle.strm_msg.specs.Message.{Msg}
 use Rattle.strm_msg.specs.declared.words.End.{End}
 use Rattle.strm_msg.specs.declared.words.End.TheVariants.{A, B}
 use Rattle.strm_msg.specs.Marks.{WaterMarks}
 use Rattle.strm_module.specs.declared.driver.Driver.{Driver}
-use Rattle.strm_module.specs.declared.driver.Driver.TheVariants.{Echo, Loop, Line}
+use Rattle.strm_module.specs.Driver.{has_end}
 use Rattle.strm_qpair.specs.End.{EndState, KeepsRoom, in_head, in_state, in_drv}
 use Rattle.strm_qpair.specs.Change.{fresh_end}
 use Rattle.strm_qpair.specs.Driver.{DriverStep, consumes, driver_at}
@@ -49,21 +49,6 @@ end_of image B = image.b
 abbrev pub with_end : {K : Type 0} → Image K → End → EndState K → Image K
 with_end image A e = record image { a = e }
 with_end image B e = record image { b = e }
-
--- the ends of a driver: a loop has two
-abbrev pub has_end : Driver → End → Bool
-has_end Echo A = true
-has_end Echo B = false
-has_end Line A = true
-has_end Line B = false
-has_end Loop e = true
-
--- the end up whose read side a driver sends what came down an end
-abbrev pub partner : Driver → End → End
-partner Echo e = e
-partner Line e = e
-partner Loop A = B
-partner Loop B = A
 
 -- the driver, from above; at an end that it lacks everything is dropped
 abbrev pub driver_does : {K : Type 0} → Driver → End → EndState K → Msg → DriverStep K

@@ -7,7 +7,7 @@ use crate::header::Header;
 use crate::service::Service;
 use std::marker::Model;
 use strm_call::{Answer, Event};
-use strm_chain::Moves;
+use strm_chain::{Looks, Moves};
 use strm_module::BoxedShape;
 use strm_msg::End;
 
@@ -57,7 +57,7 @@ impl<K> Entry<K> {
         ensures { result ≡ record { who = who; end = end; event = event; answer = answer; moves = []; looks = 0; out = record { items = [] } } }
     {
         Entry {
-            header: Header::new(who, end, Service::Looks(0)),
+            header: Header::new(who, end, Service::Looks(Looks::none())),
             event,
             answer,
             moves: Moves::new(),

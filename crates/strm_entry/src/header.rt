@@ -62,7 +62,7 @@ impl Header {
                 end,
                 is_line,
                 caller,
-                looks,
+                looks: looks.count(),
             },
             Service::Out(taken_out) => Header::Taking {
                 end,
@@ -106,7 +106,7 @@ impl Header {
     {
         match self {
             Header::Plain { looks, .. } => *looks,
-            Header::Taking { taken_out, .. } => taken_out.looks,
+            Header::Taking { taken_out, .. } => taken_out.looks.count(),
         }
     }
 

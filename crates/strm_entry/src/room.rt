@@ -15,7 +15,7 @@ use arrayvec::ArrayVec;
 use std::alloc::Global;
 use std::marker::Model;
 use strm_call::{Answer, Call, Event, Reply, copy_request};
-use strm_chain::Moves;
+use strm_chain::{Looks, Moves};
 use strm_module::{Boxed, MOST_MODULES, ModuleOf};
 use strm_msg::{BoxedMessage, End, Message, NoMem};
 use strm_once::Cell;
@@ -87,7 +87,7 @@ pub fn room_for_arrival<K: Drop>(alloc: Global, m: &Message) -> Result<Box<Entry
 }
 
 /// The entry of a message that came in, which was taken, and took no module out. Takes no memory.
-pub fn taken<K: Drop>(mut entry: Box<Entry<K>>, moves: Moves, looks: u64) -> Kept<K>
+pub fn taken<K: Drop>(mut entry: Box<Entry<K>>, moves: Moves, looks: Looks) -> Kept<K>
     ensures { result ≡ record entry.value { answer = Done Replies.Line; moves = moves; looks = looks; out = record { items = [] } } }
 {
     entry.fill(Answer::Done(Reply::Line), moves, Service::Looks(looks));
@@ -103,7 +103,7 @@ impl<K: Drop> Room<K> {
         cell: EntryCell<K>,
         answer: Answer,
         moves: Moves,
-        looks: u64,
+        looks: Looks,
         back: &ArrayVec<Option<Boxed<M>>, MOST_MODULES>,
     ) -> (Kept<K>, Option<Receipt<K>>)
         requires { may_take_out self.event ≡ false → out_in answer back.now.items ≡ [] }

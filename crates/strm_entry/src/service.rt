@@ -7,6 +7,7 @@ ghost use Rattle.strm_entry.specs.Inside.{told_looks, told_out};
 use arrayvec::ArrayVec;
 use std::alloc::Global;
 use strm_call::{Answer, Request};
+use strm_chain::Looks;
 use strm_module::{Boxed, MOST_MODULES, ModuleOf};
 use strm_msg::NoMem;
 
@@ -16,7 +17,7 @@ type AllSerials = ArrayVec<u64, MOST_MODULES>;
 /// What service did after a call that may take modules out, and the serials of those that it took out, topmost first.
 #[derive(Drop)]
 pub(crate) struct TakenOut {
-    pub(crate) looks: u64,
+    pub(crate) looks: Looks,
     pub(crate) out: AllSerials,
 }
 
@@ -24,7 +25,7 @@ pub(crate) struct TakenOut {
 #[derive(Drop)]
 pub(crate) enum Service {
     /// So many places. Nothing was taken out.
-    Looks(u64),
+    Looks(Looks),
     /// Of a call that may take modules out.
     Out(Box<TakenOut>),
 }
@@ -33,7 +34,7 @@ impl Service {
     /// What is told of a call after which so many places were looked at, with the serials of the modules that it has taken out
     /// (`taken_out`), in room that was found for them before, unless there are none. Takes no memory.
     pub(crate) fn new<M: ModuleOf>(
-        looks: u64,
+        looks: Looks,
         answer: &Answer,
         back: &ArrayVec<Option<Boxed<M>>, MOST_MODULES>,
         room: Option<Box<TakenOut>>,
@@ -76,7 +77,7 @@ pub(crate) fn room_for_taken_out<P>(
         return Ok(None);
     }
     let nothing = TakenOut {
-        looks: 0,
+        looks: Looks::none(),
         out: ArrayVec::new(),
     };
     match Box::new(alloc, nothing) {

@@ -3,7 +3,7 @@ use Rattle.std.proofs.Common.{◌≡◌, ℕ, suc, ◌+◌, ◌-◌, ◌<◌, �
 use Rattle.std.proofs.Math.Nat.{min-eq_left}
 use Rattle.std.proofs.lemmas.List.{length_push, length-append}
 use Rattle.strm_msg.specs.Message.{Msg}
-use Rattle.strm_queue.specs.Run.{one_more}
+use Rattle.strm_msg.specs.Count.{one_more}
 
 -- the message behind those so far
 seam : (so_far rest : List Msg) (m : Msg) → slice_get (so_far ++ m ∷ rest) (length so_far) ≡ Some m

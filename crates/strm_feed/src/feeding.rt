@@ -1,7 +1,7 @@
 //! A feeder that offers its feed.
 ghost use Rattle.std.specs.Prelude.{◌≡◌, ◌↔◌, ◌<◌, true, false, [], ◌∷◌, ◌++◌, length, slice_get, All, Some, IfSome};
 ghost use Rattle.strm_msg.specs.Kind.{is_from_line};
-ghost use Rattle.strm_queue.specs.Run.{one_more};
+ghost use Rattle.strm_msg.specs.Count.{one_more};
 ghost use Rattle.strm_job.specs.Scripts.{feed_of};
 ghost use Rattle.strm_feed.specs.Feeding.{HasOffered, IsFeeding};
 

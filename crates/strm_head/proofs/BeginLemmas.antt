@@ -1,5 +1,6 @@
 -- What a call that is not refused may count on when it begins.
-use Rattle.std.proofs.Common.{◌≡◌, not, Bool, true, false, Option, Some, None, List, ◌∷◌, Result, Ok, Err, IfOk, OnOk, IfErr, OnErr, refl, sym, ◌∙◌, rules}
+use Rattle.std.proofs.Common.{◌≡◌, not, Bool, true, false, Option, Some, None, List, ◌∷◌, Result, Ok, Err, IfOk, IsOk, OnOk, IfErr, OnErr, refl, sym, ◌∙◌, rules}
+use Rattle.std.proofs.lemmas.Bool.{false_from_ne_true}
 use Rattle.std.specs.Option.{option_or}
 use Rattle.strm_msg.specs.declared.words.End.{End}
 use Rattle.strm_module.specs.declared.shape.Shape.{Shape}
@@ -13,7 +14,7 @@ use Rattle.strm_call.specs.declared.refusal.Refusal.{Refusal}
 use Rattle.strm_call.specs.declared.refusal.Refusal.TheVariants.{Closed, Broken}
 use Rattle.strm_call.specs.Refusal.{first_that_holds}
 use Rattle.strm_call.specs.Request.{changes_no_queue}
-use Rattle.strm_head.specs.Begin.{refusal_of, begun_of, errors_at, common_refusals, own_refusals, takes_no_memory, can_lack_memory}
+use Rattle.strm_head.specs.Begin.{refusal_of, begun_of, errors_at, common_refusals, own_refusals, takes_no_memory_at, sends_nothing, can_lack_memory}
 use Rattle.strm_chain.specs.declared.fault.ChainFault.{ChainFault}
 use Rattle.strm_call.specs.declared.answer.Reply.{Reply}
 use Rattle.strm_chain.specs.Fault.{Fails}
@@ -59,6 +60,10 @@ pub own_none : {K : Type 0} (image : Image K) (e : End) (request : Request (Shap
 own_none image e Close h = refl
 own_none image e request h = own_of image e request h (λ same. cc)
 
+-- what is promised where something is none, and was not met
+is_given : (none : Bool) → (none ≡ true → false ≡ true) → none ≡ false
+is_given none met = false_from_ne_true none (λ is. let no : false ≡ true = met is in cc)
+
 -- a reply that is one without bytes, if there is one
 pub bare_reply : {X : Type 0} (r : Result Reply X) (reply : Reply) → IfOk r (λ it. it ≡ reply) → has_bytes reply ≡ false → IfOk r (λ it. has_bytes it ≡ false)
 bare_reply (Ok it) reply is bare = rw is bare
@@ -67,44 +72,49 @@ bare_reply (Err fault) reply is bare = tt
 -- for kinds of any meaning
 module _ {K : Type 0} (means : Meaning K) where
   -- a call that sends
-  pub sent_begins : (image : Image K) (e : End) (request : Request (Shape K)) (r : Result Reply ChainFault) (after : Image K) → IfOk r (λ reply. reply ≡ (begun_of means image e request).reply) → OnOk r (after ≡ (begun_of means image e request).image) → IfErr r (λ fault. Fails fault image (begun_of means image e request).image after) → takes_no_memory request ≡ false → can_lack_memory request ≡ true → changes_no_queue request ≡ false → image.broken ≡ false → Begins means image e request r after
-  sent_begins image e request (Ok reply) after same i f takes can changes whole = record { reply_is = same; image_is = i }
-  sent_begins image e request (Err fault) after same i f takes can changes whole = record {
+  pub sent_begins : (image : Image K) (e : End) (request : Request (Shape K)) (r : Result Reply ChainFault) (after : Image K) → IfOk r (λ reply. reply ≡ (begun_of means image e request).reply) → OnOk r (after ≡ (begun_of means image e request).image) → IfErr r (λ fault. Fails fault image (begun_of means image e request).image after) → (takes_no_memory_at image e request ≡ true → IsOk r) → (sends_nothing image e request ≡ true → IsOk r) → can_lack_memory request ≡ true → changes_no_queue request ≡ false → image.broken ≡ false → Begins means image e request r after
+  sent_begins image e request (Ok reply) after same i f takes sends can changes whole = record { reply_is = same; image_is = i }
+  sent_begins image e request (Err fault) after same i f takes sends can changes whole = record {
     fails = f;
-    takes = takes;
+    takes = is_given (takes_no_memory_at image e request) takes;
     refused = λ is. can;
     broken = λ is. changes;
+    sends = λ is. is_given (sends_nothing image e request) sends;
     whole = whole;
   }
 
   -- a call that sends, and whose reply is known before
-  pub done_begins : {X : Type 0} (image : Image K) (e : End) (request : Request (Shape K)) (r : Result X ChainFault) (reply : Reply) (after : Image K) → reply ≡ (begun_of means image e request).reply → OnOk r (after ≡ (begun_of means image e request).image) → IfErr r (λ fault. Fails fault image (begun_of means image e request).image after) → takes_no_memory request ≡ false → can_lack_memory request ≡ true → changes_no_queue request ≡ false → image.broken ≡ false → Begins means image e request (done_or r reply) after
-  done_begins image e request (Ok done) reply after same i f takes can changes whole = record { reply_is = same; image_is = i }
-  done_begins image e request (Err fault) reply after same i f takes can changes whole = record {
+  pub done_begins : {X : Type 0} (image : Image K) (e : End) (request : Request (Shape K)) (r : Result X ChainFault) (reply : Reply) (after : Image K) → reply ≡ (begun_of means image e request).reply → OnOk r (after ≡ (begun_of means image e request).image) → IfErr r (λ fault. Fails fault image (begun_of means image e request).image after) → takes_no_memory_at image e request ≡ false → sends_nothing image e request ≡ false → can_lack_memory request ≡ true → changes_no_queue request ≡ false → image.broken ≡ false → Begins means image e request (done_or r reply) after
+  done_begins image e request (Ok done) reply after same i f takes sends can changes whole = record { reply_is = same; image_is = i }
+  done_begins image e request (Err fault) reply after same i f takes sends can changes whole = record {
     fails = f;
     takes = takes;
     refused = λ is. can;
     broken = λ is. changes;
+    sends = λ is. sends;
     whole = whole;
   }
 
-  -- a call that takes what waits at the head, or shows it
-  pub taken_begins : {A X : Type 0} (image : Image K) (e : End) (request : Request (Shape K)) (says : A → Reply) (r : Result A X) (after : Image K) → IfOk r (λ made. says made ≡ (begun_of means image e request).reply) → OnOk r (after ≡ (begun_of means image e request).image) → OnErr r (after ≡ image) → takes_no_memory request ≡ false → can_lack_memory request ≡ true → image.broken ≡ false → Begins means image e request (taken_or (said says r)) after
+  -- a call that takes what waits at the head
+  pub taken_begins : {A X : Type 0} (image : Image K) (e : End) (request : Request (Shape K)) (says : A → Reply) (r : Result A X) (after : Image K) → IfOk r (λ made. says made ≡ (begun_of means image e request).reply) → OnOk r (after ≡ (begun_of means image e request).image) → OnErr r (after ≡ image) → (takes_no_memory_at image e request ≡ true → IsOk r) → can_lack_memory request ≡ true → image.broken ≡ false → Begins means image e request (taken_or (said says r)) after
   taken_begins image e request says (Ok made) after same i u takes can whole = record { reply_is = same; image_is = i }
   taken_begins image e request says (Err wanting) after same i u takes can whole = record {
     fails = u;
-    takes = takes;
+    takes = is_given (takes_no_memory_at image e request) takes;
     refused = λ is. can;
     broken = λ is. cc;
+    sends = λ is. cc;
     whole = whole;
   }
 
-  pub seen_begins : {X : Type 0} (image : Image K) (e : End) (request : Request (Shape K)) (shown twins : Result Reply X) → IfOk twins (λ reply. shown ≡ Ok reply) → IfOk shown (λ reply. reply ≡ (begun_of means image e request).reply) → image ≡ (begun_of means image e request).image → takes_no_memory request ≡ false → can_lack_memory request ≡ true → image.broken ≡ false → Begins means image e request (taken_or twins) image
+  -- a call that shows it
+  pub seen_begins : {X : Type 0} (image : Image K) (e : End) (request : Request (Shape K)) (shown twins : Result Reply X) → IfOk twins (λ reply. shown ≡ Ok reply) → IfOk shown (λ reply. reply ≡ (begun_of means image e request).reply) → image ≡ (begun_of means image e request).image → (takes_no_memory_at image e request ≡ true → IsOk twins) → can_lack_memory request ≡ true → image.broken ≡ false → Begins means image e request (taken_or twins) image
   seen_begins image e request shown (Ok reply) is same i takes can whole = record { reply_is = rw is at same; image_is = i }
   seen_begins image e request shown (Err wanting) is same i takes can whole = record {
     fails = refl;
-    takes = takes;
+    takes = is_given (takes_no_memory_at image e request) takes;
     refused = λ is. can;
     broken = λ is. cc;
+    sends = λ is. cc;
     whole = whole;
   }

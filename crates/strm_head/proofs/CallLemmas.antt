@@ -1,18 +1,19 @@
 -- From what the parts of a call promise to a step of the stream.
 use Rattle.std.specs.Option.{option_or}
-use Rattle.std.proofs.Common.{◌≡◌, ℕ, suc, zero, not, ◌&&◌, nat_le, length, Bool, true, false, Option, Some, None, List, [], ◌∷◌, refl, sym, ◌∙◌, ap, subst}
+use Rattle.std.specs.List.{list_all}
+use Rattle.std.proofs.lemmas.Bool.{and_parts}
+use Rattle.std.proofs.Common.{◌≡◌, ℕ, suc, zero, not, ◌&&◌, Bool, true, false, Option, Some, None, List, [], ◌∷◌, refl, sym, ◌∙◌, ap, subst}
 use Rattle.strm_msg.specs.declared.words.End.{End}
 use Rattle.strm_module.specs.Kinds.{Meaning}
 use Rattle.strm_module.specs.declared.shape.Shape.{Shape}
 use Rattle.strm_ends.specs.declared.place.Place.{Place}
 use Rattle.strm_ends.specs.Image.{Image, end_of}
+use Rattle.strm_ends.specs.Flow.{NoneMay}
 use Rattle.strm_chain.specs.Fault.{Breaks}
 use Rattle.strm_call.specs.declared.request.Request.{Request}
 use Rattle.strm_call.specs.declared.request.Request.TheVariants.{Putmsg, Putpmsg, Getmsg, Getpmsg, Read, Write, Push, Nread, Peek, SetRead, GetRead, Canput, Ckband, Getband, Pop, Look, Find, Str, Flush, FlushBand, Close}
 use Rattle.strm_call.specs.declared.request.Request.TheVariants as Requests
 use Rattle.strm_call.specs.declared.refusal.Refusal.{Refusal}
-use Rattle.strm_call.specs.declared.refusal.Refusal.TheVariants.{Closed, ReadError, WriteError, Invalid, NoMessage}
-use Rattle.strm_call.specs.declared.refusal.Refusal.TheVariants as Refusals
 use Rattle.strm_call.specs.Refusal.{first_that_holds}
 use Rattle.strm_call.specs.declared.answer.Reply.{Reply}
 use Rattle.strm_call.specs.declared.answer.Answer.{Answer}
@@ -21,13 +22,13 @@ use Rattle.strm_msg.specs.declared.errno.Errno.{Errno}
 use Rattle.strm_msg.specs.Message.{Msg}
 use Rattle.strm_call.specs.Begun.{Begun, begun, begun_ioctl, reply_after}
 use Rattle.strm_call.specs.Request.{changes_no_queue}
-use Rattle.strm_head.specs.Begin.{begun_of, refusal_of, awaits_answer, takes_no_memory, can_lack_memory, pushed_of, errors_looked_at, error_refusal, error_refusals, errors_at, common_refusals, own_refusals, handed_out, back_of, out_of, serials_of, wants_memory}
-use Rattle.strm_ioctl.specs.Ask.{is_empty}
-use Rattle.strm_module.specs.declared.shape.TheConstants.{LONGEST_NAME}
+use Rattle.strm_head.specs.Begin.{begun_of, refusal_of, awaits_answer, takes_no_memory_at, can_lack_memory, pushed_of, errors_looked_at, error_refusals, closed_refusals, common_refusals, own_refusals, handed_out, back_of, out_of, serials_of, is_no_memory, wants_memory, BreaksNone}
+use Rattle.strm_head.specs.Begins.{needs_no_service}
 use Rattle.strm_head.specs.Inside.{IsKept}
 use Rattle.strm_head.specs.Step.{Answers, Finishes, SettlesUnless, answered_if}
 use Rattle.strm_head.proofs.RefusalLemmas.{first_of_both, first_of_all}
-use Rattle.strm_head.proofs.KeptLemmas.{whole_of, quiet_begun, begun_opens}
+use Rattle.strm_head.proofs.KeptLemmas.{whole_of, begun_opens}
+use Rattle.strm_head.proofs.NothingLemmas.{unserved_whole, served_takes, ioctl_sends, unserved_begun}
 
 -- for kinds of any meaning
 module _ {K : Type 0} (means : Meaning K) where
@@ -133,36 +134,7 @@ module _ {K : Type 0} (means : Meaning K) where
   ioctl_of image e (FlushBand band r w) awaits = cc
   ioctl_of image e Close awaits = cc
 
-  ioctl_takes : (image : Image K) (e : End) (request : Request (Shape K)) → awaits_answer request ≡ true → takes_no_memory request ≡ false
-  ioctl_takes image e (Putmsg flag parts) awaits = cc
-  ioctl_takes image e (Putpmsg band flag parts) awaits = cc
-  ioctl_takes image e (Getmsg maxctl maxdat flag) awaits = cc
-  ioctl_takes image e (Getpmsg maxctl maxdat band flag) awaits = cc
-  ioctl_takes image e (Read zero) awaits = cc
-  ioctl_takes image e (Read (suc n)) awaits = cc
-  ioctl_takes image e (Write dat) awaits = cc
-  ioctl_takes image e (Push shape) awaits = cc
-  ioctl_takes image e Nread awaits = cc
-  ioctl_takes image e (Peek maxctl maxdat flag) awaits = cc
-  ioctl_takes image e (SetRead mode prot) awaits = cc
-  ioctl_takes image e GetRead awaits = cc
-  ioctl_takes image e (Canput band) awaits = cc
-  ioctl_takes image e (Ckband band) awaits = cc
-  ioctl_takes image e Getband awaits = cc
-  ioctl_takes image e Pop awaits = cc
-  ioctl_takes image e Look awaits = cc
-  ioctl_takes image e Requests.List awaits = cc
-  ioctl_takes image e (Find name) awaits = cc
-  ioctl_takes image e (Str cmd dat) awaits = refl
-  ioctl_takes image e (Flush r w) awaits = cc
-  ioctl_takes image e (FlushBand band r w) awaits = cc
-  ioctl_takes image e Close awaits = cc
-
-  -- a call that changes no queue, and one that awaits an answer, finds a stream that is not broken
-  quiet_whole : (image : Image K) (e : End) (request : Request (Shape K)) → refusal_of image e request ≡ None → changes_no_queue request ≡ true → image.broken ≡ false
-  quiet_whole image e request unrefused quiet =
-      whole_of image e request unrefused (λ is. let no : false ≡ true = sym (ap (λ r. changes_no_queue r) is) ∙ quiet in cc)
-
+  -- a call that awaits an answer finds a stream that is not broken
   pub ioctl_whole : (image : Image K) (e : End) (request : Request (Shape K)) (new : Image K) → refusal_of image e request ≡ None → awaits_answer request ≡ true → new ≡ (begun_of means image e request).image → new.broken ≡ false
   ioctl_whole image e request new unrefused awaits is =
       ap (λ (i : Image K). i.broken) is ∙ (begun_opens means image e request).broken ∙ whole_of image e request unrefused (λ same. let no : false ≡ true = sym (ap (λ r. awaits_answer r) same) ∙ awaits in cc)
@@ -212,12 +184,12 @@ module _ {K : Type 0} (means : Meaning K) where
       (λ broke. whole_of image e request unrefused (λ same. let no : false ≡ true = sym (ap (λ r. awaits_answer r) same) ∙ awaits in cc))
       (ioctl_out e (begun_of means image e request) new answer moves after i (ioctl_of image e request awaits) finishes)
 
-  -- a call that changes no queue is finished when it was begun
-  pub quiet_answers : (image : Image K) (e : End) (request : Request (Shape K)) (reply : Reply) (answer : Answer) (moves : List Place) (after : Image K) → IsKept image → refusal_of image e request ≡ None → changes_no_queue request ≡ true → after ≡ (begun_of means image e request).image → reply ≡ (begun_of means image e request).reply → answer ≡ Done reply → moves ≡ [] → Answers means image e request answer moves (out_of means image e request answer) after
+  -- a call that no service follows is finished when it was begun
+  pub quiet_answers : (image : Image K) (e : End) (request : Request (Shape K)) (reply : Reply) (answer : Answer) (moves : List Place) (after : Image K) → IsKept image → refusal_of image e request ≡ None → needs_no_service image e request ≡ true → after ≡ (begun_of means image e request).image → reply ≡ (begun_of means image e request).reply → answer ≡ Done reply → moves ≡ [] → Answers means image e request answer moves (out_of means image e request answer) after
   quiet_answers image e request reply answer moves after kept unrefused is i r a m =
-      let whole = quiet_whole image e request unrefused is in
+      let whole = unserved_whole image e request unrefused is in
       let b = begun_of means image e request in
-      let quiet = quiet_begun means image e request is (kept.quiet whole) in
+      let quiet = unserved_begun means image e request is (kept.quiet whole) in
       let settles : SettlesUnless means b.image.broken b.image [] b.image = subst (λ (x : Bool). SettlesUnless means x b.image [] b.image) (sym (quiet.broken ∙ whole)) (record { leads = refl; quiet = quiet.quiet }) in
       rw (a, m, i)
       (unrefused, (λ quiet. refl), record { settled = b.image; settles = settles; replies = r ∙ sym (plain_reply b _ quiet.awaits); leaves = ap (λ x. answered_if x e b.image) (sym quiet.awaits); takes = refl })
@@ -233,62 +205,59 @@ module _ {K : Type 0} (means : Meaning K) where
   refused_back image e request back answer refusal can is a =
       rw (a, is, none_out image e request can, none_pushed image e request can) refl
 
-  -- an ioctl takes memory
-  pub ioctl_memory : (image : Image K) (e : End) (request : Request (Shape K)) (answer : Answer) → awaits_answer request ≡ true → takes_no_memory request ≡ true → wants_memory answer ≡ false
-  ioctl_memory image e request answer awaits none =
-      absurd (let no : true ≡ false = sym none ∙ ioctl_takes image e request awaits in cc)
+  -- a call that a service follows takes memory
+  pub served_memory : (image : Image K) (e : End) (request : Request (Shape K)) (answer : Answer) → needs_no_service image e request ≡ false → takes_no_memory_at image e request ≡ true → wants_memory answer ≡ false
+  served_memory image e request answer needs none =
+      absurd (let no : true ≡ false = sym none ∙ served_takes image e request needs in cc)
+
+  -- an ioctl sends a message
+  pub ioctl_still : (image : Image K) (e : End) (request : Request (Shape K)) (answer : Answer) → awaits_answer request ≡ true → BreaksNone means image e request answer
+  ioctl_still image e request answer awaits sends none broke =
+      let no : true ≡ false = sym sends ∙ ioctl_sends image e request awaits in cc
+
+  -- where no place may move once a call has begun, its services break nothing
+  pub finished_still : (image : Image K) (e : End) (request : Request (Shape K)) (new : Image K) (answer : Answer) → new ≡ (begun_of means image e request).image → (NoneMay new → answer ≡ Broke → ⊥) → BreaksNone means image e request answer
+  finished_still image e request new answer is still sends none =
+      still (subst (λ (i : Image K). NoneMay i) (sym is) none)
 
 -- a refusal that is not for want of memory, if it is one
 abbrev IsNotMemory : Option Refusal → Type 0
 IsNotMemory found = (refusal : Refusal) → found ≡ Some refusal → wants_memory (Refused refusal) ≡ false
 
-row_not_memory : (holds : Bool) (first : Refusal) (rows : List (Bool × Refusal)) → wants_memory (Refused first) ≡ false → IsNotMemory (first_that_holds rows) → IsNotMemory (first_that_holds ((holds, first) ∷ rows))
-row_not_memory true first rows other later refusal is =
-    let same : first ≡ refusal = cc in subst (λ r. wants_memory (Refused r) ≡ false) same other
-row_not_memory false first rows other later refusal is = later refusal is
+-- no refusal of a list is want of memory
+abbrev are_other : List (Bool × Refusal) → Bool
+are_other rows = list_all (λ row. not (is_no_memory row.1)) rows
+
+not_true : (b : Bool) → not b ≡ true → b ≡ false
+not_true false h = refl
+not_true true h = absurd cc
+
+rows_not_memory : (rows : List (Bool × Refusal)) → are_other rows ≡ true → IsNotMemory (first_that_holds rows)
+rows_not_memory [] others refusal is = absurd cc
+rows_not_memory ((true, first) ∷ rows) others refusal is =
+    let same : first ≡ refusal = cc in
+    subst (λ r. wants_memory (Refused r) ≡ false) same (not_true (is_no_memory first) (and_parts (not (is_no_memory first)) (are_other rows) others).0)
+rows_not_memory ((false, first) ∷ rows) others refusal is =
+    rows_not_memory rows ((and_parts (not (is_no_memory first)) (are_other rows) others).1) refusal is
 
 or_not_memory : (first later : Option Refusal) → IsNotMemory first → IsNotMemory later → IsNotMemory (option_or first later)
 or_not_memory None later p q refusal is = q refusal is
 or_not_memory (Some r) later p q refusal is = p refusal is
 
-none_not_memory : IsNotMemory (first_that_holds [])
-none_not_memory refusal is = cc
+error_are_other : (looks : Bool × Bool) (rd wr : Option Errno) → are_other (error_refusals looks rd wr) ≡ true
+error_are_other looks None None = refl
+error_are_other looks None (Some errno) = refl
+error_are_other looks (Some errno) None = refl
+error_are_other looks (Some errno) (Some other) = refl
 
-error_not_memory : (looks : Bool) (errno : Option Errno) (by : Errno → Refusal) → ((e : Errno) → wants_memory (Refused (by e)) ≡ false) → IsNotMemory (first_that_holds (error_refusal looks errno by))
-error_not_memory looks None by other = none_not_memory
-error_not_memory looks (Some errno) by other = row_not_memory looks (by errno) [] (other errno) none_not_memory
+own_are_other : {K : Type 0} (image : Image K) (e : End) (request : Request (Shape K)) → are_other (own_refusals image e request) ≡ true
+own_are_other image e (Read zero) = refl
+own_are_other image e (Read (suc n)) = refl
+own_are_other image e request = refl
 
-errors_not_memory : (looks : Bool × Bool) (rd wr : Option Errno) → IsNotMemory (first_that_holds (error_refusals looks rd wr))
-errors_not_memory looks rd wr =
-    let read = error_refusal looks.0 rd (λ errno. ReadError errno) in
-    let write = error_refusal looks.1 wr (λ errno. WriteError errno) in
-    subst IsNotMemory (sym (first_of_both read write))
-    (or_not_memory (first_that_holds read) (first_that_holds write) (error_not_memory looks.0 rd (λ errno. ReadError errno) (λ e. refl)) (error_not_memory looks.1 wr (λ errno. WriteError errno) (λ e. refl)))
-
-common_not_memory : {K : Type 0} (image : Image K) (e : End) (request : Request (Shape K)) → IsNotMemory (first_that_holds (common_refusals image e request))
-common_not_memory image e request =
+-- the first refusal that holds of a call is not want of memory
+pub refused_memory : {K : Type 0} (image : Image K) (e : End) (request : Request (Shape K)) (refusal : Refusal) → refusal_of image e request ≡ Some refusal → wants_memory (Refused refusal) ≡ false
+refused_memory image e Close refusal is = rows_not_memory (closed_refusals image e) refl refusal is
+refused_memory image e request refusal is =
     let state = (end_of image e).state in
-    row_not_memory (not (end_of image e).is_open) Closed ((image.broken, Refusals.Broken) ∷ errors_at image e request) refl
-    (row_not_memory image.broken Refusals.Broken (errors_at image e request) refl (errors_not_memory (errors_looked_at request) state.rd_errno state.wr_errno))
-
--- nor is one of the call's own, of a call that takes no memory
-own_not_memory : {K : Type 0} (image : Image K) (e : End) (request : Request (Shape K)) → takes_no_memory request ≡ true → IsNotMemory (first_that_holds (own_refusals image e request))
-own_not_memory image e Nread none refusal is = none_not_memory refusal is
-own_not_memory image e (SetRead mode prot) none refusal is = none_not_memory refusal is
-own_not_memory image e GetRead none refusal is = none_not_memory refusal is
-own_not_memory image e (Canput band) none refusal is = none_not_memory refusal is
-own_not_memory image e (Ckband band) none refusal is = none_not_memory refusal is
-own_not_memory image e Getband none refusal is =
-    row_not_memory (is_empty (end_of image e).head) NoMessage [] refl none_not_memory refusal is
-own_not_memory image e Look none refusal is =
-    row_not_memory (is_empty (end_of image e).modules) Invalid [] refl none_not_memory refusal is
-own_not_memory image e Requests.List none refusal is = none_not_memory refusal is
-own_not_memory image e (Find name) none refusal is =
-    row_not_memory (not (nat_le 1 (length name) && nat_le (length name) LONGEST_NAME)) Invalid [] refl none_not_memory refusal is
-own_not_memory image e request none refusal is = cc
-
--- the first refusal that holds of a call that takes no memory is not want of memory
-pub refused_memory : {K : Type 0} (image : Image K) (e : End) (request : Request (Shape K)) (refusal : Refusal) → takes_no_memory request ≡ true → refusal_of image e request ≡ Some refusal → wants_memory (Refused refusal) ≡ false
-refused_memory image e request refusal none is =
-    let other : request ≡ Close → ⊥ = λ same. let no : true ≡ false = sym none ∙ ap (λ r. takes_no_memory r) same in cc in
-    or_not_memory (first_that_holds (common_refusals image e request)) (first_that_holds (own_refusals image e request)) (common_not_memory image e request) (own_not_memory image e request none) refusal (sym (first_of_all image e request other) ∙ is)
+    or_not_memory (first_that_holds (common_refusals image e request)) (first_that_holds (own_refusals image e request)) (rows_not_memory (common_refusals image e request) (error_are_other (errors_looked_at request) state.rd_errno state.wr_errno)) (rows_not_memory (own_refusals image e request) (own_are_other image e request)) refusal (sym (first_of_all image e request (λ same. cc)) ∙ is)

@@ -1,6 +1,7 @@
 pub mod KeptLemmas
 pub mod OrderLemmas
 pub mod RefusalLemmas
+pub mod NothingLemmas
 pub mod BeginLemmas
 pub mod CallLemmas
 pub mod ArriveLemmas

@@ -5,13 +5,15 @@ use Rattle.strm_msg.specs.declared.errno.Errno.TheVariants.{EIO, EPROTO}
 use Rattle.strm_msg.specs.declared.words.End.TheVariants.{A, B}
 use Rattle.strm_msg.specs.Marks.{WaterMarks}
 use Rattle.strm_module.specs.declared.driver.Driver.TheVariants.{Echo}
+use Rattle.strm_module.specs.Shape.{new_shape}
 use Rattle.strm_ends.specs.Image.{Image, fresh}
+use Rattle.strm_chain.specs.Count.{looks_at_most}
 use Rattle.strm_call.specs.declared.request.Priority.TheVariants.{Norm, Hipri}
 use Rattle.strm_call.specs.declared.request.PutFlag.TheVariants as PutFlag
 use Rattle.strm_call.specs.declared.request.GetFlag.TheVariants as GetFlag
 use Rattle.strm_call.specs.declared.request.Wanted.TheVariants as Wanted
 use Rattle.strm_call.specs.declared.parts.Parts.{Parts}
-use Rattle.strm_call.specs.declared.request.Request.TheVariants.{Putmsg, Putpmsg, Getmsg, Getpmsg, Read, Write, Canput, Getband, Nread, Pop, Look, Find, Str, Flush, Close}
+use Rattle.strm_call.specs.declared.request.Request.TheVariants.{Putmsg, Putpmsg, Getmsg, Getpmsg, Read, Write, Canput, Getband, Nread, Push, Pop, Look, Find, Str, Flush, Close}
 use Rattle.strm_call.specs.declared.refusal.Refusal.TheVariants.{Closed, Broken, ReadError, WriteError, Invalid, TooLong, HungUp, BadMessage, NoMessage, WouldWait}
 use Rattle.strm_head.specs.Begin.{refusal_of}
 
@@ -158,3 +160,18 @@ broken_stream_with_an_error_is_closed = refl
 
 closed_end_is_not_closed_again : refusal_of with_error B Close ≡ Some Closed
 closed_end_is_not_closed_again = refl
+
+-- so many modules stand on an end
+abbrev stands : ℕ → Image ℕ
+stands many =
+    record start { a = record start.a { modules = replicate many (record { shape = new_shape 1 (109 ∷ []) None None 0; rd = []; wr = [] }) } }
+
+eighth_module : refusal_of (stands 7) A (Push (new_shape 2 (109 ∷ []) None None 0)) ≡ None
+eighth_module = refl
+
+ninth_module : refusal_of (stands 8) A (Push (new_shape 2 (109 ∷ []) None None 0)) ≡ Some Invalid
+ninth_module = refl
+
+-- of each of 40 places at most is looked at where none moves
+places_looked_at : looks_at_most [] ≡ 40
+places_looked_at = refl

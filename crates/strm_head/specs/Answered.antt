@@ -1,5 +1,5 @@
 -- What a call answered, the places that moved, and how many were looked at.
-use Rattle.std.specs.Prelude.{◌≡◌, ◌≤◌, ℕ, List}
+use Rattle.std.specs.Prelude.{◌≡◌, ◌≤◌, ℕ, Bool, List, if◌then◌else◌}
 use Rattle.strm_ends.specs.Image.{Image}
 use Rattle.strm_chain.specs.Count.{AreLooks, most_looks}
 use Rattle.strm_ends.specs.declared.place.Place.{Place}
@@ -22,3 +22,9 @@ abbrev pub IsBounded : {K : Type 0} → Image K → Answer → List Place → �
 IsBounded begun (Done reply) moves looks after = looks ≤ most_looks begun moves after
 IsBounded begun (Refused refusal) moves looks after = Unit {0}
 IsBounded begun Broke moves looks after = Unit {0}
+
+-- a call that is done has the looks of its own service, as the run queue has given them: none where no service runs
+abbrev pub AreGiven : Bool → Answer → ℕ → ℕ → Type 0
+AreGiven rests (Done reply) looks given = looks ≡ (if rests then 0 else given)
+AreGiven rests (Refused refusal) looks given = looks ≡ 0
+AreGiven rests Broke looks given = looks ≡ 0

@@ -1,5 +1,5 @@
 -- What becomes of a message that comes in from a line.
-use Rattle.std.specs.Prelude.{◌≡◌, ◌≤◌, true, false, []}
+use Rattle.std.specs.Prelude.{◌≡◌, ◌≤◌, ℕ, true, false, [], ⊤}
 use Rattle.strm_msg.specs.Message.{Msg}
 use Rattle.strm_msg.specs.declared.words.End.TheVariants.{A}
 use Rattle.strm_module.specs.Kinds.{Meaning}
@@ -29,3 +29,10 @@ module _ {K : Type 0} (means : Meaning K) where
   NotIn image m (Full same) after = ⊥
   NotIn image m (NoMem same) after = (same ≡ m) × (after ≡ image)
   NotIn image m Broke after = Breaks (arrived_of means image A m) after
+
+-- a message that was taken has the looks of its own service, as the run queue has given them (no public clause cites it)
+abbrev pub HasGiven : Arrived → ℕ → Type 0
+HasGiven (Taken moves looks) given = looks ≡ given
+HasGiven (Full same) given = ⊤
+HasGiven (NoMem same) given = ⊤
+HasGiven Broke given = ⊤

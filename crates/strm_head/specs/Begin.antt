@@ -1,11 +1,12 @@
 -- What a call does before any queue moves, by the call: the first refusal that holds, or what the call has done.
-use Rattle.std.specs.Prelude.{ℕ, ◌≡◌, ◌&&◌, not, Bool, true, false, Option, Some, None, List, [], ◌∷◌, ◌++◌, map}
+use Rattle.std.specs.Prelude.{ℕ, ◌≡◌, ◌≢◌, ◌&&◌, ◌||◌, not, Bool, true, false, Option, Some, None, is_none, List, [], ◌∷◌, ◌++◌, map, zero, suc}
 use Rattle.std.specs.List.{list_all}
 use Rattle.strm_msg.specs.declared.errno.Errno.{Errno}
 use Rattle.strm_msg.specs.declared.words.End.{End}
 use Rattle.strm_module.specs.Kinds.{Meaning}
 use Rattle.strm_module.specs.declared.shape.Shape.{Shape}
 use Rattle.strm_ends.specs.Image.{Image, end_of}
+use Rattle.strm_ends.specs.Flow.{NoneMay}
 use Rattle.strm_call.specs.declared.request.Request.{Request}
 use Rattle.strm_call.specs.declared.request.Request.TheVariants.{Putmsg, Putpmsg, Getmsg, Getpmsg, Read, Write, Push, Nread, Peek, SetRead, GetRead, Canput, Ckband, Getband, Pop, Look, Find, Str, Flush, FlushBand, Close}
 use Rattle.strm_call.specs.declared.refusal.Refusal.{Refusal}
@@ -17,14 +18,14 @@ use Rattle.strm_call.specs.Begun.{Begun}
 use Rattle.strm_call.specs.Calls.{changes_modules}
 use Rattle.strm_msgio.specs.Send.{putmsg_refusals, putpmsg_refusals, write_refusals, putmsg_begun, putpmsg_begun, write_begun}
 use Rattle.strm_read.specs.Read.{read_refusals, read_begun}
-use Rattle.strm_msgio.specs.Take.{getmsg_refusals, getpmsg_refusals, getmsg_begun, getpmsg_begun, peek_begun}
-use Rattle.strm_ioctl.specs.Ask.{getband_refusals, nread_begun, canput_begun, ckband_begun, getband_begun}
+use Rattle.strm_msgio.specs.Take.{getmsg_refusals, getpmsg_refusals, getmsg_begun, getpmsg_begun, peek_begun, shows_nothing}
+use Rattle.strm_ioctl.specs.Ask.{is_empty, getband_refusals, nread_begun, canput_begun, ckband_begun, getband_begun}
 use Rattle.strm_ioctl.specs.Options.{set_read_begun, get_read_begun}
 use Rattle.strm_ioctl.specs.Modules.{push_refusals, pop_refusals, look_refusals, push_begun, pop_begun, look_begun}
 use Rattle.strm_ioctl.specs.Names.{find_refusals, list_begun, find_begun}
 use Rattle.strm_ioctl.specs.Ioctl.{str_refusals, str_begun}
 use Rattle.strm_ioctl.specs.Flush.{flush_refusals, flush_begun, flush_band_begun}
-use Rattle.strm_ioctl.specs.Close.{close_begun}
+use Rattle.strm_ioctl.specs.Close.{hangs_up, close_begun}
 
 -- what may refuse a call of its kind alone, in the order in which it is looked for: whether it holds, and the refusal
 abbrev pub own_refusals : {K : Type 0} → Image K → End → Request (Shape K) → List (Bool × Refusal)
@@ -136,6 +137,35 @@ takes_no_memory Request.List = true
 takes_no_memory (Find name) = true
 takes_no_memory request = false
 
+-- a call that has nothing to send, or finds nothing to take: a putmsg and a putpmsg without parts, a read of no
+-- bytes, and where no message waits a getmsg, a getpmsg and a read, which a hung up end does not refuse
+abbrev pub has_nothing_to_do : {K : Type 0} → Image K → End → Request (Shape K) → Bool
+has_nothing_to_do image e (Putmsg flag parts) = is_none parts.ctl && is_none parts.dat
+has_nothing_to_do image e (Putpmsg band flag parts) = is_none parts.ctl && is_none parts.dat
+has_nothing_to_do image e (Getmsg maxctl maxdat flag) = is_empty (end_of image e).head
+has_nothing_to_do image e (Getpmsg maxctl maxdat band flag) = is_empty (end_of image e).head
+has_nothing_to_do image e (Read zero) = true
+has_nothing_to_do image e (Read (suc n)) = is_empty (end_of image e).head
+has_nothing_to_do image e request = false
+
+-- the calls that never want for memory on a stream as it is: those that only tell or set something, those that
+-- have nothing to do, and a peek that shows nothing
+abbrev pub takes_no_memory_at : {K : Type 0} → Image K → End → Request (Shape K) → Bool
+takes_no_memory_at image e (Peek maxctl maxdat flag) = shows_nothing image e maxctl maxdat flag
+takes_no_memory_at image e request = takes_no_memory request || has_nothing_to_do image e request
+
+-- the calls that send no message: a putmsg and a putpmsg send one of their parts, a write, an ioctl and a flush
+-- send one each, and a close sends a hangup to the other end of a loop that is still open
+abbrev pub sends_nothing : {K : Type 0} → Image K → End → Request (Shape K) → Bool
+sends_nothing image e (Putmsg flag parts) = is_none parts.ctl && is_none parts.dat
+sends_nothing image e (Putpmsg band flag parts) = is_none parts.ctl && is_none parts.dat
+sends_nothing image e (Write dat) = false
+sends_nothing image e (Str cmd dat) = false
+sends_nothing image e (Flush r w) = false
+sends_nothing image e (FlushBand band r w) = false
+sends_nothing image e Close = not (hangs_up image e)
+sends_nothing image e request = true
+
 -- the calls that want of memory can refuse
 abbrev pub can_lack_memory : {P : Type 0} → Request P → Bool
 can_lack_memory request = not (takes_no_memory request) && not (changes_modules request)
@@ -178,6 +208,11 @@ abbrev pub wants_memory : Answer → Bool
 wants_memory (Done reply) = false
 wants_memory (Refused refusal) = is_no_memory refusal
 wants_memory Broke = true
+
+-- a call that sends no message breaks no stream on which no place may move once it has begun
+abbrev pub BreaksNone : {K : Type 0} → Meaning K → Image K → End → Request (Shape K) → Answer → Type 0
+BreaksNone means image e request answer =
+    sends_nothing image e request ≡ true → NoneMay (begun_of means image e request).image → answer ≢ Broke
 
 -- what may refuse a call is looked for in the one order of all refusals (`looking_order`)
 abbrev pub AreRefusalsInOrder : Type 0 → Type 0

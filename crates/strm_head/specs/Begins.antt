@@ -1,5 +1,5 @@
 -- What a call may count on when it begins, and what it has done before any queue moves, or where memory was wanting. No public clause cites what stands here.
-use Rattle.std.specs.Prelude.{◌≡◌, true, false, Result, Ok, Err}
+use Rattle.std.specs.Prelude.{◌≡◌, ◌||◌, Bool, true, false, Result, Ok, Err}
 use Rattle.strm_msg.specs.declared.words.End.{End}
 use Rattle.strm_module.specs.Kinds.{Meaning}
 use Rattle.strm_module.specs.declared.shape.Shape.{Shape}
@@ -13,7 +13,7 @@ use Rattle.strm_call.specs.declared.request.Request.TheVariants.{Close}
 use Rattle.strm_call.specs.declared.answer.Reply.{Reply}
 use Rattle.strm_chain.specs.Fault.{Fails}
 use Rattle.strm_call.specs.Request.{changes_no_queue}
-use Rattle.strm_head.specs.Begin.{begun_of, takes_no_memory, can_lack_memory}
+use Rattle.strm_head.specs.Begin.{begun_of, has_nothing_to_do, takes_no_memory_at, sends_nothing, can_lack_memory}
 use Rattle.strm_head.specs.Inside.{HasItsEnds, IsIdle}
 
 -- a message can be sent down from a head, which awaits no answer
@@ -27,6 +27,10 @@ pub record IsReady {K : Type 0} (image : Image K) (e : End) : Type 0 where
 abbrev pub MayBegin : {K : Type 0} → Image K → End → Request (Shape K) → Type 0
 MayBegin image e Close = HasItsEnds image
 MayBegin image e request = IsReady image e
+
+-- the calls that no service follows: those that change no queue, and those that have nothing to do
+abbrev pub needs_no_service : {K : Type 0} → Image K → End → Request (Shape K) → Bool
+needs_no_service image e request = changes_no_queue request || has_nothing_to_do image e request
 
 -- a reply, unless memory was wanting
 abbrev pub taken_or : {X : Type 0} → Result Reply X → Result Reply ChainFault
@@ -45,13 +49,14 @@ module _ {K : Type 0} (means : Meaning K) where
     pub reply_is : reply ≡ (begun_of means image e request).reply
     pub image_is : after ≡ (begun_of means image e request).image
 
-  -- memory was wanting: before a change of a call that this can refuse, or after one of a call that changes queues, on a stream
-  -- that was not broken
+  -- memory was wanting: before a change of a call that this can refuse, or after one of a call that changes queues
+  -- and sends a message, on a stream that was not broken
   pub record HasFailed (image : Image K) (e : End) (request : Request (Shape K)) (fault : ChainFault) (after : Image K) : Type 0 where
     pub fails : Fails fault image (begun_of means image e request).image after
-    pub takes : takes_no_memory request ≡ false
+    pub takes : takes_no_memory_at image e request ≡ false
     pub refused : fault ≡ NoMem → can_lack_memory request ≡ true
     pub broken : fault ≡ Broken → changes_no_queue request ≡ false
+    pub sends : fault ≡ Broken → sends_nothing image e request ≡ false
     pub whole : image.broken ≡ false
 
   -- what became of a call before any queue moves

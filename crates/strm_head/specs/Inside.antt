@@ -1,5 +1,5 @@
 -- What a stream keeps between calls.
-use Rattle.std.specs.Prelude.{ℕ, ◌≡◌, ◌&&◌, nat_lt, Bool, true, false, None}
+use Rattle.std.specs.Prelude.{◌≡◌, true, false, None}
 use Rattle.strm_msg.specs.declared.words.End.{End}
 use Rattle.strm_module.specs.Driver.{has_end}
 use Rattle.strm_qpair.specs.declared.record.Record.{Record}
@@ -29,7 +29,3 @@ pub record OpensNone {K : Type 0} (old new : Image K) : Type 0 where
   pub driver : new.driver ≡ old.driver
   pub broken : new.broken ≡ old.broken
   pub ends : (e : End) → (end_of new e).is_open ≡ true → (end_of old e).is_open ≡ true
-
--- each pair is a high mark and a lower one
-abbrev pub are_marks : ℕ × ℕ → ℕ × ℕ → Bool
-are_marks head drv = nat_lt head.1 head.0 && nat_lt drv.1 drv.0

@@ -6,8 +6,7 @@ use Rattle.strm_msg.specs.declared.words.End.{End}
 use Rattle.strm_queue.specs.Queue.{is_full, put_in}
 use Rattle.strm_module.specs.Kinds.{Meaning}
 use Rattle.strm_module.specs.declared.shape.Shape.{Shape}
-use Rattle.strm_module.specs.declared.driver.Driver.{Driver}
-use Rattle.strm_module.specs.declared.driver.Driver.TheVariants.{Echo, Loop, Line}
+use Rattle.strm_module.specs.Driver.{is_line}
 use Rattle.strm_qpair.specs.Change.{ended}
 use Rattle.strm_ends.specs.declared.place.Place.{Place}
 use Rattle.strm_chain.specs.declared.spot.Spot.TheVariants.{Up}
@@ -45,12 +44,6 @@ pub record IsBroken {K : Type 0} (begun : Begun (Image K) K) (moves : List Place
   pub breaks : Breaks begun.image after
   pub stays : moves ≡ []
   pub takes : out ≡ serials_of begun.out
-
--- the driver to which messages come from a line
-abbrev pub is_line : Driver → Bool
-is_line Echo = false
-is_line Loop = false
-is_line Line = true
 
 -- a message can come in: from a line, of a kind that comes from there, at an open end of a stream that is not broken, and an
 -- ordinary one unless its band is full in the line's list

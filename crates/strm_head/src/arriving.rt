@@ -3,7 +3,7 @@ ghost use Rattle.std.specs.Prelude.{◌≡◌, true, false, OnOk, IfErr};
 ghost use Rattle.strm_msg.specs.Kind.{is_high, is_from_line};
 ghost use Rattle.strm_msg.specs.declared.words.End.TheVariants as Ends;
 ghost use Rattle.strm_head.specs.Step.{can_arrive, arrived_of};
-ghost use Rattle.strm_head.specs.Arrive.{Arrives, NotIn};
+ghost use Rattle.strm_head.specs.Arrive.{Arrives, HasGiven, NotIn};
 ghost use Rattle.strm_head.specs.Inside.{IsKept};
 
 use crate::outcome::Arrived;
@@ -12,7 +12,7 @@ use strm_module::ModuleOf;
 use strm_msg::{BoxedMessage, End, Message};
 
 /// Whether a message can come in.
-fn can_arrive<M: ModuleOf>(chain: &Chain<M>, m: &Message) -> bool
+pub(crate) fn can_arrive<M: ModuleOf>(chain: &Chain<M>, m: &Message) -> bool
     ensures { result ≡ can_arrive chain.now.image Ends.A m.now }
 {
     if chain.driver() != Driver::Line || !m.from_line() {
@@ -82,7 +82,8 @@ fn take_in<M: ModuleOf>(chain: &mut Chain<M>, m: Message) -> Result<(), Arrived>
 pub(crate) fn arrive<M: ModuleOf>(chain: &mut Chain<M>, m: Message) -> Arrived
     requires line { is_from_line m.kind ≡ true }
     requires kept { IsKept chain.old.image }
-    ensures { Arrives M.Kind.means chain.old.image m result chain.new.image }
+    ensures arrives { Arrives M.Kind.means chain.old.image m result chain.new.image }
+    ensures given { HasGiven result chain.new.run.given }
 {
     if !can_arrive(chain, &m) {
         return Arrived::Full(m);

@@ -2,7 +2,8 @@
 //!
 //! Each call begins in a function that is not inlined: where the replies of all calls are made in one function, the compiler moves each
 //! of them in the pieces that any of them has.
-ghost use Rattle.std.specs.Prelude.{◌≡◌, true, false, [], None, Ok, IfOk};
+ghost use Rattle.std.specs.Prelude.{◌≡◌, true, false, [], None, Ok, IfOk, IsOk};
+ghost use Rattle.strm_call.specs.declared.answer.Reply.{Reply};
 ghost use Rattle.strm_call.specs.declared.answer.Reply.TheVariants as Replies;
 ghost use Rattle.strm_call.specs.declared.answer.Acknowledged.TheVariants as Acknowledged;
 ghost use Rattle.strm_call.specs.declared.request.Request.TheVariants as Requests;
@@ -65,7 +66,8 @@ fn taken<A: Replied>(reply: Result<A, NoMem>) -> Result<A, ChainFault>
 
 /// The reply of a call that shows, unless memory is wanting.
 fn seen<A: Replied>(alloc: Global, reply: Result<Reply, NoMem>) -> Result<A, NoMem>
-    ensures { IfOk (said A.says result) (λ shown. reply ≡ Ok shown) }
+    ensures shown { IfOk (said A.says result) (λ shown. reply ≡ Ok shown) }
+    ensures bare { (shown : Reply) → reply ≡ Ok shown → has_bytes shown ≡ false → IsOk result }
 {
     match reply {
         Ok(reply) => A::of(alloc, reply),

@@ -1,13 +1,15 @@
 //! A call on a chain: the first refusal that holds, what the call does, and the services after it.
-ghost use Rattle.std.specs.Prelude.{◌≡◌, true, false, [], None, IfOk};
+ghost use Rattle.std.specs.Prelude.{◌≡◌, ◌≢◌, ◌||◌, true, false, [], None, IfOk};
 ghost use Rattle.strm_call.specs.declared.answer.Answer.TheVariants as Answer;
 ghost use Rattle.strm_call.specs.Refusal.{first_that_holds};
 ghost use Rattle.strm_call.specs.Reply.{acknowledged};
 ghost use Rattle.strm_call.specs.Begun.{begun, begun_ioctl};
 ghost use Rattle.strm_call.specs.Request.{changes_no_queue};
-ghost use Rattle.strm_head.specs.Begin.{AreRefusalsInOrder, own_refusals, closed_refusals, errors_looked_at, error_refusals, common_refusals, refusal_of, begun_of, awaits_answer, takes_no_memory, back_of, out_of, wants_memory};
+ghost use Rattle.strm_ends.specs.Flow.{NoneMay};
+ghost use Rattle.strm_head.specs.Begin.{AreRefusalsInOrder, own_refusals, closed_refusals, errors_looked_at, error_refusals, common_refusals, refusal_of, begun_of, awaits_answer, has_nothing_to_do, takes_no_memory_at, back_of, out_of, wants_memory, BreaksNone};
+ghost use Rattle.strm_head.specs.Begins.{needs_no_service};
 ghost use Rattle.strm_module.specs.Calm.{IsCalm};
-ghost use Rattle.strm_head.specs.Answered.{IsLooked, IsBounded};
+ghost use Rattle.strm_head.specs.Answered.{AreGiven, IsLooked, IsBounded};
 ghost use Rattle.strm_head.specs.Inside.{IsKept};
 ghost use Rattle.strm_head.specs.Step.{Finishes, Answers};
 
@@ -144,7 +146,7 @@ pub(crate) fn first_refusal<M: ModuleOf>(
     }
 }
 
-/// Whether a call changes no queue, so that no service follows it.
+/// Whether a call changes no queue.
 fn changes_no_queue<P>(request: &Request<P>) -> bool
     ensures { result ≡ changes_no_queue request.now }
 {
@@ -161,6 +163,27 @@ fn changes_no_queue<P>(request: &Request<P>) -> bool
             | Request::List
             | Request::Find { .. }
     )
+}
+
+/// Whether a call has nothing to send, or finds nothing to take.
+fn has_nothing_to_do<M: ModuleOf>(chain: &Chain<M>, end: End, request: &Request<Boxed<M>>) -> bool
+    ensures { result ≡ has_nothing_to_do chain.now.image end request.now }
+{
+    match request {
+        Request::Putmsg { parts, .. } | Request::Putpmsg { parts, .. } => {
+            parts.ctl.is_none() && parts.dat.is_none()
+        }
+        Request::Getmsg { .. } | Request::Getpmsg { .. } => chain.head(end).is_empty(),
+        Request::Read { max } => *max == 0 || chain.head(end).is_empty(),
+        _ => false,
+    }
+}
+
+/// Whether no service follows a call, as it changes no queue or has nothing to do.
+fn needs_no_service<M: ModuleOf>(chain: &Chain<M>, end: End, request: &Request<Boxed<M>>) -> bool
+    ensures { result ≡ needs_no_service chain.now.image end request.now }
+{
+    changes_no_queue(request) || has_nothing_to_do(chain, end, request)
 }
 
 /// Whether the reply of a call is the answer to an ioctl.
@@ -185,7 +208,9 @@ fn broken<M: ModuleOf, A: Replied>(chain: &mut Chain<M>) -> Answered<A>
 fn finish<M: ModuleOf, A: Replied>(chain: &mut Chain<M>, end: End, reply: A) -> Answered<A>
     ensures finishes { Finishes M.Kind.means end (begun chain.old.image (A.says reply)) result.answer result.moves [] chain.new.image }
     ensures broken { result.answer ≡ Answer.Broke → chain.old.image.broken ≡ false }
+    ensures still { NoneMay chain.old.image → result.answer ≢ Answer.Broke }
     ensures looks { IsLooked result.answer result.moves result.looks }
+    ensures given { AreGiven chain.old.image.broken result.answer result.looks chain.new.run.given }
     ensures bound { IsCalm M.Kind.means → IsBounded chain.old.image result.answer result.moves result.looks chain.new.image }
 {
     if chain.is_broken() {
@@ -216,6 +241,7 @@ fn finish_ioctl<M: ModuleOf, A: Replied>(chain: &mut Chain<M>, end: End) -> Answ
     requires { chain.old.image.broken ≡ false }
     ensures finishes { Finishes M.Kind.means end (begun_ioctl chain.old.image) result.answer result.moves [] chain.new.image }
     ensures looks { IsLooked result.answer result.moves result.looks }
+    ensures given { AreGiven false result.answer result.looks chain.new.run.given }
     ensures bound { IsCalm M.Kind.means → IsBounded chain.old.image result.answer result.moves result.looks chain.new.image }
 {
     let settled = match chain.settle() {
@@ -245,11 +271,13 @@ pub(crate) fn perform<M: ModuleOf, A: Replied>(
     requires empty { back.old.items ≡ [] }
     ensures answers { Answers M.Kind.means chain.old.image end request result.answer result.moves (out_of M.Kind.means chain.old.image end request result.answer) chain.new.image }
     ensures back { back.new.items ≡ back_of M.Kind.means chain.old.image end request result.answer }
-    ensures memory { takes_no_memory request ≡ true → wants_memory result.answer ≡ false }
+    ensures memory { takes_no_memory_at chain.old.image end request ≡ true → wants_memory result.answer ≡ false }
+    ensures still { BreaksNone M.Kind.means chain.old.image end request result.answer }
     ensures looks { IsLooked result.answer result.moves result.looks }
+    ensures given { AreGiven (needs_no_service chain.old.image end request || (begun_of M.Kind.means chain.old.image end request).image.broken) result.answer result.looks chain.new.run.given }
     ensures bound { IsCalm M.Kind.means → IsBounded (begun_of M.Kind.means chain.old.image end request).image result.answer result.moves result.looks chain.new.image }
 {
-    let is_quiet = changes_no_queue(&request);
+    let is_quiet = needs_no_service(chain, end, &request);
     let awaits = awaits_answer(&request);
     match begin::<M, A>(chain, end, request, back) {
         Ok(reply) if is_quiet => Answered::done(reply, Settled::none()),
@@ -274,8 +302,10 @@ pub(crate) fn answer<M: ModuleOf, A: Replied>(
     requires empty { back.old.items ≡ [] }
     ensures answers { Answers M.Kind.means chain.old.image end request result.answer result.moves (out_of M.Kind.means chain.old.image end request result.answer) chain.new.image }
     ensures back { back.new.items ≡ back_of M.Kind.means chain.old.image end request result.answer }
-    ensures memory { takes_no_memory request ≡ true → wants_memory result.answer ≡ false }
+    ensures memory { takes_no_memory_at chain.old.image end request ≡ true → wants_memory result.answer ≡ false }
+    ensures still { BreaksNone M.Kind.means chain.old.image end request result.answer }
     ensures looks { IsLooked result.answer result.moves result.looks }
+    ensures given { AreGiven (needs_no_service chain.old.image end request || (begun_of M.Kind.means chain.old.image end request).image.broken) result.answer result.looks chain.new.run.given }
     ensures bound { IsCalm M.Kind.means → IsBounded (begun_of M.Kind.means chain.old.image end request).image result.answer result.moves result.looks chain.new.image }
 {
     match first_refusal(chain, end, &request) {

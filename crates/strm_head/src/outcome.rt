@@ -6,7 +6,7 @@ use crate::answered::Answered;
 use crate::call::Back;
 use arrayvec::ArrayVec;
 use strm_call::{Answer, Request};
-use strm_chain::{MOST_MODULES, Moves};
+use strm_chain::{Looks, MOST_MODULES, Moves};
 use strm_module::{Boxed, ModuleOf};
 use strm_msg::Message;
 
@@ -32,8 +32,8 @@ pub enum Arrived {
     Taken {
         /// The places that moved before the stream was quiet again.
         moves: Moves,
-        /// How many places service looked at: u64::MAX if more.
-        looks: u64,
+        /// How many places service looked at.
+        looks: Looks,
     },
     /// It was not taken, and nothing was changed: the stream is no line, the end is closed, the stream
     /// is broken, or the line's list is full in the band of an ordinary message. Here it is again.
@@ -71,7 +71,7 @@ impl<M: ModuleOf> Outcome<M> {
             answer,
             back,
             moves: settled.moves,
-            looks: settled.looks,
+            looks: settled.looks.count(),
         }
     }
 }

@@ -1,6 +1,7 @@
 //! A stream, and the calls on it.
 ghost use Rattle.std.specs.Prelude.{◌≡◌, ◌↔◌, ◌<◌, true, false, [], option_map, option_copied, IsOk, IsErrOf, IfOk, OnErr};
 ghost use Rattle.strm_msg.specs.Kind.{is_from_line};
+ghost use Rattle.strm_msg.specs.declared.words.End.TheVariants as Ends;
 ghost use Rattle.strm_qpair.specs.End.{pair_at};
 ghost use Rattle.strm_ends.specs.Image.{end_of, fresh};
 ghost use Rattle.strm_call.specs.Setup.{are_marks};
@@ -8,14 +9,14 @@ ghost use Rattle.strm_ioctl.specs.Names.{names_of};
 ghost use Rattle.strm_module.specs.declared.shape.Shape.{Shape};
 ghost use Rattle.strm_call.specs.declared.request.Request.TheVariants as Requests;
 ghost use Rattle.strm_call.specs.declared.event.Event.TheVariants as Events;
-ghost use Rattle.strm_head.specs.Begin.{refusal_of, begun_of, takes_no_memory, back_of, out_of, wants_memory};
+ghost use Rattle.strm_head.specs.Begin.{refusal_of, begun_of, takes_no_memory_at, back_of, out_of, wants_memory, BreaksNone};
 ghost use Rattle.strm_module.specs.Calm.{IsCalm};
 ghost use Rattle.strm_head.specs.Answered.{IsLooked, IsBounded};
-ghost use Rattle.strm_head.specs.Step.{Step};
+ghost use Rattle.strm_head.specs.Step.{can_arrive, Step};
 ghost use Rattle.strm_head.specs.Arrive.{Arrives};
 
 use crate::answered::Answered;
-use crate::arriving::arrive;
+use crate::arriving::{arrive, can_arrive};
 use crate::asking::{refusal_of_push, refusal_of_putmsg, refusal_of_putpmsg};
 use crate::call::{answer, first_refusal};
 use crate::fault::NewFault;
@@ -168,14 +169,17 @@ impl<M: ModuleOf> Stream<M> {
     ///
     /// A refusal is the first that holds, in the order of `Refusal`, and leaves the stream as it was.
     /// An end that the driver lacks is never open. Calls that change no queue make no move, and those
-    /// of them that only tell or set something never want for memory. A push, a pop and a close have
-    /// put in or taken out their modules before memory can be wanting.
+    /// of them that only tell or set something never want for memory; nor do calls that have nothing to
+    /// do, as a read of no bytes, and a peek that shows nothing. Where no place may move once a call has
+    /// begun, one that sends no message breaks nothing. A push, a pop and a close have put in or taken
+    /// out their modules before memory can be wanting.
     pub fn apply(&mut self, end: End, request: Request<Boxed<M>>) -> Outcome<M>
         ensures step { Step M.Kind.means self.old end (Events.Asked request) result.answer result.moves (out_of M.Kind.means self.old end request result.answer) self.new }
         ensures back { result.back.items ≡ back_of M.Kind.means self.old end request result.answer }
         ensures looks { IsLooked result.answer result.moves result.looks }
         ensures bound { IsCalm M.Kind.means → IsBounded (begun_of M.Kind.means self.old end request).image result.answer result.moves result.looks self.new }
-        ensures memory { takes_no_memory request ≡ true → wants_memory result.answer ≡ false }
+        ensures memory { takes_no_memory_at self.old end request ≡ true → wants_memory result.answer ≡ false }
+        ensures still { BreaksNone M.Kind.means self.old end request result.answer }
     {
         let mut back = ArrayVec::new();
         let answered: Answered = self.call(end, request, &mut back);
@@ -196,9 +200,18 @@ impl<M: ModuleOf> Stream<M> {
         ensures back { back.new.items ≡ back_of M.Kind.means self.old end request result.answer }
         ensures looks { IsLooked result.answer result.moves result.looks }
         ensures bound { IsCalm M.Kind.means → IsBounded (begun_of M.Kind.means self.old end request).image result.answer result.moves result.looks self.new }
-        ensures memory { takes_no_memory request ≡ true → wants_memory result.answer ≡ false }
+        ensures memory { takes_no_memory_at self.old end request ≡ true → wants_memory result.answer ≡ false }
+        ensures still { BreaksNone M.Kind.means self.old end request result.answer }
     {
         answer(&mut self.chain, end, request, back)
+    }
+
+    /// Whether a message can come in from a line now, at end A: the driver is a line, the end is open, the stream is not broken, and
+    /// an ordinary message finds its band not full in the line's list.
+    pub fn can_arrive(&self, m: &Message) -> bool
+        ensures { result ≡ can_arrive self.now Ends.A m.now }
+    {
+        can_arrive(&self.chain, m)
     }
 
     /// A message comes in from a line, at end A: a step of the stream, unless it comes back. An ordinary

@@ -1,5 +1,5 @@
 -- What a call and an arrival do to a stream that keeps its history.
-use Rattle.std.specs.Prelude.{◌≡◌, ◌<◌, ℕ, false, List, [], ◌∷◌, ◌++◌, Option, IfSome, flat_map}
+use Rattle.std.specs.Prelude.{◌≡◌, ◌<◌, ℕ, true, false, List, [], ◌∷◌, ◌++◌, Option, IfSome, flat_map}
 use Rattle.strm_msg.specs.Message.{Msg}
 use Rattle.strm_msg.specs.declared.words.End.{End}
 use Rattle.strm_msg.specs.declared.words.End.TheVariants.{A}
@@ -38,8 +38,8 @@ pub record IsSameLog {K : Type 0} (old new : LogValue K) : Type 0 where
   pub history : new.history ≡ old.history
 
 -- room for one entry that was there is there still
-abbrev pub KeepsRoom : {K : Type 0} → LogValue K → LogValue K → Type 0
-KeepsRoom old new = 0 < old.room → 0 < new.room
+abbrev pub LeavesRoom : {K : Type 0} → LogValue K → LogValue K → Type 0
+LeavesRoom old new = 0 < old.room → 0 < new.room
 
 -- the caller has an equal answer
 abbrev pub Equals : Answer → Answer → Type 0
@@ -77,9 +77,8 @@ module _ {K : Type 0} (means : Meaning K) where
     pub answer : Answer
     pub enters : Enters old Line A (Arrived m) answer new
 
-  -- a message comes in, or comes back and changes nothing: with Full only where it cannot come in, and else for want of memory, which
-  -- is looked at first
+  -- a message comes in, or comes back and changes nothing: with Full exactly where it cannot come in, and else for want of memory
   abbrev pub Lands : LogValue K → Msg → Landed → LogValue K → Type 0
   Lands old m Entered new = HasLanded old m new
   Lands old m (Full same) new = (can_arrive old.image A m ≡ false) × (same ≡ m) × IsSameLog old new
-  Lands old m (NoMem same) new = (same ≡ m) × IsSameLog old new
+  Lands old m (NoMem same) new = (can_arrive old.image A m ≡ true) × (same ≡ m) × IsSameLog old new

@@ -4,7 +4,7 @@ ghost use Rattle.strm_msg.specs.Kind.{is_from_line};
 ghost use Rattle.strm_call.specs.Setup.{is_fit};
 ghost use Rattle.strm_history.specs.History.{Legal};
 ghost use Rattle.strm_entry.specs.Called.{is_done};
-ghost use Rattle.strm_history.specs.Log.{CallsBy, Equals, IsSameLog, KeepsRoom, Lands};
+ghost use Rattle.strm_history.specs.Log.{CallsBy, Equals, IsSameLog, LeavesRoom, Lands};
 ghost use Rattle.strm_call.specs.declared.event.Event.TheVariants.{Asked};
 ghost use Rattle.strm_history.specs.Serials.{AreAccounted};
 ghost use Rattle.strm_history.specs.Opened.{opened};
@@ -133,14 +133,18 @@ impl<M: ModuleOf> Log<M> {
     /// A message comes in from a line: a step of the stream and an entry of the history, or it comes back
     /// and nothing is changed.
     ///
-    /// To be called with a message of a kind that comes from a line (`Message::from_line`). Room for the
-    /// entry is found first, beside that for a call (`reserve`), and the message is copied for it.
+    /// To be called with a message of a kind that comes from a line (`Message::from_line`). One that cannot come in comes back as
+    /// `Full`, whatever memory there is. Then room for the entry is found, beside that for a call (`reserve`), and the message
+    /// is copied for it.
     #[inline(never)]
     pub fn arrive(&mut self, m: Message) -> Landed
         requires { is_from_line m.kind ≡ true }
         ensures landed { Lands M.Kind.means self.old m result self.new }
-        ensures room { KeepsRoom self.old self.new }
+        ensures room { LeavesRoom self.old self.new }
     {
+        if !self.stream.can_arrive(&m) {
+            return Landed::Full(m);
+        }
         let Ok(entry) = room_for_arrival(self.alloc, &m) else {
             return Landed::NoMem(m);
         };

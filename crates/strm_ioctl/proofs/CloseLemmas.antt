@@ -13,7 +13,7 @@ use Rattle.strm_chain.specs.Fault.{Breaks}
 use Rattle.strm_chain.proofs.QuietLemmas.{same_end}
 use Rattle.strm_chain.proofs.SameLemmas.{deliver_keeps}
 use Rattle.strm_chain.proofs.BreakLemmas.{breaks_after}
-use Rattle.strm_ioctl.specs.Close.{closed_image, hung_up, hung_up_if, after_close}
+use Rattle.strm_ioctl.specs.Close.{closed_image, hangs_up, hung_up, hung_up_if, after_close}
 
 -- a chain that is broken off has what it had
 breaks_off : {K : Type 0} (image : Image K) → image.broken ≡ false → Breaks image (record image { broken = true })
@@ -28,6 +28,16 @@ closed_broken image B = refl
 pub whole_before : {K : Type 0} (image mid : Image K) (e : End) → mid ≡ closed_image image e → mid.broken ≡ false → image.broken ≡ false
 whole_before {K} image mid e is whole =
     sym (closed_broken image e) ∙ subst (λ (i : Image K). i.broken ≡ false) is whole
+
+closed_driver : {K : Type 0} (image : Image K) (e : End) → (closed_image image e).driver ≡ image.driver
+closed_driver image A = refl
+closed_driver image B = refl
+
+-- whether another end is hung up, as the image before the close tells it
+pub hangs_up_before : {K : Type 0} (image mid : Image K) (e : End) → mid ≡ closed_image image e → hangs_up image e ≡ false → (end_of mid (partner mid.driver e)).is_open ≡ false
+hangs_up_before {K} image mid e is none =
+    subst (λ (i : Image K). (end_of i (partner i.driver e)).is_open ≡ false) (sym is)
+    (subst (λ d. (end_of (closed_image image e) (partner d e)).is_open ≡ false) (sym (closed_driver image e)) none)
 
 -- for kinds of any meaning
 module _ {K : Type 0} (means : Meaning K) where

@@ -18,6 +18,10 @@ use Rattle.strm_ioctl.specs.Names.{names_of}
 abbrev pub closed_image : {K : Type 0} → Image K → End → Image K
 closed_image image e = with_end image e (closed (end_of image e))
 
+-- a close hangs another end up: that of a loop which is still open
+abbrev pub hangs_up : {K : Type 0} → Image K → End → Bool
+hangs_up image e = (end_of (closed_image image e) (partner image.driver e)).is_open
+
 -- for kinds of any meaning
 module _ {K : Type 0} (means : Meaning K) where
   -- a hangup goes up from the driver to an end

@@ -1,11 +1,11 @@
 //! An end is closed.
-ghost use Rattle.std.specs.Prelude.{◌≡◌, true, false, map, Some, OnOk, OnErr, IfOk, IfErr};
+ghost use Rattle.std.specs.Prelude.{◌≡◌, true, false, map, Some, IsOk, OnOk, OnErr, IfOk, IfErr};
 ghost use Rattle.strm_msg.specs.declared.words.End.{End};
 ghost use Rattle.strm_module.specs.Driver.{has_end, partner};
 ghost use Rattle.strm_ends.specs.Image.{end_of};
 ghost use Rattle.strm_chain.specs.declared.fault.ChainFault.TheVariants as ChainFaults;
 ghost use Rattle.strm_chain.specs.Fault.{Breaks, Fails};
-ghost use Rattle.strm_ioctl.specs.Close.{hung_up, after_close, close_begun};
+ghost use Rattle.strm_ioctl.specs.Close.{hangs_up, hung_up, after_close, close_begun};
 
 use crate::names::names_of;
 use arrayvec::ArrayVec;
@@ -20,6 +20,7 @@ fn hang_up<M: ModuleOf>(chain: &mut Chain<M>, end: End) -> Result<(), ChainFault
     requires whole { chain.old.image.broken ≡ false }
     ensures image { OnOk result (chain.new.image ≡ hung_up M.Kind.means chain.old.image end) }
     ensures failed { IfErr result (λ fault. Fails fault chain.old.image (hung_up M.Kind.means chain.old.image end) chain.new.image) }
+    ensures nothing { (end_of chain.old.image end).is_open ≡ false → IsOk result }
 {
     if !chain.is_open(end) {
         return Ok(());
@@ -35,6 +36,7 @@ fn after_close<M: ModuleOf>(chain: &mut Chain<M>, end: End) -> Result<(), ChainF
     ensures fault { IfErr result (λ fault. fault ≡ ChainFaults.Broken) }
     ensures broken { OnErr result (Breaks (after_close M.Kind.means chain.old.image.broken chain.old.image end) chain.new.image) }
     ensures whole { OnErr result (chain.old.image.broken ≡ false) }
+    ensures nothing { (end_of chain.old.image (partner chain.old.image.driver end)).is_open ≡ false → IsOk result }
 {
     if chain.is_broken() {
         return Ok(());
@@ -53,7 +55,7 @@ fn after_close<M: ModuleOf>(chain: &mut Chain<M>, end: End) -> Result<(), ChainF
 /// the end; then the other end of a loop is hung up. On a broken chain nothing follows (close(2)).
 ///
 /// The modules are handed out in `back`, each as `Some`, and the end is closed, also where memory is
-/// wanting for the hangup: then the chain breaks. Nothing else is refused.
+/// wanting for the hangup: then the chain breaks. Nothing else is refused, and nothing where no other end is hung up.
 pub fn close<M: ModuleOf>(
     chain: &mut Chain<M>,
     end: End,
@@ -66,6 +68,7 @@ pub fn close<M: ModuleOf>(
     ensures fault { IfErr result (λ fault. fault ≡ ChainFaults.Broken) }
     ensures broken { OnErr result (Breaks (close_begun M.Kind.means chain.old.image end).image chain.new.image) }
     ensures whole { OnErr result (chain.old.image.broken ≡ false) }
+    ensures nothing { hangs_up chain.old.image end ≡ false → IsOk result }
 {
     let names = NameList::new(names_of(chain, end).as_slice());
     *back = chain.dismantle(end);

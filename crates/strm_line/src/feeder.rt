@@ -1,7 +1,7 @@
 //! Who feeds a line.
 ghost use Rattle.std.specs.Prelude.{◌≡◌, ◌≤◌, ◌<◌, ◌+◌, ◌∷◌, [], ◌++◌, true, Some, IfErr, IfSome, IsOk, OnOk, OnErr};
 ghost use Rattle.strm_msg.specs.Kind.{is_from_line};
-ghost use Rattle.strm_queue.specs.Run.{one_more};
+ghost use Rattle.strm_msg.specs.Count.{one_more};
 ghost use Rattle.rtrb.specs.Ring.{sent, all_sent, known_free};
 ghost use Rattle.strm_line.specs.Name.{producer_name, finished_name};
 ghost use Rattle.strm_line.specs.Runs.{IsNextOf};

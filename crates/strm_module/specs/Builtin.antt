@@ -1,6 +1,7 @@
 -- What each of the built-in kinds makes of a message that it doesn't queue (Programmer's Guide: STREAMS,
 -- "Modules" and "Message Types").
-use Rattle.std.specs.Prelude.{ℕ, ◌+◌, ◌==◌, nat_lt, min, true, Some, None, List, [], ◌∷◌, ◌++◌, if◌then◌else◌, length, take, drop, option_map, unwrap_or}
+use Rattle.std.specs.Prelude.{ℕ, ◌==◌, nat_lt, true, Some, None, List, [], ◌∷◌, ◌++◌, if◌then◌else◌, length, take, drop, option_map, unwrap_or}
+use Rattle.strm_msg.specs.Count.{one_more}
 use Rattle.strm_msg.specs.Kind.{is_high}
 use Rattle.strm_msg.specs.Message.{Msg, part_len, data_msg}
 use Rattle.strm_msg.specs.declared.kind.MsgKind.{MsgKind}
@@ -47,13 +48,9 @@ line_action partial Rd MData m =
     else passed_on (Line partial) Rd m
 line_action partial side kind m = passed_on (Line partial) side m
 
--- one more, up to the greatest u64
-abbrev pub next_count : ℕ → ℕ
-next_count n = min (n + 1) 18446744073709551615
-
 -- data on its way down is counted, ioctl 1 asks for the count, and ioctl 2 asks and sets it to 0
 abbrev pub count_action : ℕ → Side → MsgKind → Msg → Action Kind
-count_action n Wr MData m = passed_on (Count (next_count n)) Wr m
+count_action n Wr MData m = passed_on (Count (one_more n)) Wr m
 count_action n Wr (MIoctl id cmd) m =
     if cmd == 1 then answered (Count n) id n None
     else if cmd == 2 then answered (Count 0) id n None

@@ -1,5 +1,5 @@
 -- Calls that take the first message at the head, or look at it: getmsg, getpmsg and peek (getmsg(2); streamio(7), I_PEEK).
-use Rattle.std.specs.Prelude.{ℕ, ◌||◌, nat_le, Bool, true, false, Option, Some, None, List, [], ◌∷◌, if◌then◌else◌}
+use Rattle.std.specs.Prelude.{ℕ, ◌||◌, nat_le, Bool, true, false, Option, Some, None, is_none, List, [], ◌∷◌, if◌then◌else◌}
 use Rattle.strm_msg.specs.Kind.{is_high}
 use Rattle.strm_msg.specs.Message.{Msg}
 use Rattle.strm_msg.specs.declared.words.End.{End}
@@ -86,3 +86,7 @@ peeked_of (Some m) maxctl maxdat flag = if is_wanted flag m then Some (shown_of 
 abbrev pub peek_begun : {K : Type 0} → Image K → End → Most → Most → Wanted → Begun (Image K) K
 peek_begun image e maxctl maxdat flag =
     begun image (Reply.Peek (peeked_of (first_of (end_of image e).head) maxctl maxdat flag))
+
+-- no message is there, or the first is not the one that is wanted
+abbrev pub shows_nothing : {K : Type 0} → Image K → End → Most → Most → Wanted → Bool
+shows_nothing image e maxctl maxdat flag = is_none (peeked_of (first_of (end_of image e).head) maxctl maxdat flag)

@@ -1,5 +1,5 @@
 //! Getmsg, getpmsg and peek: the first message at the head is taken in part or whole, or looked at.
-ghost use Rattle.std.specs.Prelude.{◌≡◌, ◌<◌, true, [], OnOk, OnErr, IfOk, IsOk, IsNone, Some, drop};
+ghost use Rattle.std.specs.Prelude.{◌≡◌, ◌<◌, true, [], OnOk, OnErr, IfOk, IsOk, Some, drop};
 ghost use Rattle.strm_ends.specs.Image.{end_of, with_head};
 ghost use Rattle.strm_call.specs.declared.answer.Reply.TheVariants as Replies;
 ghost use Rattle.strm_call.specs.declared.answer.Received.TheVariants as Receivers;
@@ -7,8 +7,8 @@ ghost use Rattle.strm_call.specs.declared.answer.More.TheVariants as Mores;
 ghost use Rattle.strm_call.specs.declared.request.Priority.TheVariants as Priorities;
 ghost use Rattle.strm_call.specs.Refusal.{first_that_holds};
 ghost use Rattle.strm_cut.specs.Cut.{cut_of};
-ghost use Rattle.strm_cut.specs.First.{first_of, put_back_if};
-ghost use Rattle.strm_msgio.specs.Take.{peeked_of, is_wanted, is_wanted_in, getmsg_refusals, getpmsg_refusals, priority_of, received_of, getmsg_reply, getpmsg_reply, getmsg_begun, getpmsg_begun, peek_begun};
+ghost use Rattle.strm_cut.specs.First.{put_back_if};
+ghost use Rattle.strm_msgio.specs.Take.{shows_nothing, is_wanted, is_wanted_in, getmsg_refusals, getpmsg_refusals, priority_of, received_of, getmsg_reply, getpmsg_reply, getmsg_begun, getpmsg_begun, peek_begun};
 
 use std::alloc::Global;
 use strm_call::{GetFlag, More, Part, Peeked, Priority, Received, Refusal, Replied, Reply, Wanted};
@@ -295,7 +295,7 @@ pub fn peek<M: ModuleOf>(
     flag: Wanted,
 ) -> Result<Reply, NoMem>
     ensures reply { IfOk result (λ reply. reply ≡ (peek_begun chain.now.image end maxctl maxdat flag).reply) }
-    ensures unseen { IsNone (peeked_of (first_of (end_of chain.now.image end).head) maxctl maxdat flag) → IsOk result }
+    ensures unseen { shows_nothing chain.now.image end maxctl maxdat flag ≡ true → IsOk result }
 {
     let found = match chain.head(end).first() {
         Some(first) if is_wanted(flag, first) => {

@@ -1,6 +1,7 @@
 //! The queue of places that are to be looked at.
 ghost use Rattle.std.specs.Prelude.{◌≡◌, ◌+◌, ◌<◌, ◌≤◌, ◌||◌, ◌==◌, ◌∷◌, ℕ, [], length, drop, IfOk, IfSome, MatchOption, IsTrue, ◌↔◌};
-ghost use Rattle.strm_queue.specs.Run.{is_enabled, AreOnce, with_place, one_more};
+ghost use Rattle.strm_msg.specs.Count.{one_more};
+ghost use Rattle.strm_queue.specs.Run.{is_enabled, AreOnce, with_place};
 
 use std::alloc::Global;
 use std::collections::VecDeque;

@@ -1,6 +1,6 @@
 //! Service until nothing may move.
 ghost use Rattle.std.specs.Prelude.{◌≡◌, ◌+◌, ◌<◌, ◌≤◌, ◌++◌, ◌∷◌, [], length, OnOk, IfErr, IfOk, IfSome, IfNone, IsOk, true, false};
-ghost use Rattle.strm_queue.specs.Run.{one_more};
+ghost use Rattle.strm_msg.specs.Count.{one_more};
 ghost use Rattle.strm_module.specs.Calm.{IsCalm};
 ghost use Rattle.strm_ends.specs.Count.{place_count};
 ghost use Rattle.strm_chain.specs.Enabled.{is_enabled};

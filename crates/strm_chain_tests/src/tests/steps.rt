@@ -32,7 +32,7 @@ fn takes<M: ModuleOf>(rt: &impl Abort, chain: &mut Chain<M>, end: End, sample: S
 /// Serves until no place is enabled, by these moves and so many looks.
 fn settles<M: ModuleOf>(chain: &mut Chain<M>, moves: &[Place], looks: u64) -> bool {
     match chain.settle() {
-        Ok(settled) => settled.moves.as_slice() == moves && settled.looks == looks,
+        Ok(settled) => settled.moves.as_slice() == moves && settled.looks.count() == looks,
         Err(_) => false,
     }
 }

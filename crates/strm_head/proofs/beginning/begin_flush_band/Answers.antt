@@ -6,4 +6,4 @@ use Rattle.strm_head.proofs.beginning.begin_flush_band.Goals as goal
 pub returns : goal.returns
 returns g c =
     rw c.done.ensures
-    (done_begins g.M.Kind.Kinds.means c.args.chain.now.image c.args.end (Requests.FlushBand c.args.band c.args.r c.args.w) c.flush.result (g.A.Replied.says c.plain.result) c.flush.new.chain.image c.plain.ensures c.flush.ensures.image c.flush.ensures.failed refl refl refl c.requires.whole)
+    (done_begins g.M.Kind.Kinds.means c.args.chain.now.image c.args.end (Requests.FlushBand c.args.band c.args.r c.args.w) c.flush.result (g.A.Replied.says c.plain.result) c.flush.new.chain.image c.plain.ensures c.flush.ensures.image c.flush.ensures.failed refl refl refl refl c.requires.whole)

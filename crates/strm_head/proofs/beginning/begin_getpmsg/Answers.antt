@@ -1,9 +1,11 @@
 use Rattle.std.proofs.Common.{refl}
 use Rattle.strm_call.specs.declared.request.Request.TheVariants as Requests
+use Rattle.strm_ends.specs.Image.{end_of}
+use Rattle.strm_head.proofs.NothingLemmas.{get_ok}
 use Rattle.strm_head.proofs.BeginLemmas.{taken_begins}
 use Rattle.strm_head.proofs.beginning.begin_getpmsg.Goals as goal
 
 pub returns : goal.returns
 returns g c =
     rw c.taken.ensures
-    (taken_begins g.M.Kind.Kinds.means c.args.chain.now.image c.args.end (Requests.Getpmsg c.args.maxctl c.args.maxdat c.args.band c.args.flag) g.A.Replied.says c.getpmsg.result c.getpmsg.new.chain.image c.getpmsg.ensures.reply c.getpmsg.ensures.image c.getpmsg.ensures.err refl refl c.requires.whole)
+    (taken_begins g.M.Kind.Kinds.means c.args.chain.now.image c.args.end (Requests.Getpmsg c.args.maxctl c.args.maxdat c.args.band c.args.flag) g.A.Replied.says c.getpmsg.result c.getpmsg.new.chain.image c.getpmsg.ensures.reply c.getpmsg.ensures.image c.getpmsg.ensures.err (get_ok (end_of c.args.chain.now.image c.args.end).head c.getpmsg.result c.getpmsg.ensures.empty) refl c.requires.whole)

@@ -6,7 +6,7 @@ use Rattle.strm_head.proofs.beginning.begin_write.Goals as goal
 pub returns : goal.returns
 returns g c =
     rw c.sent.ensures
-    (sent_begins g.M.Kind.Kinds.means c.args.chain.now.image c.args.end (Requests.Write c.args.dat) c.write.result c.write.new.chain.image c.write.ensures.reply c.write.ensures.image c.write.ensures.refused refl refl refl c.requires.whole)
+    (sent_begins g.M.Kind.Kinds.means c.args.chain.now.image c.args.end (Requests.Write c.args.dat) c.write.result c.write.new.chain.image c.write.ensures.reply c.write.ensures.image c.write.ensures.refused (λ none. absurd cc) (λ none. absurd cc) refl refl c.requires.whole)
 
 pub sent-requires : goal.sent-requires
 sent-requires g c = bare_reply c.write.result _ c.write.ensures.reply refl

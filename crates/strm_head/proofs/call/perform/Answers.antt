@@ -1,7 +1,8 @@
 use Rattle.std.proofs.Common.{sym, ◌∙◌, arith}
 use Rattle.strm_call.specs.Begun.{begun_ioctl}
 use Rattle.strm_head.proofs.BeginLemmas.{may_begin, own_none}
-use Rattle.strm_head.proofs.CallLemmas.{quiet_answers, finished_answers, ioctl_answers, ioctl_whole, finished_back, refused_back, ioctl_memory}
+use Rattle.strm_head.proofs.CallLemmas.{quiet_answers, finished_answers, ioctl_answers, ioctl_whole, finished_back, refused_back, served_memory, ioctl_still, finished_still}
+use Rattle.strm_head.proofs.NothingLemmas.{served_changes}
 use Rattle.strm_head.proofs.call.perform.Goals as goal
 
 pub begin-requires-after_bounds : goal.begin-requires-after_bounds
@@ -23,7 +24,7 @@ pub returns-in-Ok-2-clause-answers : goal.returns-in-Ok-2-clause-answers
 returns-in-Ok-2-clause-answers g c =
     ioctl_answers g.M.Kind.Kinds.means c.args.chain.now.image c.args.end c.args.request c.begin.new.chain.image c.finish_ioctl.result.answer c.finish_ioctl.result.moves c.finish_ioctl.new.chain.image
     c.requires.unrefused
-    (sym c.if-is_quiet.ensures)
+    (served_changes c.args.chain.now.image c.args.end c.args.request (sym c.if-is_quiet.ensures))
     (sym c.if-awaits.ensures) c.in-Ok-2.ensures.begins.image_is c.finish_ioctl.ensures.finishes
 
 pub returns-in-Ok-2-clause-back : goal.returns-in-Ok-2-clause-back
@@ -32,14 +33,32 @@ returns-in-Ok-2-clause-back g c =
 
 pub returns-in-Ok-2-clause-memory : goal.returns-in-Ok-2-clause-memory
 returns-in-Ok-2-clause-memory g c =
-    ioctl_memory g.M.Kind.Kinds.means c.args.chain.now.image c.args.end c.args.request c.finish_ioctl.result.answer (sym c.if-awaits.ensures)
+    served_memory g.M.Kind.Kinds.means c.args.chain.now.image c.args.end c.args.request c.finish_ioctl.result.answer (sym c.if-is_quiet.ensures)
+
+pub returns-in-Ok-2-clause-still : goal.returns-in-Ok-2-clause-still
+returns-in-Ok-2-clause-still g c =
+    ioctl_still g.M.Kind.Kinds.means c.args.chain.now.image c.args.end c.args.request c.finish_ioctl.result.answer (sym c.if-awaits.ensures)
+
+-- an ioctl's answer is awaited on a stream that is not broken, so the looks are those of the service
+pub returns-in-Ok-2-clause-given : goal.returns-in-Ok-2-clause-given
+returns-in-Ok-2-clause-given g c =
+    let whole = ioctl_whole g.M.Kind.Kinds.means c.args.chain.now.image c.args.end c.args.request c.begin.new.chain.image c.requires.unrefused (sym c.if-awaits.ensures) c.in-Ok-2.ensures.begins.image_is in
+    rw (← c.if-is_quiet.ensures, ← c.in-Ok-2.ensures.begins.image_is, whole) c.finish_ioctl.ensures.given
 
 pub returns-in-Ok-3-clause-answers : goal.returns-in-Ok-3-clause-answers
 returns-in-Ok-3-clause-answers g c =
     finished_answers g.M.Kind.Kinds.means c.args.chain.now.image c.args.end c.args.request c.begin.new.chain.image (g.A.Replied.says c.in-Ok.reply) c.finish.result.answer c.finish.result.moves c.finish.new.chain.image
     c.requires.unrefused
-    (sym c.if-is_quiet.ensures)
+    (served_changes c.args.chain.now.image c.args.end c.args.request (sym c.if-is_quiet.ensures))
     (sym c.if-awaits.ensures) c.in-Ok.ensures.begins.image_is c.in-Ok.ensures.begins.reply_is c.finish.ensures.broken c.finish.ensures.finishes
+
+pub returns-in-Ok-3-clause-memory : goal.returns-in-Ok-3-clause-memory
+returns-in-Ok-3-clause-memory g c =
+    served_memory g.M.Kind.Kinds.means c.args.chain.now.image c.args.end c.args.request c.finish.result.answer (sym c.if-is_quiet.ensures)
+
+pub returns-in-Ok-3-clause-still : goal.returns-in-Ok-3-clause-still
+returns-in-Ok-3-clause-still g c =
+    finished_still g.M.Kind.Kinds.means c.args.chain.now.image c.args.end c.args.request c.begin.new.chain.image c.finish.result.answer c.in-Ok.ensures.begins.image_is c.finish.ensures.still
 
 pub returns-in-Err-NoMem-clause-back : goal.returns-in-Err-NoMem-clause-back
 returns-in-Err-NoMem-clause-back g c =

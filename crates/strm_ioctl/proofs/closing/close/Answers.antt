@@ -1,7 +1,7 @@
-use Rattle.std.proofs.Common.{◌∙◌}
+use Rattle.std.proofs.Common.{◌≡◌, true, false, ◌∙◌}
 use Rattle.strm_ends.specs.Image.{end_of}
 use Rattle.strm_ioctl.proofs.NameLemmas.{some_shapes}
-use Rattle.strm_ioctl.proofs.CloseLemmas.{closed_as_of, broken_as_of, whole_before}
+use Rattle.strm_ioctl.proofs.CloseLemmas.{closed_as_of, broken_as_of, whole_before, hangs_up_before}
 use Rattle.strm_ioctl.proofs.closing.close.Goals as goal
 
 pub returns-in-Ok-clause-back : goal.returns-in-Ok-clause-back
@@ -23,3 +23,7 @@ returns-in-Err-clause-broken g c =
 pub returns-in-Err-clause-whole : goal.returns-in-Err-clause-whole
 returns-in-Err-clause-whole g c =
     whole_before c.args.chain.now.image c.dismantle.new.self.image c.args.end c.dismantle.ensures.image c.in-Err.ensures.whole
+
+pub returns-in-Err-clause-nothing : goal.returns-in-Err-clause-nothing
+returns-in-Err-clause-nothing g c none =
+    absurd (let no : false ≡ true = c.in-Err.ensures.nothing (hangs_up_before c.args.chain.now.image c.dismantle.new.self.image c.args.end c.dismantle.ensures.image none) in cc)

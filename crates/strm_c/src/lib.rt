@@ -5,7 +5,7 @@
 //! room for it, and nothing beyond.
 #![tactic(auto)]
 
-ghost use Rattle.std.specs.Prelude.{◌≡◌, true, false, [], Ok};
+ghost use Rattle.std.specs.Prelude.{◌≡◌, ◌||◌, true, false, [], Ok};
 ghost use Rattle.strm_call.specs.declared.request.Request.TheVariants as Requests;
 ghost use Rattle.strm_call.specs.Refusal.{first_that_holds};
 ghost use Rattle.strm_handle.specs.Codes.{driver_of};
@@ -418,7 +418,7 @@ pub extern "C" fn strm_arrive_parts(
 ) -> i32
     requires { s.old.is_open ≡ true }
     ensures open { s.new.is_open ≡ true }
-    ensures lands { CopiesAndHandsIn (first_that_holds (arrival_refusals s.old.held.stream (asks.part_of has_ctl ctl.now) (asks.part_of has_dat dat.now))) s.old.held.stream (message_of kind band (asks.part_of has_ctl ctl.now) (asks.part_of has_dat dat.now) number) result s.new.held.stream }
+    ensures lands { CopiesAndHandsIn (first_that_holds (arrival_refusals s.old.held.stream (asks.part_of has_ctl ctl.now) (asks.part_of has_dat dat.now))) (has_ctl || has_dat) s.old.held.stream (message_of kind band (asks.part_of has_ctl ctl.now) (asks.part_of has_dat dat.now) number) result s.new.held.stream }
 {
     arrive(alloc, s, kind, band, has_ctl, ctl, has_dat, dat, number)
 }

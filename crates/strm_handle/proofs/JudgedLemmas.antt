@@ -20,29 +20,36 @@ use Rattle.strm_call.specs.declared.refusal.Refusal.{Refusal}
 use Rattle.strm_call.specs.declared.refusal.Refusal.TheVariants.{Closed, Broken, Invalid, NoMemory}
 use Rattle.strm_call.specs.declared.answer.Answer.{Answer}
 use Rattle.strm_call.specs.declared.answer.Answer.TheVariants.{Refused}
-use Rattle.strm_head.specs.Begin.{error_refusals, refusal_of, takes_no_memory, can_lack_memory, is_no_memory}
+use Rattle.strm_head.specs.Begin.{error_refusals, refusal_of, takes_no_memory_at, can_lack_memory, is_no_memory}
 use Rattle.strm_head.specs.Step.{IsRefusedBy}
 use Rattle.strm_abi.specs.Numbers.{end_of}
 use Rattle.strm_handle.specs.Codes.{code_of}
 use Rattle.strm_handle.specs.Asked.{Asked, ask, push_if, push_of, parts_of}
 use Rattle.strm_handle.specs.Judged.{refused_at, IsMade}
 use Rattle.strm_handle.specs.Fits.{Fits}
-use Rattle.strm_handle.specs.Call.{IsStep, Answers, admitted, Calls, CopiesAndCalls}
+use Rattle.strm_handle.specs.Call.{costs_no_memory, IsStep, Answers, admitted, Calls, CopiesAndCalls}
+
+-- a call that takes no memory here takes none on the stream
+pub costs_none_at : (old : Image Kind) (e : End) (request : Request (Shape Kind)) → costs_no_memory old e request ≡ true → takes_no_memory_at old e request ≡ true
+costs_none_at old e (Requests.Putmsg flag parts) none = absurd cc
+costs_none_at old e (Requests.Putpmsg band flag parts) none = absurd cc
+costs_none_at old e request none = none
 
 -- the step of a request that is refused with the first refusal that holds
-refused_step : (old : Image Kind) (e : End) (request : Request (Shape Kind)) (refusal : Refusal) → IsRefusedBy (refusal_of old e request) request refusal → (takes_no_memory request ≡ true → is_no_memory refusal ≡ false) → Fits request (Refused refusal) → IsStep old e request (Refused refusal) old
+refused_step : (old : Image Kind) (e : End) (request : Request (Shape Kind)) (refusal : Refusal) → IsRefusedBy (refusal_of old e request) request refusal → (costs_no_memory old e request ≡ true → is_no_memory refusal ≡ false) → Fits request (Refused refusal) → IsStep old e request (Refused refusal) old
 refused_step old e request refusal first memory fits =
     record {
       moves = [];
       step = record { is_first = first; stays = refl; takes_none = refl; unchanged = refl };
       memory = memory;
+      still = λ sends none broke. cc;
       fits = fits;
     }
 
 -- what is known of a request: no refusal of it gives bytes, and none that holds is want of memory where it takes none
 pub record IsPlain (old : Image Kind) (e : End) (request : Request (Shape Kind)) : Type 0 where
   pub fits : (refusal : Refusal) → Fits request (Refused refusal)
-  pub memory : (refusal : Refusal) → refusal_of old e request ≡ Some refusal → takes_no_memory request ≡ true → is_no_memory refusal ≡ false
+  pub memory : (refusal : Refusal) → refusal_of old e request ≡ Some refusal → costs_no_memory old e request ≡ true → is_no_memory refusal ≡ false
 
 -- the step of a request that a refusal of its own refuses
 first_step : (old : Image Kind) (e : End) (request : Request (Shape Kind)) (refusal : Refusal) → IsPlain old e request → refusal_of old e request ≡ Some refusal → IsStep old e request (Refused refusal) old
@@ -50,12 +57,12 @@ first_step old e request refusal plain first =
     refused_step old e request refusal (subst (λ found. IsRefusedBy found request refusal) (sym first) refl) (plain.memory refusal first) (plain.fits refusal)
 
 -- the step of one for which memory is wanting
-lacking_step : (old : Image Kind) (e : End) (request : Request (Shape Kind)) → IsPlain old e request → can_lack_memory request ≡ true → takes_no_memory request ≡ false → refusal_of old e request ≡ None → IsStep old e request (Refused NoMemory) old
+lacking_step : (old : Image Kind) (e : End) (request : Request (Shape Kind)) → IsPlain old e request → can_lack_memory request ≡ true → costs_no_memory old e request ≡ false → refusal_of old e request ≡ None → IsStep old e request (Refused NoMemory) old
 lacking_step old e request plain can takes none =
     refused_step old e request NoMemory (subst (λ found. IsRefusedBy found request NoMemory) (sym none) (refl, can)) (λ is. absurd cc) (plain.fits NoMemory)
 
 -- either, where want of memory is a refusal of the model's
-either_step : (old : Image Kind) (e : End) (request : Request (Shape Kind)) (found : Option Refusal) → IsPlain old e request → can_lack_memory request ≡ true → takes_no_memory request ≡ false → refusal_of old e request ≡ found → IsStep old e request (Refused (unwrap_or found NoMemory)) old
+either_step : (old : Image Kind) (e : End) (request : Request (Shape Kind)) (found : Option Refusal) → IsPlain old e request → can_lack_memory request ≡ true → costs_no_memory old e request ≡ false → refusal_of old e request ≡ found → IsStep old e request (Refused (unwrap_or found NoMemory)) old
 either_step old e request None plain can takes is = lacking_step old e request plain can takes is
 either_step old e request (Some refusal) plain can takes is = first_step old e request refusal plain is
 
@@ -64,15 +71,15 @@ abbrev pub IsPlainAt : Image Kind → Option End → Asked → Type 0
 IsPlainAt old (Some e) (Ok request) = IsPlain old e request
 IsPlainAt old end asked = Unit {0}
 
-abbrev pub LacksAt : Asked → Type 0
-LacksAt (Ok request) = (can_lack_memory request ≡ true) × (takes_no_memory request ≡ false)
-LacksAt (Err refusal) = Unit {0}
+abbrev pub LacksAt : Image Kind → Asked → Type 0
+LacksAt old (Ok request) = (can_lack_memory request ≡ true) × ((e : End) → costs_no_memory old e request ≡ false)
+LacksAt old (Err refusal) = Unit {0}
 
 -- what is told in the place of what was asked is the answer to that
-told_answers : (old : Image Kind) (end : Option End) (asked : Asked) → IsPlainAt old end asked → LacksAt asked → Answers old (admitted end asked) (Refused (refused_at old end asked)) old
+told_answers : (old : Image Kind) (end : Option End) (asked : Asked) → IsPlainAt old end asked → LacksAt old asked → Answers old (admitted end asked) (Refused (refused_at old end asked)) old
 told_answers old None asked plain lacks = (refl, refl)
 told_answers old (Some e) (Err refusal) plain lacks = (refl, refl)
-told_answers old (Some e) (Ok request) plain lacks = either_step old e request (refusal_of old e request) plain lacks.0 lacks.1 refl
+told_answers old (Some e) (Ok request) plain lacks = either_step old e request (refusal_of old e request) plain lacks.0 (lacks.1 e) refl
 
 -- what is told stands for itself
 told_is_admitted : (old : Image Kind) (end : Option End) (asked : Asked) → admitted end (Err (refused_at old end asked)) ≡ Err (refused_at old end asked)
@@ -84,13 +91,13 @@ told : (old new : Image Kind) (end : Option End) (asked : Asked) (answer : Answe
 told old new end asked answer answers = subst (λ call. Answers old call answer new) (told_is_admitted old end asked) answers
 
 -- a call of what was told answers what was asked
-retold : (old new : Image Kind) (end : Option End) (asked : Asked) (answer : Answer) → IsPlainAt old end asked → LacksAt asked → Answers old (admitted end (Err (refused_at old end asked))) answer new → Answers old (admitted end asked) answer new
+retold : (old new : Image Kind) (end : Option End) (asked : Asked) (answer : Answer) → IsPlainAt old end asked → LacksAt old asked → Answers old (admitted end (Err (refused_at old end asked))) answer new → Answers old (admitted end asked) answer new
 retold old new end asked answer plain lacks answers =
     let is = told old new end asked answer answers in
     subst (λ after. Answers old (admitted end asked) answer after) (sym is.1) (subst (λ said. Answers old (admitted end asked) said old) (sym is.0) (told_answers old end asked plain lacks))
 
 -- a call of what was made is the call that was asked for
-pub made_calls : (old new : Image Kind) (n : ℕ) (asked made : Asked) (writes : Answer → Type 0) (code : ℤ) → IsPlainAt old (end_of n) asked → LacksAt asked → IsMade old (end_of n) asked made → Calls old n made writes code new → Calls old n asked writes code new
+pub made_calls : (old new : Image Kind) (n : ℕ) (asked made : Asked) (writes : Answer → Type 0) (code : ℤ) → IsPlainAt old (end_of n) asked → LacksAt old asked → IsMade old (end_of n) asked made → Calls old n made writes code new → Calls old n asked writes code new
 made_calls old new n asked made writes code plain lacks (inl same) calls = subst (λ a. Calls old n a writes code new) same calls
 made_calls old new n asked made writes code plain lacks (inr told_is) calls =
     record {
@@ -133,7 +140,7 @@ made_copies old new n asked made writes code plain (inr told_is) calls =
     copied old new n asked made writes code calls (answers_or_lacks old new (end_of n) asked calls.answer plain (subst (λ a. Answers old (admitted (end_of n) a) calls.answer new) told_is calls.answers))
 
 -- of requests that give no bytes where they are refused, and may want for memory
-plain_if : (old : Image Kind) (e : End) (request : Request (Shape Kind)) → ((refusal : Refusal) → Fits request (Refused refusal)) → takes_no_memory request ≡ false → IsPlain old e request
+plain_if : (old : Image Kind) (e : End) (request : Request (Shape Kind)) → ((refusal : Refusal) → Fits request (Refused refusal)) → costs_no_memory old e request ≡ false → IsPlain old e request
 plain_if old e request fits takes = record { fits = fits; memory = λ refusal first is. absurd cc }
 
 pub putmsg_is_plain : (old : Image Kind) (end : Option End) (has_ctl : Bool) (ctl : List ℕ) (has_dat : Bool) (dat : List ℕ) (flag : Option Priority) → IsPlainAt old end (ask flag (λ f. Ok (Requests.Putmsg f (parts_of has_ctl ctl has_dat dat))))
@@ -141,9 +148,9 @@ putmsg_is_plain old None has_ctl ctl has_dat dat flag = tt
 putmsg_is_plain old (Some e) has_ctl ctl has_dat dat None = tt
 putmsg_is_plain old (Some e) has_ctl ctl has_dat dat (Some flag) = plain_if old e (Requests.Putmsg flag (parts_of has_ctl ctl has_dat dat)) (λ refusal. tt) refl
 
-pub putmsg_lacks : (has_ctl : Bool) (ctl : List ℕ) (has_dat : Bool) (dat : List ℕ) (flag : Option Priority) → LacksAt (ask flag (λ f. Ok (Requests.Putmsg f (parts_of has_ctl ctl has_dat dat))))
-putmsg_lacks has_ctl ctl has_dat dat None = tt
-putmsg_lacks has_ctl ctl has_dat dat (Some flag) = (refl, refl)
+pub putmsg_lacks : (old : Image Kind) (has_ctl : Bool) (ctl : List ℕ) (has_dat : Bool) (dat : List ℕ) (flag : Option Priority) → LacksAt old (ask flag (λ f. Ok (Requests.Putmsg f (parts_of has_ctl ctl has_dat dat))))
+putmsg_lacks old has_ctl ctl has_dat dat None = tt
+putmsg_lacks old has_ctl ctl has_dat dat (Some flag) = (refl, λ e. refl)
 
 pub putpmsg_is_plain : (old : Image Kind) (end : Option End) (has_ctl : Bool) (ctl : List ℕ) (has_dat : Bool) (dat : List ℕ) (flag : Option PutFlag) (band : Option ℕ) → IsPlainAt old end (ask flag (λ f. ask band (λ b. Ok (Requests.Putpmsg b f (parts_of has_ctl ctl has_dat dat)))))
 putpmsg_is_plain old None has_ctl ctl has_dat dat flag band = tt
@@ -151,10 +158,10 @@ putpmsg_is_plain old (Some e) has_ctl ctl has_dat dat None band = tt
 putpmsg_is_plain old (Some e) has_ctl ctl has_dat dat (Some flag) None = tt
 putpmsg_is_plain old (Some e) has_ctl ctl has_dat dat (Some flag) (Some band) = plain_if old e (Requests.Putpmsg band flag (parts_of has_ctl ctl has_dat dat)) (λ refusal. tt) refl
 
-pub putpmsg_lacks : (has_ctl : Bool) (ctl : List ℕ) (has_dat : Bool) (dat : List ℕ) (flag : Option PutFlag) (band : Option ℕ) → LacksAt (ask flag (λ f. ask band (λ b. Ok (Requests.Putpmsg b f (parts_of has_ctl ctl has_dat dat)))))
-putpmsg_lacks has_ctl ctl has_dat dat None band = tt
-putpmsg_lacks has_ctl ctl has_dat dat (Some flag) None = tt
-putpmsg_lacks has_ctl ctl has_dat dat (Some flag) (Some band) = (refl, refl)
+pub putpmsg_lacks : (old : Image Kind) (has_ctl : Bool) (ctl : List ℕ) (has_dat : Bool) (dat : List ℕ) (flag : Option PutFlag) (band : Option ℕ) → LacksAt old (ask flag (λ f. ask band (λ b. Ok (Requests.Putpmsg b f (parts_of has_ctl ctl has_dat dat)))))
+putpmsg_lacks old has_ctl ctl has_dat dat None band = tt
+putpmsg_lacks old has_ctl ctl has_dat dat (Some flag) None = tt
+putpmsg_lacks old has_ctl ctl has_dat dat (Some flag) (Some band) = (refl, λ e. refl)
 
 pub write_is_plain : (old : Image Kind) (end : Option End) (bytes : List ℕ) → IsPlainAt old end (Ok (Requests.Write bytes))
 write_is_plain old None bytes = tt

@@ -1,5 +1,5 @@
 -- What becomes of a message that is handed in from a line.
-use Rattle.std.specs.Prelude.{◌≡◌, ℕ, not, Bool, Option, Some, None, ◌⊎◌, List, [], ◌∷◌, ℤ, pos}
+use Rattle.std.specs.Prelude.{◌≡◌, ℕ, not, Bool, true, Option, Some, None, ◌⊎◌, List, [], ◌∷◌, ℤ, pos}
 use Rattle.strm_msg.specs.Message.{Msg, Part}
 use Rattle.strm_msg.specs.declared.errno.Errno.{Errno}
 use Rattle.strm_msg.specs.declared.errno.Errno.TheVariants.{ENOSR, EINVAL, EAGAIN}
@@ -14,7 +14,7 @@ use Rattle.strm_msgio.specs.Send.{is_too_long}
 use Rattle.strm_head.specs.declared.outcome.Arrived.{Arrived}
 use Rattle.strm_head.specs.declared.outcome.Arrived.TheVariants.{Taken, Full, NoMem, Broke}
 use Rattle.strm_head.specs.Arrive.{Arrives}
-use Rattle.strm_head.specs.Step.{is_line}
+use Rattle.strm_module.specs.Driver.{is_line}
 use Rattle.strm_abi.specs.Numbers.{number_of}
 
 abbrev pub arrived_code : Arrived → ℕ
@@ -44,7 +44,13 @@ abbrev pub arrival_refusals : Image Kind → Part → Part → List (Bool × Ref
 arrival_refusals image ctl dat =
     (not (end_of image A).is_open, Closed) ∷ (image.broken, Broken) ∷ (not (is_line image.driver), Invalid) ∷ (is_too_long ctl dat, TooLong) ∷ []
 
--- what is handed in is refused by one of these, or memory is wanting for a copy of its bytes, or the message that they make comes in
-abbrev pub CopiesAndHandsIn : Option Refusal → Image Kind → Option Msg → ℤ → Image Kind → Type 0
-CopiesAndHandsIn (Some refusal) old asked code new = IsNotIn (errno_of refusal) old code new
-CopiesAndHandsIn None old asked code new = IsNotIn ENOSR old code new ⊎ HandsIn old asked code new
+-- memory is wanting for a copy of a part that is there
+pub record LacksCopy (has_part : Bool) (old : Image Kind) (code : ℤ) (new : Image Kind) : Type 0 where
+  pub is_there : has_part ≡ true
+  pub is_not_in : IsNotIn ENOSR old code new
+
+-- what is handed in is refused by one of these, or memory is wanting for a copy of its bytes, if it has a part, or the message that they make
+-- comes in
+abbrev pub CopiesAndHandsIn : Option Refusal → Bool → Image Kind → Option Msg → ℤ → Image Kind → Type 0
+CopiesAndHandsIn (Some refusal) has_part old asked code new = IsNotIn (errno_of refusal) old code new
+CopiesAndHandsIn None has_part old asked code new = LacksCopy has_part old code new ⊎ HandsIn old asked code new

@@ -10,13 +10,14 @@ use Rattle.strm_module.specs.declared.driver.Driver.{Driver}
 use Rattle.strm_ends.specs.Image.{Image, fresh}
 use Rattle.strm_ends.specs.declared.place.Place.{Place}
 use Rattle.strm_call.specs.declared.request.Request.{Request}
+use Rattle.strm_call.specs.declared.request.Request.TheVariants.{Putmsg, Putpmsg}
 use Rattle.strm_call.specs.declared.refusal.Refusal.{Refusal}
 use Rattle.strm_call.specs.declared.refusal.Refusal.TheVariants.{Closed, NoMemory}
 use Rattle.strm_call.specs.declared.answer.Answer.{Answer}
 use Rattle.strm_call.specs.declared.answer.Answer.TheVariants.{Refused}
 use Rattle.strm_call.specs.Setup.{are_marks}
 use Rattle.strm_call.specs.declared.event.Event.TheVariants.{Asked as Call}
-use Rattle.strm_head.specs.Begin.{out_of, takes_no_memory, wants_memory}
+use Rattle.strm_head.specs.Begin.{out_of, takes_no_memory_at, wants_memory, BreaksNone}
 use Rattle.strm_head.specs.Step.{Step}
 use Rattle.strm_abi.specs.Numbers.{end_of, number_of}
 use Rattle.strm_handle.specs.Codes.{code_of}
@@ -24,11 +25,18 @@ use Rattle.strm_handle.specs.Asked.{Asked}
 use Rattle.strm_handle.specs.Judged.{refused_at}
 use Rattle.strm_handle.specs.Fits.{Fits}
 
+-- the calls that take no memory on a stream as it is, nor for what goes with them: the parts of a putmsg and of a putpmsg have a box
+abbrev pub costs_no_memory : Image Kind → End → Request (Shape Kind) → Bool
+costs_no_memory old e (Putmsg flag parts) = false
+costs_no_memory old e (Putpmsg band flag parts) = false
+costs_no_memory old e request = takes_no_memory_at old e request
+
 -- the stream took the step of a request, which this answers, with no part that is longer than was asked for
 pub record IsStep (old : Image Kind) (e : End) (request : Request (Shape Kind)) (answer : Answer) (new : Image Kind) : Type 0 where
   pub moves : List Place
   pub step : Step builtin old e (Call request) answer moves (out_of builtin old e request answer) new
-  pub memory : takes_no_memory request ≡ true → wants_memory answer ≡ false
+  pub memory : costs_no_memory old e request ≡ true → wants_memory answer ≡ false
+  pub still : BreaksNone builtin old e request answer
   pub fits : Fits request answer
 
 -- what is to be done: a request at an end, or the refusal of a number that is no end, which counts as a closed one, or of arguments

@@ -1,5 +1,5 @@
 //! A message that is handed in from a line.
-ghost use Rattle.std.specs.Prelude.{◌≡◌, true, IfSome, pos};
+ghost use Rattle.std.specs.Prelude.{◌≡◌, ◌||◌, true, IfSome, pos};
 ghost use Rattle.strm_msg.specs.Kind.{is_from_line};
 ghost use Rattle.strm_call.specs.Refusal.{first_that_holds};
 ghost use Rattle.strm_abi.specs.Messages.{message_of};
@@ -86,7 +86,7 @@ pub fn arrive(
 ) -> i32
     requires { s.old.is_open ≡ true }
     ensures open { s.new.is_open ≡ true }
-    ensures lands { arrivals.CopiesAndHandsIn (first_that_holds (arrivals.arrival_refusals s.old.held.stream (asks.part_of has_ctl ctl.now) (asks.part_of has_dat dat.now))) s.old.held.stream (message_of kind band (asks.part_of has_ctl ctl.now) (asks.part_of has_dat dat.now) number) result s.new.held.stream }
+    ensures lands { arrivals.CopiesAndHandsIn (first_that_holds (arrivals.arrival_refusals s.old.held.stream (asks.part_of has_ctl ctl.now) (asks.part_of has_dat dat.now))) (has_ctl || has_dat) s.old.held.stream (message_of kind band (asks.part_of has_ctl ctl.now) (asks.part_of has_dat dat.now) number) result s.new.held.stream }
 {
     let held = s.take(alloc);
     let refusal = arrival_refusal(&held.stream, has_ctl, ctl, has_dat, dat);

@@ -1,5 +1,5 @@
 //! What the arguments of a call ask for.
-ghost use Rattle.std.specs.Prelude.{◌≡◌, true, [], Ok, IfOk};
+ghost use Rattle.std.specs.Prelude.{◌≡◌, true, [], Ok, IfOk, IfErr};
 ghost use Rattle.strm_call.specs.declared.request.Request.TheVariants as Requests;
 ghost use Rattle.strm_abi.specs.Numbers.{end_of};
 ghost use Rattle.strm_handle.specs.Asked as asks;
@@ -35,9 +35,10 @@ fn band_of(band: u32) -> Option<u8>
     if band <= 255 { Some(band as u8) } else { None }
 }
 
-/// A copy of a part that is there or not. Refused for want of memory alone.
+/// A copy of a part that is there or not. Refused for want of memory alone, and not where there is none.
 pub fn part_of(alloc: Global, has: bool, bytes: &[u8]) -> Result<Option<Bytes>, NoMem>
-    ensures { IfOk result (λ part. part ≡ asks.part_of has bytes.now) }
+    ensures part { IfOk result (λ part. part ≡ asks.part_of has bytes.now) }
+    ensures nothing { IfErr result (λ _. has ≡ true) }
 {
     if has {
         Ok(Some(Bytes::from_slice(alloc, bytes)?))

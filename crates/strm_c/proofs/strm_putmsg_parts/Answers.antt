@@ -14,5 +14,5 @@ returns-clause-call c =
     let new = c.call.new.s.held.stream in
     let asked = asks.putmsg_of c.args.has_ctl c.args.ctl.now c.args.has_dat c.args.dat.now c.args.flags in
     let calls = subst (λ (held : Held). Calls held.stream c.args.end c.putmsg_of-asked.result Nothing c.call.result new) c.putmsg_of-asked.ensures.same c.call.ensures.call in
-    let done : Calls old c.args.end asked Nothing c.call.result new = made_calls old new c.args.end asked c.putmsg_of-asked.result Nothing c.call.result (putmsg_is_plain old (end_of c.args.end) c.args.has_ctl c.args.ctl.now c.args.has_dat c.args.dat.now (priority_of c.args.flags)) (putmsg_lacks c.args.has_ctl c.args.ctl.now c.args.has_dat c.args.dat.now (priority_of c.args.flags)) c.putmsg_of-asked.ensures.made calls in
+    let done : Calls old c.args.end asked Nothing c.call.result new = made_calls old new c.args.end asked c.putmsg_of-asked.result Nothing c.call.result (putmsg_is_plain old (end_of c.args.end) c.args.has_ctl c.args.ctl.now c.args.has_dat c.args.dat.now (priority_of c.args.flags)) (putmsg_lacks old c.args.has_ctl c.args.ctl.now c.args.has_dat c.args.dat.now (priority_of c.args.flags)) c.putmsg_of-asked.ensures.made calls in
     search (rules, done)

@@ -14,5 +14,5 @@ returns-clause-call c =
     let new = c.call_taking.new.s.held.stream in
     let asked = Ok (Requests.Str c.args.cmd (asks.part_of c.args.has_dat c.args.dat.now)) in
     let calls = subst (λ (held : Held). Calls held.stream c.args.end c.str_of-asked.result (HasTaken [] c.args.dat.now c.args.got.now c.call_taking.new.ctl c.call_taking.new.dat c.call_taking.new.got) c.call_taking.result new) c.str_of-asked.ensures.same c.call_taking.ensures.call in
-    let done : Calls old c.args.end asked (HasTaken [] c.args.dat.now c.args.got.now c.call_taking.new.ctl c.call_taking.new.dat c.call_taking.new.got) c.call_taking.result new = made_calls old new c.args.end asked c.str_of-asked.result (HasTaken [] c.args.dat.now c.args.got.now c.call_taking.new.ctl c.call_taking.new.dat c.call_taking.new.got) c.call_taking.result (str_is_plain old (end_of c.args.end) c.args.cmd (asks.part_of c.args.has_dat c.args.dat.now)) (refl, refl) c.str_of-asked.ensures.made calls in
+    let done : Calls old c.args.end asked (HasTaken [] c.args.dat.now c.args.got.now c.call_taking.new.ctl c.call_taking.new.dat c.call_taking.new.got) c.call_taking.result new = made_calls old new c.args.end asked c.str_of-asked.result (HasTaken [] c.args.dat.now c.args.got.now c.call_taking.new.ctl c.call_taking.new.dat c.call_taking.new.got) c.call_taking.result (str_is_plain old (end_of c.args.end) c.args.cmd (asks.part_of c.args.has_dat c.args.dat.now)) (refl, λ e. refl) c.str_of-asked.ensures.made calls in
     first_of (search (rules, done), grind (arith, done))

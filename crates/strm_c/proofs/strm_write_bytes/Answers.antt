@@ -13,5 +13,5 @@ returns-clause-call c =
     let new = c.call_for_value.new.s.held.stream in
     let asked = Ok (Requests.Write c.args.bytes.now) in
     let calls = subst (λ (held : Held). Calls held.stream c.args.end c.write_of-asked.result (IsValue c.args.written.now c.call_for_value.new.value) c.call_for_value.result new) c.write_of-asked.ensures.same c.call_for_value.ensures.call in
-    let done : Calls old c.args.end asked (IsValue c.args.written.now c.call_for_value.new.value) c.call_for_value.result new = made_calls old new c.args.end asked c.write_of-asked.result (IsValue c.args.written.now c.call_for_value.new.value) c.call_for_value.result (write_is_plain old (end_of c.args.end) c.args.bytes.now) (refl, refl) c.write_of-asked.ensures.made calls in
+    let done : Calls old c.args.end asked (IsValue c.args.written.now c.call_for_value.new.value) c.call_for_value.result new = made_calls old new c.args.end asked c.write_of-asked.result (IsValue c.args.written.now c.call_for_value.new.value) c.call_for_value.result (write_is_plain old (end_of c.args.end) c.args.bytes.now) (refl, λ e. refl) c.write_of-asked.ensures.made calls in
     search (rules, done)

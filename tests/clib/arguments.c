@@ -1,0 +1,371 @@
+/* Holds each call to what include/strm.h says of its arguments alone: EBADF for a number that is no end, and EINVAL for a flag, a band, a
+ * mode, a kind or a name that is none, before what the stream says, and whether memory is there or not. It is linked with malloc, realloc
+ * and free wrapped. A call that is refused so takes no memory and writes nothing.
+ *
+ * Each row is a call and the errno that is wanted, first at an open end. An arrival has an order of its own, and a name that is looked for is
+ * judged behind the stream. */
+#include <stdio.h>
+#include <stdlib.h>
+
+#include "../../examples/c/said.h"
+#include "strm.h"
+
+static long given;
+static int is_refusing, failed;
+
+void *__real_malloc(size_t size);
+void *__real_realloc(void *old, size_t size);
+void __real_free(void *old);
+
+void *__wrap_malloc(size_t size)
+{
+    given++;
+    return is_refusing ? NULL : __real_malloc(size);
+}
+
+void *__wrap_realloc(void *old, size_t size)
+{
+    given++;
+    return is_refusing ? NULL : __real_realloc(old, size);
+}
+
+void __wrap_free(void *old)
+{
+    __real_free(old);
+}
+
+static struct strm s = STRM_CLOSED;
+static uint8_t at = STRM_A;
+
+/* Calls by the numbers that they are given: a first one, and a second where there are two. */
+
+static int putmsg(int flags, int unused)
+{
+    struct strbuf ctl = { 0, 3, (char[]){ "ctl" } }, dat = { 0, 3, (char[]){ "dat" } };
+    (void)unused;
+    return strm_putmsg(&s, at, &ctl, &dat, flags);
+}
+
+static int putmsg_bare(int flags, int unused)
+{
+    (void)unused;
+    return strm_putmsg(&s, at, NULL, NULL, flags);
+}
+
+static int putpmsg(int flags, int band)
+{
+    struct strbuf ctl = { 0, 3, (char[]){ "ctl" } }, dat = { 0, 3, (char[]){ "dat" } };
+    return strm_putpmsg(&s, at, &ctl, &dat, band, flags);
+}
+
+static int putpmsg_bare(int flags, int band)
+{
+    return strm_putpmsg(&s, at, NULL, NULL, band, flags);
+}
+
+/* Says that a number was written where a call was refused. */
+static void hold_unwritten(const char *what, int is_unwritten)
+{
+    if (!is_unwritten) {
+        printf("%s has written something\n", what);
+        failed++;
+    }
+}
+
+static int getmsg(int flags, int unused)
+{
+    char room[8];
+    struct strbuf ctl = { 4, -2, room }, dat = { 4, -2, room + 4 };
+    int told = flags, more = -2;
+    (void)unused;
+    int e = strm_getmsg(&s, at, &ctl, &dat, &told, &more);
+    hold_unwritten("getmsg", ctl.len == -2 && dat.len == -2 && told == flags && more == -2);
+    return e;
+}
+
+static int getpmsg(int flags, int band)
+{
+    char room[8];
+    struct strbuf ctl = { 4, -2, room }, dat = { 4, -2, room + 4 };
+    int told = flags, told_band = band, more = -2;
+    int e = strm_getpmsg(&s, at, &ctl, &dat, &told_band, &told, &more);
+    hold_unwritten("getpmsg", ctl.len == -2 && dat.len == -2 && told == flags && told_band == band && more == -2);
+    return e;
+}
+
+static int peek(int flags, int unused)
+{
+    char room[8];
+    struct strpeek peek = { { 4, -2, room }, { 4, -2, room + 4 }, flags };
+    int found = -2;
+    (void)unused;
+    int e = strm_peek(&s, at, &peek, &found);
+    hold_unwritten("peek", peek.ctlbuf.len == -2 && peek.databuf.len == -2 && peek.flags == flags && found == -2);
+    return e;
+}
+
+static int flush(int flags, int unused)
+{
+    (void)unused;
+    return strm_flush(&s, at, (uint32_t)flags);
+}
+
+static int flushband(int flags, int band)
+{
+    struct bandinfo info = { (unsigned char)band, flags };
+    return strm_flushband(&s, at, &info);
+}
+
+static int setread(int mode, int unused)
+{
+    (void)unused;
+    return strm_setread(&s, at, (uint32_t)mode);
+}
+
+/* A push of a kind that is none, of marks that are none, or of a number that its kind does not take. */
+
+static int push(int kind, int number)
+{
+    return strm_push_kind(&s, at, "name", 4, (uint32_t)kind, 0, 0, 0, 0, (uint32_t)number, "", 0);
+}
+
+static int push_marks(int hi, int lo)
+{
+    struct strm_module module = { "name", STRM_PASS, (uint32_t)hi, (uint32_t)lo, 8, 4, 0, NULL, 0 };
+    return strm_push(&s, at, &module);
+}
+
+static int push_table(int len, int unused)
+{
+    static const char table[512];
+    (void)unused;
+    return strm_push_kind(&s, at, "name", 4, STRM_TABLE, 0, 0, 0, 0, 0, table, (size_t)len);
+}
+
+/* Names that are none: of no byte, of nine, and with a byte that is no letter, no digit and no _. */
+static const char *const wrong_names[] = { "", "ninebytes", "a b", "a-b", "a/b", "a.b", "\x80", "a\n" };
+enum { WRONG_NAMES = sizeof wrong_names / sizeof *wrong_names };
+
+static int push_name(int i, int unused)
+{
+    struct strm_module module = { wrong_names[i], STRM_PASS, 8, 4, 8, 4, 0, NULL, 0 };
+    (void)unused;
+    return strm_push(&s, at, &module);
+}
+
+static int find_name(int i, int unused)
+{
+    int found = -2;
+    (void)unused;
+    int e = strm_find(&s, at, wrong_names[i], &found);
+    hold_unwritten("find", found == -2);
+    return e;
+}
+
+/* An arrival without parts: of a kind, and with a number. */
+static int arrive(int kind, int number)
+{
+    return strm_arrive(&s, kind, 0, NULL, NULL, number);
+}
+
+static int open_driver(int driver, int unused)
+{
+    struct strm other = STRM_CLOSED;
+    (void)unused;
+    int e = strm_open(&other, (uint32_t)driver, 16, 4, 16, 4);
+    hold_unwritten("open", other.at == NULL);
+    return e;
+}
+
+static int open_head(int hi, int lo)
+{
+    struct strm other = STRM_CLOSED;
+    int e = strm_open(&other, STRM_ECHO, (uint32_t)hi, (uint32_t)lo, 16, 4);
+    hold_unwritten("open", other.at == NULL);
+    return e;
+}
+
+static int open_lists(int hi, int lo)
+{
+    struct strm other = STRM_CLOSED;
+    int e = strm_open(&other, STRM_ECHO, 16, 4, (uint32_t)hi, (uint32_t)lo);
+    hold_unwritten("open", other.at == NULL);
+    return e;
+}
+
+struct row {
+    const char *what;
+    int (*call)(int, int);
+    int first, second;
+};
+
+/* EINVAL by what is given alone, at each end. */
+static const struct row rows[] = {
+    { "putmsg, MSG_ANY", putmsg, MSG_ANY, 0 },
+    { "putmsg, MSG_BAND", putmsg, MSG_BAND, 0 },
+    { "putmsg, flags -1", putmsg, -1, 0 },
+    { "putmsg without parts, flags 2", putmsg_bare, 2, 0 },
+    { "putpmsg, MSG_ANY", putpmsg, MSG_ANY, 0 },
+    { "putpmsg, MSG_HIPRI and MSG_BAND", putpmsg, MSG_HIPRI | MSG_BAND, 0 },
+    { "putpmsg, flags 8", putpmsg, 8, 0 },
+    { "putpmsg, band 256", putpmsg, MSG_BAND, 256 },
+    { "putpmsg, band -1", putpmsg, MSG_BAND, -1 },
+    { "putpmsg, MSG_HIPRI and band 256", putpmsg, MSG_HIPRI, 256 },
+    { "putpmsg, no flag and band 256", putpmsg, 0, 256 },
+    { "putpmsg without parts, band 256", putpmsg_bare, MSG_BAND, 256 },
+    { "putpmsg without parts, flags 3", putpmsg_bare, 3, 0 },
+    { "getmsg, MSG_ANY", getmsg, MSG_ANY, 0 },
+    { "getmsg, flags -1", getmsg, -1, 0 },
+    { "getpmsg, flags 3", getpmsg, MSG_HIPRI | MSG_ANY, 0 },
+    { "getpmsg, flags 8", getpmsg, 8, 0 },
+    { "getpmsg, band 256", getpmsg, MSG_BAND, 256 },
+    { "getpmsg, band -1", getpmsg, MSG_ANY, -1 },
+    { "peek, flags 2", peek, 2, 0 },
+    { "peek, flags -1", peek, -1, 0 },
+    { "flush, flags 4", flush, 4, 0 },
+    { "flush, flags 7", flush, FLUSHRW | FLUSHBAND, 0 },
+    { "flushband, flags 4", flushband, FLUSHBAND, 1 },
+    { "flushband, flags -1", flushband, -1, 1 },
+    { "setread, modes 1 and 2", setread, RMSGD | RMSGN, 0 },
+    { "setread, treatments 4 and 8", setread, RPROTDAT | RPROTDIS, 0 },
+    { "setread, 32", setread, 32, 0 },
+    { "push, kind 9", push, STRM_SPLIT + 1, 1 },
+    { "push, kind -1", push, -1, 1 },
+    { "push, band 256", push, STRM_BAND, 256 },
+    { "push, a split of 0", push, STRM_SPLIT, 0 },
+    { "push, a split of 4097", push, STRM_SPLIT, 4097 },
+    { "push, no table", push, STRM_TABLE, 0 },
+    { "push, a table of 255", push_table, 255, 0 },
+    { "push, a table of 257", push_table, 257, 0 },
+    { "push, marks 4 and 4", push_marks, 4, 4 },
+    { "push, marks 4 and 5", push_marks, 4, 5 },
+};
+enum { ROWS = sizeof rows / sizeof *rows };
+
+/* EINVAL by what is given alone, at no end. */
+static const struct row openings[] = {
+    { "open, driver 3", open_driver, STRM_LINE + 1, 0 },
+    { "open, driver -1", open_driver, -1, 0 },
+    { "open, the head's marks 4 and 4", open_head, 4, 4 },
+    { "open, the lists' marks 4 and 5", open_lists, 4, 5 },
+    { "open, the lists' marks 0 and 0", open_lists, 0, 0 },
+};
+enum { OPENINGS = sizeof openings / sizeof *openings };
+
+/* No message from a line, and no part of one. */
+static const struct row arrivals[] = {
+    { "arrive, kind 2", arrive, 2, 0 },
+    { "arrive, kind 256", arrive, 256, 0 },
+    { "arrive, kind -1", arrive, -1, 0 },
+    { "arrive, M_DATA without data", arrive, M_DATA, 0 },
+    { "arrive, M_PROTO without control", arrive, M_PROTO, 0 },
+    { "arrive, M_PCPROTO without control", arrive, M_PCPROTO, 0 },
+    { "arrive, M_SETOPTS without data", arrive, M_SETOPTS, 0 },
+    { "arrive, M_FLUSH with 8", arrive, M_FLUSH, 8 },
+    { "arrive, M_ERROR with 1", arrive, M_ERROR, 1 },
+};
+enum { ARRIVALS = sizeof arrivals / sizeof *arrivals };
+
+/* Holds a call to an errno. It takes no memory. */
+static void hold(const struct row *row, int errno_wanted, const char *where)
+{
+    long before = given;
+    int e = row->call(row->first, row->second);
+    if (e != errno_wanted || given != before) {
+        printf("%s, %s: %s for %s, %ld times memory\n", row->what, where, said(e), said(errno_wanted), given - before);
+        failed++;
+    }
+}
+
+static void hold_all(const struct row *all, int count, int errno_wanted, const char *where)
+{
+    for (int i = 0; i < count; i++) {
+        hold(&all[i], errno_wanted, where);
+        is_refusing = 1;
+        hold(&all[i], errno_wanted, "with no memory");
+        is_refusing = 0;
+    }
+}
+
+/* Each name that is none, pushed and looked for. */
+static void hold_names(int pushed, int found, const char *where)
+{
+    for (int i = 0; i < WRONG_NAMES; i++) {
+        struct row push = { "push, a name that is none", push_name, i, 0 };
+        struct row find = { "find, a name of no byte or of nine", find_name, i, 0 };
+        hold_all(&push, 1, pushed, where);
+        if (i < 2)
+            hold_all(&find, 1, found, where);
+    }
+}
+
+/* Opens a stream, or ends the test. */
+static void open_as(uint32_t driver)
+{
+    if (strm_open(&s, driver, 16, 4, 8, 2) != 0)
+        exit(2);
+}
+
+/* What is given is judged before the stream, but for the name that is looked for and for arrivals. */
+static void hold_ends(void)
+{
+    open_as(STRM_LINE);
+    hold_all(rows, ROWS, EINVAL, "at an open end");
+    hold_names(EINVAL, EINVAL, "at an open end");
+    hold_all(arrivals, ARRIVALS, EINVAL, "at an open end");
+    at = STRM_B;
+    hold_all(rows, ROWS, EINVAL, "at an end that the driver lacks");
+    hold_names(EINVAL, EBADF, "at an end that the driver lacks");
+    at = STRM_A;
+    strm_close(&s, STRM_A);
+    hold_all(rows, ROWS, EINVAL, "at a closed end");
+    hold_names(EINVAL, EBADF, "at a closed end");
+    hold_all(arrivals, ARRIVALS, EBADF, "at a closed end");
+    strm_free(&s);
+}
+
+/* A number that is no end goes before all. */
+static void hold_no_end(void)
+{
+    open_as(STRM_LOOP);
+    at = STRM_B + 1;
+    hold_all(rows, ROWS, EBADF, "at no end");
+    hold_names(EBADF, EBADF, "at no end");
+    at = STRM_A;
+    hold_all(arrivals, ARRIVALS, EINVAL, "where there is no line");
+    strm_free(&s);
+}
+
+/* What is given goes before an error that came up, a hangup, and what broke the stream. */
+static void hold_states(void)
+{
+    open_as(STRM_LINE);
+    strm_arrive(&s, M_HANGUP, 0, NULL, NULL, 0);
+    strm_arrive(&s, M_ERROR, 0, NULL, NULL, EPROTO);
+    hold_all(rows, ROWS, EINVAL, "behind an error");
+    hold_names(EINVAL, EPROTO, "behind an error");
+    hold_all(arrivals, ARRIVALS, EINVAL, "behind an error");
+    strm_free(&s);
+    open_as(STRM_LOOP);
+    is_refusing = 1;
+    int e = strm_close(&s, STRM_A);
+    is_refusing = 0;
+    if (e != ENOSR) {
+        printf("the close of an end: %s\n", said(e));
+        failed++;
+    }
+    at = STRM_B;
+    hold_all(rows, ROWS, EINVAL, "on a broken stream");
+    hold_names(EINVAL, ENOSR, "on a broken stream");
+    at = STRM_A;
+    strm_free(&s);
+}
+
+int main(void)
+{
+    hold_all(openings, OPENINGS, EINVAL, "at no stream");
+    hold_ends();
+    hold_no_end();
+    hold_states();
+    return failed != 0;
+}

@@ -1,6 +1,7 @@
 -- What stands under the lock, with one message or one call more.
 use Rattle.std.proofs.Common.{◌≡◌, ℕ, ◌+◌, ◌++◌, Option, Some, None, List, [], ◌∷◌, append-nil, sym, ◌∙◌, ap}
-use Rattle.std.specs.Prelude.{IsSome, is_some}
+use Rattle.std.specs.Prelude.{Bool, true, false}
+use Rattle.std.proofs.lemmas.List.{length_push}
 use Rattle.std.proofs.lemmas.List.Concat.{flat_map-append}
 use Rattle.strm_msg.specs.Message.{Msg}
 use Rattle.strm_msg.specs.declared.words.End.{End}
@@ -15,6 +16,7 @@ use Rattle.strm_entry.specs.Entry.{Entry}
 use Rattle.strm_entry.specs.declared.call.Called.{Called}
 use Rattle.strm_entry.specs.declared.call.Called.TheVariants.{Done, NoRoom}
 use Rattle.strm_entry.specs.Entry.{came_in}
+use Rattle.strm_entry.specs.Called.{is_done}
 use Rattle.strm_entry.specs.Own.{arrivals}
 use Rattle.strm_history.specs.Log.{LogValue, HasLanded, CallsBy, IsSameLog}
 use Rattle.strm_history.proofs.LogLemmas.{landed_same, same_log, same_logs}
@@ -22,7 +24,7 @@ use Rattle.strm_line.specs.Inlet.{InletValue}
 use Rattle.strm_line.specs.Runs.{IsNextOf}
 use Rattle.strm_shared.specs.Seat.{SeatValue}
 use Rattle.strm_shared.specs.Turns.{turned, IsLocked, TurnsValue}
-use Rattle.strm_shared.specs.Arrivals.{TakesIn, ComesIn}
+use Rattle.strm_shared.specs.Arrivals.{TakesIn, ComesIn, Stops, TakesAll, Finds}
 use Rattle.strm_shared.proofs.TurnLemmas.{call_keeps, line_in_turn}
 
 -- what came in, with one step more
@@ -39,10 +41,11 @@ module _ {K : Type 0} (means : Meaning K) where
   takes_more old between new [] m same lands = (new, landed_same means old between new m same lands, same_log new)
   takes_more old between new (first ∷ rest) m takes lands = (takes.0, takes.1, takes_more takes.0 between new rest m takes.2 lands)
 
-  pub comes_more : (old between new : LogValue K) (m : Msg) → ComesIn means old between → HasLanded means between m new → ComesIn means old new
-  comes_more old between new m comes lands = record {
+  pub comes_more : (many : ℕ) (old between new : LogValue K) (m : Msg) → ComesIn means many old between → HasLanded means between m new → ComesIn means (many + 1) old new
+  comes_more many old between new m comes lands = record {
     came = comes.came ++ m ∷ [];
     takes = takes_more old between new comes.came m comes.takes lands;
+    many_came = length_push comes.came m ∙ ap (λ n. n + 1) comes.many_came;
   }
 
   -- some messages that came in, with other room before them
@@ -50,10 +53,11 @@ module _ {K : Type 0} (means : Meaning K) where
   takes_same old between new [] same takes = same_logs old between new same takes
   takes_same old between new (m ∷ rest) same takes = (takes.0, landed_same means old between takes.0 m same takes.1, takes.2)
 
-  pub comes_same : (old between new : LogValue K) → IsSameLog old between → ComesIn means between new → ComesIn means old new
-  comes_same old between new same comes = record {
+  comes_same : (many : ℕ) (old between new : LogValue K) → IsSameLog old between → ComesIn means many between new → ComesIn means many old new
+  comes_same many old between new same comes = record {
     came = comes.came;
     takes = takes_same old between new comes.came same comes.takes;
+    many_came = comes.many_came;
   }
 
   -- and with other room behind them
@@ -61,11 +65,30 @@ module _ {K : Type 0} (means : Meaning K) where
   takes_then old between new [] takes same = same_logs old between new takes same
   takes_then old between new (m ∷ rest) takes same = (takes.0, takes.1, takes_then takes.0 between new rest takes.2 same)
 
-  pub comes_then : (old between new : LogValue K) → ComesIn means old between → IsSameLog between new → ComesIn means old new
-  comes_then old between new comes same = record {
+  pub comes_then : (many : ℕ) (old between new : LogValue K) → ComesIn means many old between → IsSameLog between new → ComesIn means many old new
+  comes_then many old between new comes same = record {
     came = comes.came;
     takes = takes_then old between new comes.came comes.takes same;
+    many_came = comes.many_came;
   }
+
+  -- all that can came in, with other room before
+  stops_same : (old between new : LogValue K) (many : ℕ) (has_memory : Bool) (held : Option Msg) → IsSameLog old between → Stops means between many has_memory new held → Stops means old many has_memory new held
+  stops_same old between new many true held same stops = rw same.setup at stops
+  stops_same old between new many false held same stops = stops
+
+  pub all_same : (old between new : LogValue K) (has_memory : Bool) (held : Option Msg) → IsSameLog old between → TakesAll means between has_memory new held → TakesAll means old has_memory new held
+  all_same old between new has_memory held same all = record {
+    many = all.many;
+    few = rw same.setup at all.few;
+    comes = comes_same all.many old between new same all.comes;
+    stops = stops_same old between new all.many has_memory held same all.stops;
+  }
+
+  -- a call that was made found all that can come in
+  pub found : {A : Type 0} (old before : LogValue K) (result : Called (Shape K) K A) (held : Option Msg) → is_done result ≡ true → TakesAll means old true before held → Finds means old result before held
+  found old before (Done has back receipt) held made all = all
+  found old before (NoRoom same) held made all = absurd cc
 
   -- a call has let nothing in, and keeps the setup
   call_arrivals : {A : Type 0} (Agrees : A → Answer → Type 0) (old new : LogValue K) (caller nth : ℕ) (call : Call (Shape K)) (result : Called (Shape K) K A) → CallsBy means Agrees old caller nth call result new → arrivals new.history ≡ arrivals old.history
@@ -121,6 +144,7 @@ same_locked calls number old new turns inlet same was = record {
 }
 
 -- a message that was handed back is held
-pub held_some : (m same : Msg) (inlet taken after : InletValue) → same ≡ m → taken ≡ record inlet { came = inlet.came ++ m ∷ []; held = None } → ((before : List Msg) → taken.came ≡ before ++ same ∷ [] → after ≡ record taken { came = before; held = Some same }) → IsSome after.held
-held_some m same inlet taken after is left held =
-    ap (λ (i : InletValue). is_some i.held) (held inlet.came (ap (λ (i : InletValue). i.came) left ∙ ap (λ (x : Msg). inlet.came ++ x ∷ []) (sym is)))
+pub held_is : (m same : Msg) (inlet taken after : InletValue) → same ≡ m → taken ≡ record inlet { came = inlet.came ++ m ∷ []; held = None } → ((before : List Msg) → taken.came ≡ before ++ same ∷ [] → after ≡ record taken { came = before; held = Some same }) → after.held ≡ Some m
+held_is m same inlet taken after is left held =
+    ap (λ (i : InletValue). i.held) (held inlet.came (ap (λ (i : InletValue). i.came) left ∙ ap (λ (x : Msg). inlet.came ++ x ∷ []) (sym is)))
+    ∙ ap (λ (x : Msg). Some x) is

@@ -1,47 +1,70 @@
 -- Messages that come in from a line before a call is made. No public clause cites what stands here.
-use Rattle.std.specs.Prelude.{ℕ, List, [], ◌∷◌, Option, IsSome, ◌⊎◌, ⊤}
+use Rattle.std.specs.Prelude.{◌≡◌, ◌<◌, ◌≤◌, ℕ, Bool, true, false, List, [], ◌∷◌, Option, Some, IfSome, length, ◌⊎◌}
 use Rattle.strm_msg.specs.Message.{Msg}
+use Rattle.strm_msg.specs.declared.words.End.TheVariants.{A}
+use Rattle.strm_module.specs.Driver.{is_line}
 use Rattle.strm_module.specs.Kinds.{Meaning}
 use Rattle.strm_module.specs.declared.shape.Shape.{Shape}
 use Rattle.strm_call.specs.declared.answer.Answer.{Answer}
 use Rattle.strm_call.specs.declared.call.Call.{Call}
+use Rattle.strm_head.specs.Step.{can_arrive}
 use Rattle.strm_entry.specs.declared.call.Called.{Called}
 use Rattle.strm_entry.specs.declared.call.Called.TheVariants.{Done, NoRoom}
 use Rattle.strm_history.specs.Log.{LogValue, HasLanded, CallsBy, IsSameLog}
 use Rattle.strm_shared.specs.declared.locked.Intake.{Intake}
 use Rattle.strm_shared.specs.declared.locked.Intake.TheVariants.{Entered, Rests, NoMem}
 
--- a message for which memory was wanting is held back
-abbrev pub HoldsBack : Intake → Option Msg → Type 0
-HoldsBack Entered held = ⊤
-HoldsBack Rests held = ⊤
-HoldsBack NoMem held = IsSome held
+-- a message is held back that could come in: memory was wanting for it
+abbrev pub LacksMemory : {K : Type 0} → LogValue K → Option Msg → Type 0
+LacksMemory log held = (m : Msg) × (held ≡ Some m) × (can_arrive log.image A m ≡ true)
 
--- a call comes back where nothing came in before it, or where memory was wanting for a message, which is held back
-abbrev pub ComesBack : {P K A : Type 0} → Called P K A → LogValue K → LogValue K → Option Msg → Type 0
-ComesBack (Done answer back receipt) old new held = ⊤
-ComesBack (NoRoom same) old new held = IsSameLog old new ⊎ IsSome held
+-- none is held back, or one that cannot come in
+abbrev pub AllWait : {K : Type 0} → LogValue K → Option Msg → Type 0
+AllWait log held = IfSome held (λ m. can_arrive log.image A m ≡ false)
 
 -- for kinds of any meaning
 module _ {K : Type 0} (means : Meaning K) where
-  -- a message came in, or nothing is changed
-  abbrev pub Intakes : LogValue K → Intake → LogValue K → Type 0
-  Intakes old Entered new = (m : Msg) × HasLanded means old m new
-  Intakes old Rests new = IsSameLog old new
-  Intakes old NoMem new = IsSameLog old new
+  -- the next message came in; or nothing is changed, as none can, or as memory was wanting for the one that is held back
+  abbrev pub Intakes : LogValue K → Intake → LogValue K → Option Msg → Type 0
+  Intakes old Entered new held = (m : Msg) × HasLanded means old m new
+  Intakes old Rests new held = IsSameLog old new × AllWait new held
+  Intakes old NoMem new held = IsSameLog old new × LacksMemory new held
 
   -- these messages came in, in order, and nothing else happened
   abbrev pub TakesIn : LogValue K → List Msg → LogValue K → Type 0
   TakesIn old [] new = IsSameLog old new
   TakesIn old (m ∷ rest) new = (next : LogValue K) × HasLanded means old m next × TakesIn next rest new
 
-  -- some messages came in
-  pub record ComesIn (old new : LogValue K) : Type 0 where
+  -- so many messages came in
+  pub record ComesIn (many : ℕ) (old new : LogValue K) : Type 0 where
     pub came : List Msg
     pub takes : TakesIn old came new
+    pub many_came : length came ≡ many
 
-  -- some messages came in, and then the call was made, or it came back
-  pub record CallsAfter {A : Type 0} (Agrees : A → Answer → Type 0) (old : LogValue K) (caller number : ℕ) (call : Call (Shape K)) (result : Called (Shape K) K A) (new : LogValue K) : Type 0 where
+  -- why no more came in than did: the stream is no line, or as many did as its ring holds, or none can; or else memory was wanting for
+  -- the next one
+  abbrev pub Stops : LogValue K → ℕ → Bool → LogValue K → Option Msg → Type 0
+  Stops old many true new held = is_line old.setup.driver ≡ true → many < old.setup.ring → AllWait new held
+  Stops old many false new held = LacksMemory new held
+
+  -- messages came in, as many as the ring holds at most: all that can, unless memory was wanting for one
+  pub record TakesAll (old : LogValue K) (has_memory : Bool) (new : LogValue K) (held : Option Msg) : Type 0 where
+    pub many : ℕ
+    pub few : many ≤ old.setup.ring
+    pub comes : ComesIn many old new
+    pub stops : Stops old many has_memory new held
+
+  -- why a call comes back: its place was wanting, before any message came in; or memory was wanting for a message
+  abbrev pub ComesBack : LogValue K → LogValue K → Option Msg → Type 0
+  ComesBack old before held = IsSameLog old before ⊎ TakesAll old false before held
+
+  -- what a call finds: the stream behind the messages that came in
+  abbrev pub Finds : {A : Type 0} → LogValue K → Called (Shape K) K A → LogValue K → Option Msg → Type 0
+  Finds old (Done answer back receipt) before held = TakesAll old true before held
+  Finds old (NoRoom same) before held = ComesBack old before held
+
+  -- messages came in, and then the call was made; or it came back
+  pub record CallsAfter {A : Type 0} (Agrees : A → Answer → Type 0) (old : LogValue K) (caller number : ℕ) (call : Call (Shape K)) (result : Called (Shape K) K A) (new : LogValue K) (held : Option Msg) : Type 0 where
     pub before : LogValue K
-    pub comes : ComesIn old before
+    pub finds : Finds old result before held
     pub calls : CallsBy means Agrees before caller number call result new

@@ -22,6 +22,7 @@ use Rattle.strm_entry.specs.Own.{calls_of}
 use Rattle.strm_entry.specs.Receipt.{ReceiptValue, RoomValue}
 use Rattle.strm_line.specs.Feed.{FeedValue}
 use Rattle.strm_shared.specs.Seat.{SeatValue}
+use Rattle.strm_shared.specs.Turns.{LockedValue, has_count}
 
 -- a shared stream: its number, its setup, and how many callers it has
 pub record SharedValue : Type 0 where
@@ -102,3 +103,9 @@ CountsAgree history seats = All (λ s. calls_of s.caller history ≡ s.calls) se
 abbrev pub is_fed : ℕ → Setup → Option FeedValue → Bool
 is_fed number setup None = not (is_line setup.driver)
 is_fed number setup (Some feed) = feed.number == number
+
+-- what stood under the lock is the stream's; its calls are in turn, those of as many callers, and as many of each as its seat counts; and
+-- a line's feeder has ended (no public clause cites it)
+abbrev pub IsFinished : {K : Type 0} → ℕ → Setup → ℕ → LockedValue K → List SeatValue → Option FeedValue → Type 0
+IsFinished number setup callers locked seats feed =
+    ((locked.number ≡ number) × (locked.log.setup ≡ setup)) × (is_fed number setup feed ≡ true) × ((locked.turns.in_turn ≡ true) × (length locked.turns.counts ≡ callers) × All (λ seat. has_count seat locked.turns.counts ≡ true) seats)

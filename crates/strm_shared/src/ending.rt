@@ -4,7 +4,7 @@ ghost use Rattle.strm_entry.specs.Own.{arrivals};
 ghost use Rattle.strm_history.specs.History.{Legal};
 ghost use Rattle.strm_history.specs.Opened.{opened};
 ghost use Rattle.strm_line.specs.Feed.{accepted_of};
-ghost use Rattle.strm_shared.specs.Ending.{is_fed, AreSeats, AreShown};
+ghost use Rattle.strm_shared.specs.Ending.{is_fed, AreSeats, AreShown, IsFinished};
 ghost use Rattle.strm_shared.specs.Turns.{has_count, AreInTurn};
 
 use crate::fault::EndFault;
@@ -77,7 +77,8 @@ pub(crate) fn have_ended<M: ModuleOf, N: Runs<M::Kind>>(
     ensures seated { OnOk result (AreSeats number callers seats.now) }
     ensures shown { OnOk result (AreShown seats.now) }
     ensures seats { IsErrOf result EndFault.Seats ↔ (AreSeats number callers seats.now → ⊥) }
-    ensures no_receipt { IsErrOf result EndFault.NoReceipt → (AreSeats number callers seats.now) × (is_fed number setup feed.now ≡ true) × (AreShown seats.now → ⊥) }
+    ensures unfinished { IsErrOf result EndFault.Unfinished → (AreSeats number callers seats.now) × (IsFinished number setup callers locked.now seats.now feed.now → ⊥) }
+    ensures no_receipt { IsErrOf result EndFault.NoReceipt → (AreSeats number callers seats.now) × (IsFinished number setup callers locked.now seats.now feed.now) × (AreShown seats.now → ⊥) }
     ensures memory { IsErrOf result EndFault.NoMem → ⊥ }
 {
     if !are_seats(number, callers, seats) {

@@ -1,17 +1,17 @@
 //! What stands under the lock of a shared stream.
-ghost use Rattle.std.specs.Prelude.{◌≡◌, ◌↔◌, ◌+◌, ◌<◌, ◌^◌, true, false, [], All, IfOk, IsSome, length, replicate};
+ghost use Rattle.std.specs.Prelude.{◌≡◌, ◌↔◌, ◌+◌, ◌<◌, ◌^◌, true, [], All, IfOk, length, replicate};
 ghost use Rattle.strm_module.specs.Driver.{is_line};
 ghost use Rattle.strm_call.specs.Setup.{is_fit};
 ghost use Rattle.strm_call.specs.declared.event.Event.TheVariants.{Asked};
 ghost use Rattle.strm_entry.specs.Own.{arrivals};
 ghost use Rattle.strm_entry.specs.Called.{is_done};
-ghost use Rattle.strm_history.specs.Log.{CallsBy, KeepsRoom};
+ghost use Rattle.strm_history.specs.Log.{CallsBy, LeavesRoom};
 ghost use Rattle.strm_history.specs.Opened.{opened};
 ghost use Rattle.strm_line.specs.Runs.{IsNextOf};
 ghost use Rattle.strm_line.specs.Inlet.{fresh_inlet};
 ghost use Rattle.strm_shared.specs.Ending.{room_of, Counted};
 ghost use Rattle.strm_shared.specs.Turns.{has_count, turned, AreInTurn};
-ghost use Rattle.strm_shared.specs.Arrivals.{Intakes, CallsAfter, ComesBack, ComesIn, HoldsBack};
+ghost use Rattle.strm_shared.specs.Arrivals.{Intakes, CallsAfter, TakesAll};
 
 use crate::seat::Seat;
 use crate::turns::Turns;
@@ -104,9 +104,8 @@ impl<M: ModuleOf, N: Runs<M::Kind>> Locked<M, N> {
     #[inline(never)]
     fn take_next(&mut self) -> Intake
         ensures number { self.new.number ≡ self.old.number }
-        ensures log { Intakes M.Kind.means self.old.log result self.new.log }
-        ensures room { KeepsRoom self.old.log self.new.log }
-        ensures held { HoldsBack result self.new.inlet.held }
+        ensures log { Intakes M.Kind.means self.old.log result self.new.log self.new.inlet.held }
+        ensures room { LeavesRoom self.old.log self.new.log }
         ensures turns { self.new.turns ≡ self.old.turns }
     {
         let Some(m) = self.inlet.take() else {
@@ -125,13 +124,12 @@ impl<M: ModuleOf, N: Runs<M::Kind>> Locked<M, N> {
         }
     }
 
-    /// Messages of the line come in, in order, as long as they can, at most as many as its ring holds; and whether memory
-    /// was not wanting for one, which is then held back. Room for a call's entry stays.
+    /// Messages of the line come in, in order, as long as they can, at most as many as its ring holds; and whether there was memory
+    /// for each. The first for which there was none is held back, and none comes in behind it. Room for a call's entry stays.
     fn take_in(&mut self) -> bool
         ensures number { self.new.number ≡ self.old.number }
-        ensures log { ComesIn M.Kind.means self.old.log self.new.log }
-        ensures room { KeepsRoom self.old.log self.new.log }
-        ensures held { result ≡ false → IsSome self.new.inlet.held }
+        ensures log { TakesAll M.Kind.means self.old.log result self.new.log self.new.inlet.held }
+        ensures room { LeavesRoom self.old.log self.new.log }
         ensures turns { self.new.turns ≡ self.old.turns }
     {
         if !self.log.setup().is_line() {
@@ -165,6 +163,7 @@ impl<M: ModuleOf, N: Runs<M::Kind>> Locked<M, N> {
         ensures made { is_done result ≡ true }
         ensures counts { Counted call seat.old result seat.new }
         ensures turns { self.new.turns ≡ turned self.old.number seat.old result self.old.turns }
+        ensures inlet { self.new.inlet ≡ self.old.inlet }
     {
         let is_next = self.turns.is_next(self.number, seat);
         let called = self.log.enter::<A>(call, room, cell);
@@ -188,8 +187,7 @@ impl<M: ModuleOf, N: Runs<M::Kind>> Locked<M, N> {
         requires next { IsNextOf (N.calls seat.old.number seat.old.caller) seat.old.calls (call.end, Asked call.request) }
         requires counts { seat.old.calls + 1 < 2 ^ 64 }
         ensures number { self.new.number ≡ self.old.number }
-        ensures log { CallsAfter M.Kind.means A.Agrees self.old.log seat.old.caller (seat.old.calls + 1) call result self.new.log }
-        ensures back { ComesBack result self.old.log self.new.log self.new.inlet.held }
+        ensures log { CallsAfter M.Kind.means A.Agrees self.old.log seat.old.caller (seat.old.calls + 1) call result self.new.log self.new.inlet.held }
         ensures counts { Counted call seat.old result seat.new }
         ensures turns { self.new.turns ≡ turned self.old.number seat.old result self.old.turns }
     {

@@ -1,4 +1,5 @@
-use Rattle.std.proofs.Common.{◌∙◌}
+use Rattle.std.proofs.Common.{◌∙◌, ap, arith}
+use Rattle.strm_call.specs.declared.setup.Setup.{Setup}
 use Rattle.strm_shared.proofs.ArrivalLemmas.{comes_more, comes_then}
 use Rattle.strm_shared.proofs.locked.Locked.take_in.Goals as goal
 
@@ -10,13 +11,25 @@ loop-at-preserved g c =
       number = c.take_next.ensures.number ∙ was.number;
       turns = c.take_next.ensures.turns ∙ was.turns;
       room = λ has. c.take_next.ensures.room (was.room has);
-      comes = comes_more g.M.Kind.Kinds.means _ _ _ landed.0 was.comes landed.1;
+      comes = comes_more g.M.Kind.Kinds.means c.loop-at._at _ _ _ landed.0 was.comes landed.1;
     }
 
 pub returns-in-Rests-clause-log : goal.returns-in-Rests-clause-log
 returns-in-Rests-clause-log g c =
-    comes_then g.M.Kind.Kinds.means _ _ _ c.loop-at.invariant.comes c.in-Rests.ensures.log
+    let rests = c.in-Rests.ensures.log in
+    record {
+      many = c.loop-at._at;
+      few = rw (← c.self.view_is) (omega (arith, ap (λ (s : Setup). s.ring) c.setup-at-end.ensures));
+      comes = comes_then g.M.Kind.Kinds.means _ _ _ _ c.loop-at.invariant.comes rests.0;
+      stops = λ line few. rests.1;
+    }
 
 pub returns-in-NoMem-clause-log : goal.returns-in-NoMem-clause-log
 returns-in-NoMem-clause-log g c =
-    comes_then g.M.Kind.Kinds.means _ _ _ c.loop-at.invariant.comes c.in-NoMem.ensures.log
+    let wants = c.in-NoMem.ensures.log in
+    record {
+      many = c.loop-at._at;
+      few = rw (← c.self.view_is) (omega (arith, ap (λ (s : Setup). s.ring) c.setup-at-end.ensures));
+      comes = comes_then g.M.Kind.Kinds.means _ _ _ _ c.loop-at.invariant.comes wants.0;
+      stops = wants.1;
+    }

@@ -1,4 +1,4 @@
-use Rattle.strm_shared.proofs.ArrivalLemmas.{held_locked, held_some, landed_locked}
+use Rattle.strm_shared.proofs.ArrivalLemmas.{held_is, held_locked, landed_locked}
 use Rattle.strm_shared.proofs.locked.Locked.take_next.Goals as goal
 
 pub invariant_of-self-in-Entered : goal.invariant_of-self-in-Entered
@@ -11,15 +11,20 @@ invariant_of-self-in-Full g c =
 
 pub invariant_of-self-in-NoMem : goal.invariant_of-self-in-NoMem
 invariant_of-self-in-NoMem g c =
-    held_locked (λ number. g.N.Runs.calls number) c.self.inside.number c.self.inside.log c.arrive.new.self c.in-Some.m c.in-NoMem.m c.self.inside.turns c.self.inside.inlet c.take.new.self c.hold-in-NoMem.new.self c.in-NoMem.ensures.landed.0 c.in-NoMem.ensures.landed.1 c.in-Some.ensures.next c.hold-in-NoMem.ensures c.self.invariant
+    held_locked (λ number. g.N.Runs.calls number) c.self.inside.number c.self.inside.log c.arrive.new.self c.in-Some.m c.in-NoMem.m c.self.inside.turns c.self.inside.inlet c.take.new.self c.hold-in-NoMem.new.self c.in-NoMem.ensures.landed.1 c.in-NoMem.ensures.landed.2 c.in-Some.ensures.next c.hold-in-NoMem.ensures c.self.invariant
 
+-- a message that cannot come in is held back
 pub returns-in-Full-clause-log : goal.returns-in-Full-clause-log
-returns-in-Full-clause-log g c = rw (← c.self.view_is) c.in-Full.ensures.landed.2
+returns-in-Full-clause-log g c =
+    let full = c.in-Full.ensures.landed in
+    let held = held_is c.in-Some.m c.in-Full.m c.self.inside.inlet c.take.new.self c.hold.new.self full.1 c.in-Some.ensures.next c.hold.ensures in
+    rw (← c.self.view_is)
+    (full.2, rw (held, full.2.image) full.0)
 
+-- and so is one for which memory was wanting
 pub returns-in-NoMem-clause-log : goal.returns-in-NoMem-clause-log
-returns-in-NoMem-clause-log g c = rw (← c.self.view_is) c.in-NoMem.ensures.landed.1
-
--- a message for which memory was wanting is held back
-pub returns-in-NoMem-clause-held : goal.returns-in-NoMem-clause-held
-returns-in-NoMem-clause-held g c =
-    held_some c.in-Some.m c.in-NoMem.m c.self.inside.inlet c.take.new.self c.hold-in-NoMem.new.self c.in-NoMem.ensures.landed.0 c.in-Some.ensures.next c.hold-in-NoMem.ensures
+returns-in-NoMem-clause-log g c =
+    let wants = c.in-NoMem.ensures.landed in
+    let held = held_is c.in-Some.m c.in-NoMem.m c.self.inside.inlet c.take.new.self c.hold-in-NoMem.new.self wants.1 c.in-Some.ensures.next c.hold-in-NoMem.ensures in
+    rw (← c.self.view_is)
+    (wants.2, (c.in-Some.m, held, rw wants.2.image wants.0))

@@ -10,7 +10,7 @@ returns-in-Err-clause-seats g c =
 pub returns-in-Err-clause-no_receipt : goal.returns-in-Err-clause-no_receipt
 returns-in-Err-clause-no_receipt g c =
     let no_receipt = rw c.as_slice.ensures.value at c.in-Err.ensures.no_receipt in
-    rw (← c.self.view_is) (λ is. no_receipt (same_fault _ _ is))
+    rw (← c.self.view_is) (λ is. let says = no_receipt (same_fault _ _ is) in (says.0, says.1.1, says.2))
 
 pub returns-in-Err-clause-memory : goal.returns-in-Err-clause-memory
 returns-in-Err-clause-memory g c = λ is. absurd (c.in-Err.ensures.memory (same_fault _ _ is))

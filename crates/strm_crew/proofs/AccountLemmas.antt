@@ -12,7 +12,7 @@ use Rattle.strm_entry.specs.Entry.{asked_of}
 use Rattle.strm_entry.specs.Receipt.{ReceiptValue}
 use Rattle.strm_shared.specs.Seat.{SeatValue}
 use Rattle.strm_shared.specs.Ending.{IsReceiptOf}
-use Rattle.strm_crew.specs.Account.{HasReceipts}
+use Rattle.strm_crew.specs.Account.{fresh_account, AccountValue, HasReceipts}
 use Rattle.strm_feed.specs.About.{RunValue}
 use Rattle.strm_job.specs.Scripts.{calls_on, script_of}
 
@@ -35,3 +35,16 @@ receipts_more {K} run seat after call back entries longer receipt is of next was
     ∙ ap (λ x. take seat.calls all ++ x ∷ []) of.asked
     ∙ sym (take_next all seat.calls (call.end, Asked call.request) next)
     ∙ ap (λ m. take m all) (sym n))
+
+-- one account more, from which no call was made
+pub accounts_more : {K : Type 0} (seats : List SeatValue) (seat : SeatValue) (accounts longer : List (AccountValue K)) (one : AccountValue K) → accounts ≡ map fresh_account seats → one ≡ fresh_account seat → longer ≡ accounts ++ one ∷ [] → longer ≡ map fresh_account (seats ++ seat ∷ [])
+accounts_more {K} seats seat accounts longer one were is more =
+    more
+    ∙ ap (λ (l : List (AccountValue K)). l ++ one ∷ []) were
+    ∙ ap (λ (a : AccountValue K). map fresh_account seats ++ a ∷ []) is
+    ∙ sym (map-append (fresh_account {K = K}) seats (seat ∷ []))
+
+-- the next call of an account that is the same
+pub next_same : {K : Type 0} (run : RunValue K) (account same : AccountValue K) (call : Call (Shape K)) → account ≡ same → slice_get (calls_on same.seat.number (script_of run.scripts same.seat.caller)) same.seat.calls ≡ Some (call.end, Asked call.request) → slice_get (calls_on account.seat.number (script_of run.scripts account.seat.caller)) account.seat.calls ≡ Some (call.end, Asked call.request)
+next_same {K} run account same call is next =
+    subst (λ (a : AccountValue K). slice_get (calls_on a.seat.number (script_of run.scripts a.seat.caller)) a.seat.calls ≡ Some (call.end, Asked call.request)) (sym is) next

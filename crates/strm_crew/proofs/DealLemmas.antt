@@ -1,14 +1,15 @@
 -- Callers, one more at a time.
-use Rattle.std.proofs.Common.{◌≡◌, ℕ, suc, ◌+◌, ◌<◌, ◌≤◌, ◌%◌, ◌==◌, Bool, true, false, List, [], ◌∷◌, ◌++◌, length, get_or, set, Vec, Global, All, refl, sym, ◌∙◌, ap, subst, arith}
+use Rattle.std.proofs.Common.{◌≡◌, ℕ, suc, ◌+◌, ◌<◌, ◌≤◌, ◌%◌, ◌==◌, Bool, true, false, List, [], ◌∷◌, ◌++◌, length, get_or, map, set, Vec, Global, All, refl, sym, ◌∙◌, ap, subst, arith}
 use Rattle.std.specs.Prelude.{filter}
 use Rattle.std.proofs.Math.Nat.{mod-lt}
 use Rattle.std.proofs.lemmas.Bool.{eqb-true, eqb-false}
-use Rattle.std.proofs.lemmas.List.{length-set, get_or-set_same, get_or-set_other}
+use Rattle.std.proofs.lemmas.List.{length-map, length-set, get_or-map, get_or-set_same, get_or-set_other}
 use Rattle.strm_module.specs.declared.shape.Shape.{Shape}
 use Rattle.strm_shared.specs.Seat.{SeatValue}
 use Rattle.strm_job.specs.declared.script.ScriptCall.{ScriptCall}
 use Rattle.strm_job.specs.Scripts.{calls_on, script_of}
 use Rattle.strm_feed.specs.About.{RunValue}
+use Rattle.strm_crew.specs.Account.{fresh_account, AccountValue}
 use Rattle.strm_crew.specs.Play.{IsPlayer, IsSeated}
 use Rattle.strm_crew.specs.Dealing.{callers_of, AreDealt, AreSeated}
 use Rattle.strm_crew.proofs.ReachedLemmas.{fails_more, passes_more}
@@ -56,15 +57,17 @@ none_called run caller seats now mine seated within behind stood k d below =
     ap (λ (s : SeatValue). s.calls) (fresh_seat run caller seats mine is seated within k d (subst (λ n. k < n) long below))
 
 -- a caller that was just seated has its whole script left
-pub player_before : {K : Type 0} (run : RunValue K) (caller : ℕ) (calls : List (ScriptCall (Shape K))) (seats now : List (Vec SeatValue Global)) (mine : Vec SeatValue Global) (sits : List SeatValue) → AreSeated run seats → caller < length run.scripts → script_of run.scripts caller ≡ calls → All (λ one. one.stream < length run.setups) calls → ((k : ℕ) (d : Vec SeatValue Global) → caller ≤ k → get_or now k d ≡ get_or seats k d) → mine ≡ get_or now caller mine → sits ≡ mine.items → IsPlayer run caller calls sits
-player_before run caller calls seats now mine sits seated within script there behind stood same =
+pub player_before : {K : Type 0} (run : RunValue K) (caller : ℕ) (calls : List (ScriptCall (Shape K))) (seats now : List (Vec SeatValue Global)) (mine : Vec SeatValue Global) (accounts : List (AccountValue K)) → AreSeated run seats → caller < length run.scripts → script_of run.scripts caller ≡ calls → All (λ one. one.stream < length run.setups) calls → ((k : ℕ) (d : Vec SeatValue Global) → caller ≤ k → get_or now k d ≡ get_or seats k d) → mine ≡ get_or now caller mine → accounts ≡ map fresh_account mine.items → IsPlayer run caller calls accounts
+player_before {K} run caller calls seats now mine accounts seated within script there behind stood same =
     let is : mine ≡ get_or seats caller mine = stood ∙ behind caller mine (omega arith) in
+    let many : length (map (fresh_account {K = K}) mine.items) ≡ length mine.items = length-map mine.items (fresh_account {K = K}) in
     let long : length mine.items ≡ length run.setups = ap (λ (v : Vec SeatValue Global). length v.items) is ∙ seated.long caller mine within in
     subst (λ l. IsPlayer run caller calls l) (sym same) (record {
-      many = long;
+      many = many ∙ long;
       there = there;
       seated = λ k d below.
-          let fresh = fresh_seat run caller seats mine is seated within k d (subst (λ n. k < n) long below) in
+          let under : k < length mine.items = subst (λ n. k < n) many below in
+          let fresh = ap (λ (a : AccountValue K). a.seat) (get_or-map (fresh_account {K = K}) mine.items k d.seat d under) ∙ fresh_seat run caller seats mine is seated within k d.seat (subst (λ n. k < n) long under) in
           subst (λ s. IsSeated run caller k calls s) (sym fresh) (record {
             number = refl;
             caller_is = refl;

@@ -14,6 +14,7 @@ use Rattle.strm_shared.specs.Seat.{SeatValue}
 use Rattle.strm_shared.specs.Ending.{SharedValue}
 use Rattle.strm_job.specs.declared.script.ScriptCall.{ScriptCall}
 use Rattle.strm_job.specs.Scripts.{calls_on, script_of}
+use Rattle.strm_crew.specs.Account.{AccountValue}
 use Rattle.strm_feed.specs.About.{RunValue}
 
 -- a value of this layout fits into memory; a fact that a proof passes on as it is
@@ -37,10 +38,10 @@ pub record IsSeated {K : Type 0} (run : RunValue K) (caller k : ℕ) (left : Lis
   pub many : seat.calls + length (calls_on k left) ≡ length (calls_on k (script_of run.scripts caller))
 
 -- a caller that has these calls left, each on a stream that is there, with a seat on each stream
-pub record IsPlayer {K : Type 0} (run : RunValue K) (caller : ℕ) (left : List (ScriptCall (Shape K))) (seats : List SeatValue) : Type 0 where
-  pub many : length seats ≡ length run.setups
+pub record IsPlayer {K : Type 0} (run : RunValue K) (caller : ℕ) (left : List (ScriptCall (Shape K))) (accounts : List (AccountValue K)) : Type 0 where
+  pub many : length accounts ≡ length run.setups
   pub there : All (λ one. one.stream < length run.setups) left
-  pub seated : (k : ℕ) (d : SeatValue) → k < length seats → IsSeated run caller k left (get_or seats k d)
+  pub seated : (k : ℕ) (d : AccountValue K) → k < length accounts → IsSeated run caller k left (get_or accounts k d).seat
 
 -- a seat of a caller that has played its script on a stream
 pub record HasPlayed {K : Type 0} (run : RunValue K) (k : ℕ) (seat : SeatValue) : Type 0 where
@@ -48,14 +49,14 @@ pub record HasPlayed {K : Type 0} (run : RunValue K) (k : ℕ) (seat : SeatValue
   pub calls : seat.calls ≡ length (calls_on k (script_of run.scripts seat.caller))
 
 -- a caller that has played its script, with a seat on each stream
-pub record ArePlayed {K : Type 0} (run : RunValue K) (seats : List SeatValue) : Type 0 where
-  pub many : length seats ≡ length run.setups
-  pub each : (k : ℕ) (d : SeatValue) → k < length seats → HasPlayed run k (get_or seats k d)
+pub record ArePlayed {K : Type 0} (run : RunValue K) (accounts : List (AccountValue K)) : Type 0 where
+  pub many : length accounts ≡ length run.setups
+  pub each : (k : ℕ) (d : AccountValue K) → k < length accounts → HasPlayed run k (get_or accounts k d).seat
 
 -- these calls are the next of a caller, which has others behind them
-abbrev pub HasNext : {K : Type 0} → RunValue K → ℕ → List (ScriptCall (Shape K)) → List SeatValue → Type 0
-HasNext {K} run caller calls seats = (others : List (ScriptCall (Shape K))) × IsPlayer run caller (calls ++ others) seats
+abbrev pub HasNext : {K : Type 0} → RunValue K → ℕ → List (ScriptCall (Shape K)) → List (AccountValue K) → Type 0
+HasNext {K} run caller calls accounts = (others : List (ScriptCall (Shape K))) × IsPlayer run caller (calls ++ others) accounts
 
 -- of a caller that had these calls, and others behind them, those calls are left now, and the same others
-abbrev pub LeavesOthers : {K : Type 0} → RunValue K → ℕ → List (ScriptCall (Shape K)) → List SeatValue → List (ScriptCall (Shape K)) → List SeatValue → Type 0
-LeavesOthers {K} run caller calls seats left now = (others : List (ScriptCall (Shape K))) → IsPlayer run caller (calls ++ others) seats → IsPlayer run caller (left ++ others) now
+abbrev pub LeavesOthers : {K : Type 0} → RunValue K → ℕ → List (ScriptCall (Shape K)) → List (AccountValue K) → List (ScriptCall (Shape K)) → List (AccountValue K) → Type 0
+LeavesOthers {K} run caller calls accounts left now = (others : List (ScriptCall (Shape K))) → IsPlayer run caller (calls ++ others) accounts → IsPlayer run caller (left ++ others) now

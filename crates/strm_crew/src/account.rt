@@ -1,7 +1,7 @@
 //! A seat of a caller, with the receipts of what was done from it.
-ghost use Rattle.std.specs.Prelude.{◌≡◌, ◌+◌, All, slice_get, IfOk, OnOk, Some};
+ghost use Rattle.std.specs.Prelude.{◌≡◌, ◌+◌, All, length, map, slice_get, take, IfOk, OnOk, Some};
 ghost use Rattle.strm_call.specs.declared.event.Event.TheVariants.{Asked};
-ghost use Rattle.strm_crew.specs.Account.{HasReceipts};
+ghost use Rattle.strm_crew.specs.Account.{fresh_account, HasReceipts};
 ghost use Rattle.strm_job.specs.Scripts.{calls_on, script_of};
 ghost use Rattle.strm_crew.specs.Play.{CallsDoFit};
 
@@ -18,7 +18,7 @@ use strm_msg::NoMem;
 use strm_shared::{Seat, Shared};
 
 /// A seat of a caller on a stream, with the entries of the calls that were made from it, in order, as their receipts show them. A
-/// contract sees the seat.
+/// contract sees both.
 ///
 /// As long as each call has a receipt they are those of the first calls that the caller's script has for the stream.
 #[derive(Drop)]
@@ -29,12 +29,11 @@ pub struct Account<K, N: Plays<K>> {
 }
 
 impl<K, N: Plays<K>> Model for Account<K, N> {
-    ghost use Rattle.strm_shared.specs.Seat.{SeatValue};
-    ghost use Rattle.strm_crew.specs.Account.{HasReceipts};
+    ghost use Rattle.strm_crew.specs.Account.{AccountValue, HasReceipts};
 
-    ghost Value = { SeatValue };
+    ghost Value = { AccountValue K };
 
-    ghost view = { λ a. a.seat };
+    ghost view = { λ a. record { seat = a.seat; entries = a.entries.items } };
 
     ghost invariant = { λ a. HasReceipts N.run a.seat a.entries.items };
 }
@@ -43,7 +42,7 @@ impl<K: Drop, N: Plays<K>> Account<K, N> {
     /// A seat from which no call was made.
     pub(crate) fn new(alloc: Global, seat: Seat) -> Account<K, N>
         requires { seat.calls ≡ 0 }
-        ensures { result ≡ seat }
+        ensures { result ≡ fresh_account seat }
     {
         Account {
             seat,
@@ -54,9 +53,10 @@ impl<K: Drop, N: Plays<K>> Account<K, N> {
 
     /// The seat, and the receipts.
     pub fn into_parts(self) -> (Seat, Receipts<K>)
-        ensures seat { result.0 ≡ self }
-        ensures caller { result.1.caller ≡ self.caller }
-        ensures receipts { HasReceipts N.run self result.1.entries.items }
+        ensures seat { result.0 ≡ self.seat }
+        ensures caller { result.1.caller ≡ self.seat.caller }
+        ensures entries { result.1.entries.items ≡ self.entries }
+        ensures receipts { HasReceipts N.run self.seat self.entries }
     {
         let Account {
             seat,
@@ -68,7 +68,7 @@ impl<K: Drop, N: Plays<K>> Account<K, N> {
     }
 }
 
-/// One call from a seat, whose entry is kept, as its receipt shows it. The modules that came back are dropped, and so is a call that was not made.
+/// One call from a seat, whose entry is kept behind those before it, as its receipt shows it. The modules that came back are dropped, and so is a call that was not made.
 /// Refused for want of memory alone.
 pub(crate) fn call_on<M: ModuleOf, N: Plays<M::Kind>, R: Wait>(
     rt: &R,
@@ -77,9 +77,10 @@ pub(crate) fn call_on<M: ModuleOf, N: Plays<M::Kind>, R: Wait>(
     call: Call<Boxed<M>>,
 ) -> Result<(), NoMem>
     requires fits { CallsDoFit M.row M.Kind.row M.Kind.Kinds }
-    requires number { account.old.number ≡ shared.now.number }
-    requires next { slice_get (calls_on account.old.number (script_of N.run.scripts account.old.caller)) account.old.calls ≡ Some (call.end, Asked call.request) }
-    ensures { OnOk result (account.new ≡ record account.old { calls = account.old.calls + 1; shown = account.new.shown }) }
+    requires number { account.old.seat.number ≡ shared.now.number }
+    requires next { slice_get (calls_on account.old.seat.number (script_of N.run.scripts account.old.seat.caller)) account.old.seat.calls ≡ Some (call.end, Asked call.request) }
+    ensures seat { OnOk result (account.new.seat ≡ record account.old.seat { calls = account.old.seat.calls + 1; shown = account.new.seat.shown }) }
+    ensures before { OnOk result (take (length account.old.entries) account.new.entries ≡ account.old.entries) }
 {
     account.entries.reserve(1)?;
     match shared.enter::<Reply, R>(rt, &mut account.seat, call) {
@@ -102,7 +103,7 @@ pub(crate) fn accounts_of<K: Drop, N: Plays<K>>(
     seats: Vec<Seat>,
 ) -> Result<Vec<Account<K, N>>, NoMem>
     requires { All (λ seat. seat.calls ≡ 0) seats.items }
-    ensures { IfOk result (λ accounts. accounts.items ≡ seats.items) }
+    ensures { IfOk result (λ accounts. accounts.items ≡ map fresh_account seats.items) }
 {
     let mut all = Vec::new(alloc);
     for seat in seats {

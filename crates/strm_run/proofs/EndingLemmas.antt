@@ -3,8 +3,8 @@ use Rattle.std.proofs.Common.{◌≡◌, ℕ, zero, suc, ◌+◌, ◌<◌, ◌�
 use Rattle.std.specs.Prelude.{nat_lt}
 use Rattle.std.proofs.lemmas.Bool.{eqb-true, ltb-true, ltb-false}
 use Rattle.std.proofs.Math.Seq.{get_or-append_seam}
-use Rattle.std.proofs.lemmas.List.Elements.{All-tail}
-use Rattle.std.proofs.lemmas.List.{map-append, take_all, length-append, length-map, length-set, length_push, get_or-set_other, get_or_append_left}
+use Rattle.std.proofs.lemmas.List.Elements.{All-map, All-tail}
+use Rattle.std.proofs.lemmas.List.{map-append, take_all, length-append, length-map, length-set, length_push, get_or-map, get_or-set_other, get_or_append_left}
 use Rattle.strm_msg.specs.Message.{Msg}
 use Rattle.strm_module.specs.Kinds.{Meaning}
 use Rattle.strm_module.specs.Driver.{is_line}
@@ -12,7 +12,7 @@ use Rattle.strm_call.specs.declared.setup.Setup.{Setup}
 use Rattle.strm_entry.specs.Entry.{Entry}
 use Rattle.strm_history.specs.Opened.{opened}
 use Rattle.strm_shared.specs.declared.fault.EndFault.{EndFault}
-use Rattle.strm_ended.specs.Ended.{EndedValue}
+use Rattle.strm_ended.specs.Ended.{AreFirstCalls, AreHeld, EndedValue}
 use Rattle.strm_entry.specs.Own.{own, calls_of, arrivals}
 use Rattle.strm_history.specs.History.{Legal}
 use Rattle.strm_history.specs.Serials.{AreAccounted}
@@ -29,10 +29,11 @@ use Rattle.strm_job.specs.Scripts.{calls_on, script_of, feed_of}
 use Rattle.strm_feed.specs.About.{RunValue}
 use Rattle.strm_crew.specs.Transcript.{AreLogs, IsFed, IsLog}
 use Rattle.strm_feed.specs.Feeding.{IsPartOf}
+use Rattle.strm_crew.specs.Account.{AccountValue}
 use Rattle.strm_crew.specs.Play.{ArePlayed, AreStreams, HasPlayed}
 use Rattle.strm_run.specs.Inside.Table.{IsTransposed}
-use Rattle.strm_run.specs.Inside.Ending.{AreLinesFed, AreOf, AreParted, AreSeatsPlayed, IsDue, IsLate, IsOffered, IsStream, Leaves}
-use Rattle.strm_run.proofs.TableLemmas.{row_there}
+use Rattle.strm_run.specs.Inside.Ending.{seats_of, streams_of, AreLinesFed, AreOf, AreParted, AreSeatsPlayed, DueValue, HavePlayed, HoldsAccount, HoldsAccounts, IsDue, IsLate, IsOffered, IsStream, Leaves}
+use Rattle.strm_run.proofs.TableLemmas.{first, row_there}
 
 -- past the last caller there is no script
 script_past : {P : Type 0} (scripts : List (List (ScriptCall P))) (caller : ℕ) → length scripts ≤ caller → script_of scripts caller ≡ []
@@ -114,29 +115,59 @@ log_left means run shared seats receipts feed overrun (Ok done) (Err fault) stre
 log_left means run shared seats receipts feed overrun (Err fault) (Ok log) stream played unfed offered leaves legal accounts counts first came fed are = absurd leaves
 log_left means run shared seats receipts feed overrun (Err fault) (Err other) stream played unfed offered leaves legal accounts counts first came fed are = tt
 
--- one seat more, and its receipts
-pub parted_more : {K : Type 0} (run : RunValue K) (seats more : List SeatValue) (receipts longer : List (Receipts K)) (seat : SeatValue) (mine : Receipts K) → more ≡ seats ++ seat ∷ [] → longer ≡ receipts ++ mine ∷ [] → AreOf run seat mine → AreParted run seats receipts → AreParted run more longer
-parted_more {K} run seats more receipts longer seat mine is its has was =
-    let long : length more ≡ length seats + 1 = ap (λ l. length l) is ∙ length_push seats seat in
+-- the seats of accounts of callers that have played
+pub seats_have_played : {K : Type 0} (run : RunValue K) (number : ℕ) (accounts : List (AccountValue K)) (seats : List SeatValue) → seats ≡ seats_of accounts → HavePlayed run number accounts → All (HasPlayed run number) seats
+seats_have_played {K} run number accounts seats are played =
+    subst (λ l. All (HasPlayed run number) l) (sym are) (All-map (HasPlayed run number) (λ (a : AccountValue K). a.seat) accounts played)
+
+-- one account more, and its seat
+pub seats_more : {K : Type 0} (accounts : List (AccountValue K)) (account : AccountValue K) (seats longer : List SeatValue) (seat : SeatValue) → seats ≡ seats_of accounts → seat ≡ account.seat → longer ≡ seats ++ seat ∷ [] → longer ≡ seats_of (accounts ++ account ∷ [])
+seats_more {K} accounts account seats longer seat were is more =
+    more ∙ ap (λ l. l ++ seat ∷ []) were ∙ ap (λ s. seats_of accounts ++ s ∷ []) is ∙ sym (map-append (λ (a : AccountValue K). a.seat) accounts (account ∷ []))
+
+-- one account more, and its receipts
+pub parted_more : {K : Type 0} (run : RunValue K) (accounts : List (AccountValue K)) (receipts longer : List (Receipts K)) (account : AccountValue K) (mine : Receipts K) → longer ≡ receipts ++ mine ∷ [] → AreOf run account mine → AreParted run accounts receipts → AreParted run (accounts ++ account ∷ []) longer
+parted_more {K} run accounts receipts longer account mine its has was =
+    let long : length (accounts ++ account ∷ []) ≡ length accounts + 1 = length_push accounts account in
     record {
       many = ap (λ l. length l) its ∙ length_push receipts mine ∙ ap (λ n. n + 1) was.many ∙ sym long;
       each = λ k s d below.
-          subst (λ l. AreOf run (get_or more k s) (get_or l k d)) (sym its)
-          (subst (λ l. AreOf run (get_or l k s) (get_or (receipts ++ mine ∷ []) k d)) (sym is)
-          (below_more (λ (n : ℕ). AreOf run (get_or (seats ++ seat ∷ []) n s) (get_or (receipts ++ mine ∷ []) n d)) (length seats)
+          subst (λ l. AreOf run (get_or (accounts ++ account ∷ []) k s) (get_or l k d)) (sym its)
+          (below_more (λ (n : ℕ). AreOf run (get_or (accounts ++ account ∷ []) n s) (get_or (receipts ++ mine ∷ []) n d)) (length accounts)
           (λ n lower.
-          subst (λ (r : Receipts K). AreOf run (get_or (seats ++ seat ∷ []) n s) r) (sym (get_or_append_left receipts (mine ∷ []) d n (subst (λ m. n < m) (sym was.many) lower)))
-          (subst (λ (a : SeatValue). AreOf run a (get_or receipts n d)) (sym (get_or_append_left seats (seat ∷ []) s n lower)) (was.each n s d lower)))
-          (subst (λ (r : Receipts K). AreOf run (get_or (seats ++ seat ∷ []) (length seats) s) r) (sym (ap (λ n. get_or (receipts ++ mine ∷ []) n d) (sym was.many) ∙ get_or-append_seam receipts mine [] d))
-          (subst (λ (a : SeatValue). AreOf run a mine) (sym (get_or-append_seam seats seat [] s)) has))
-          k (subst (λ n. k < n) long below)));
+          subst (λ (r : Receipts K). AreOf run (get_or (accounts ++ account ∷ []) n s) r) (sym (get_or_append_left receipts (mine ∷ []) d n (subst (λ m. n < m) (sym was.many) lower)))
+          (subst (λ (a : AccountValue K). AreOf run a (get_or receipts n d)) (sym (get_or_append_left accounts (account ∷ []) s n lower)) (was.each n s d lower)))
+          (subst (λ (r : Receipts K). AreOf run (get_or (accounts ++ account ∷ []) (length accounts) s) r) (sym (ap (λ n. get_or (receipts ++ mine ∷ []) n d) (sym was.many) ∙ get_or-append_seam receipts mine [] d))
+          (subst (λ (a : AccountValue K). AreOf run a mine) (sym (get_or-append_seam accounts account [] s)) has))
+          k (subst (λ n. k < n) long below));
     }
 
--- the streams of a run, and the seats of those that were not taken
-pub record AreLeft {K : Type 0} (run : RunValue K) (streams : List SharedValue) (at : ℕ) (seats : List (Vec SeatValue Global)) : Type 0 where
+-- where receipts are held, so are the entries of the accounts whose they are
+holds_account : {K : Type 0} (run : RunValue K) (history : List (Entry K)) (account : AccountValue K) (mine : Receipts K) → AreOf run account mine → AreHeld history mine → HoldsAccount history account
+holds_account {K} run history account mine of held =
+    subst (λ n. AreFirstCalls history n account.entries) of.caller_is
+    (subst (λ (l : List (Entry K)). AreFirstCalls history mine.caller l) of.entries_are held)
+
+holds_each : {K : Type 0} (run : RunValue K) (history : List (Entry K)) (accounts : List (AccountValue K)) (receipts : List (Receipts K)) → AreParted run accounts receipts → All (λ mine. AreHeld history mine) receipts → All (λ account. HoldsAccount history account) accounts
+holds_each run history accounts receipts parted held k d below =
+    let there : k < length receipts = subst (λ n. k < n) (sym parted.many) below in
+    let some = first receipts k there in
+    holds_account run history (get_or accounts k d) (get_or receipts k some) (parted.each k d some below) (held k some there)
+
+-- what is left of a stream holds them
+pub log_holds : {K : Type 0} (run : RunValue K) (accounts mine : List (AccountValue K)) (receipts : List (Receipts K)) (overrun : ℕ) (ended : Result (EndedValue K) EndFault) (result : Result (StreamLog K) RunFault) → mine ≡ accounts → AreParted run mine receipts → Leaves ended receipts overrun result → IfOk result (λ log. HoldsAccounts accounts log)
+log_holds {K} run accounts mine receipts overrun (Ok done) (Ok log) same parted leaves =
+    subst (λ (l : List (AccountValue K)). HoldsAccounts l log) same
+    (subst (λ (h : List (Entry K)). All (λ account. HoldsAccount h account) mine) (sym leaves.0.same) (holds_each run done.history mine receipts parted leaves.1))
+log_holds run accounts mine receipts overrun (Ok done) (Err fault) same parted leaves = tt
+log_holds run accounts mine receipts overrun (Err fault) (Ok log) same parted leaves = absurd leaves
+log_holds run accounts mine receipts overrun (Err fault) (Err other) same parted leaves = tt
+
+-- the streams of a run, and the accounts of those that were not taken
+pub record AreLeft {K : Type 0} (run : RunValue K) (streams : List SharedValue) (at : ℕ) (accounts : List (Vec (AccountValue K) Global)) : Type 0 where
   pub streams_are : AreStreams run streams
-  pub many : length seats ≡ length run.setups
-  pub played : (k : ℕ) (d : Vec SeatValue Global) → at ≤ k → k < length run.setups → All (HasPlayed run k) (get_or seats k d).items
+  pub many : length accounts ≡ length run.setups
+  pub played : (k : ℕ) (d : Vec (AccountValue K) Global) → at ≤ k → k < length run.setups → HavePlayed run k (get_or accounts k d).items
 
 -- the next stream of a run
 module _ {K : Type 0} (run : RunValue K) (streams so_far later : List SharedValue) (at : ℕ) (one : SharedValue) (are : AreStreams run streams) (is : streams ≡ so_far ++ one ∷ later) (place : at ≡ length so_far) where
@@ -165,21 +196,29 @@ module _ {K : Type 0} (run : RunValue K) (streams so_far later : List SharedValu
   next_unfed lines no_line =
       ap (λ n. feed_of run.feeds n) number_is ∙ lines at one.setup place_there (ap (λ l. is_line l.setup.driver) (sym (here one.setup)) ∙ no_line)
 
-  -- its seats, and those of the others
-  module _ (seats : List (Vec SeatValue Global)) (was : AreLeft run streams at seats) where
-    pub next_due : AreLinesFed run → (mine found : Vec SeatValue Global) → mine ≡ found → found ≡ get_or seats at found → IsDue run one mine.items
+  -- its accounts, and those of the others
+  module _ (accounts : List (Vec (AccountValue K) Global)) (was : AreLeft run streams at accounts) where
+    pub next_due : AreLinesFed run → (mine found : Vec (AccountValue K) Global) → mine ≡ found → found ≡ get_or accounts at found → IsDue run one mine.items
     next_due lines mine found taken stood = record {
       stream = stream_next;
-      played = subst (λ n. All (HasPlayed run n) mine.items) (sym number_is) (subst (λ v. All (HasPlayed run at) v.items) (sym (taken ∙ stood)) (was.played at found (omega arith) place_there));
+      played = subst (λ n. HavePlayed run n mine.items) (sym number_is) (subst (λ (v : Vec (AccountValue K) Global). HavePlayed run at v.items) (sym (taken ∙ stood)) (was.played at found (omega arith) place_there));
       unfed = next_unfed lines;
     }
 
-    pub left_next : (none : Vec SeatValue Global) → AreLeft run streams (at + 1) (set seats at none)
+    pub left_next : (none : Vec (AccountValue K) Global) → AreLeft run streams (at + 1) (set accounts at none)
     left_next none = record {
       streams_are = are;
-      many = length-set seats at none ∙ was.many;
-      played = λ k d above below. subst (λ v. All (HasPlayed run k) v.items) (sym (get_or-set_other seats at k none d (λ same. omega arith))) (was.played k d (omega arith) below);
+      many = length-set accounts at none ∙ was.many;
+      played = λ k d above below. subst (λ (v : Vec (AccountValue K) Global). HavePlayed run k v.items) (sym (get_or-set_other accounts at k none d (λ same. omega arith))) (was.played k d (omega arith) below);
     }
+
+-- one stream more is due
+pub due_more : {K : Type 0} (all longer : List (DueValue K)) (so_far : List SharedValue) (one : DueValue K) (stream : SharedValue) → streams_of all ≡ so_far → longer ≡ all ++ one ∷ [] → one.stream ≡ stream → streams_of longer ≡ so_far ++ stream ∷ []
+due_more {K} all longer so_far one stream was pushed is =
+    ap (λ (l : List (DueValue K)). streams_of l) pushed
+    ∙ map-append (λ (d : DueValue K). d.stream) all (one ∷ [])
+    ∙ ap (λ (l : List SharedValue). l ++ one.stream ∷ []) was
+    ∙ ap (λ s. so_far ++ s ∷ []) is
 
 -- the others may be refused likewise
 pub refusals_rest : {A : Type 0} (all rest : List (Result A RunFault)) (one : Result A RunFault) → all ≡ one ∷ rest → All (λ r. IfErr r (λ fault. IsLate fault)) all → All (λ r. IfErr r (λ fault. IsLate fault)) rest
@@ -199,26 +238,29 @@ get_ok (x ∷ xs) (one ∷ rest) zero d is = cc
 get_ok (x ∷ xs) (one ∷ rest) (suc k) d is = get_ok xs rest k d cc
 
 -- what is left of each stream is its log, where each has left one
-pub logs_left : {K : Type 0} (means : Meaning K) (run : RunValue K) (due : List SharedValue) (ended : List (Result (StreamLog K) RunFault)) (logs : List (StreamLog K)) → AreStreams run due → length ended ≡ length due → ((k : ℕ) (d : Result (StreamLog K) RunFault) → k < length due → (one : SharedValue) × (one ≡ get_or due k one) × IfOk (get_or ended k d) (λ log. IsLog means run one.number one.setup log)) → map Ok logs ≡ ended → AreLogs means run logs
+pub logs_left : {K : Type 0} (means : Meaning K) (run : RunValue K) (due : List (DueValue K)) (ended : List (Result (StreamLog K) RunFault)) (logs : List (StreamLog K)) → AreStreams run (streams_of due) → length ended ≡ length due → ((k : ℕ) (d : Result (StreamLog K) RunFault) → k < length due → (one : DueValue K) × (one ≡ get_or due k one) × IfOk (get_or ended k d) (λ log. IsLog means run one.stream.number one.stream.setup log)) → map Ok logs ≡ ended → AreLogs means run logs
 logs_left {K} means run due ended logs are long each all =
-    let many : length logs ≡ length run.setups = sym (length-map logs Ok) ∙ ap (λ l. length l) all ∙ long ∙ are.many in
+    let streams : length (streams_of due) ≡ length due = length-map due (λ (d : DueValue K). d.stream) in
+    let many : length logs ≡ length run.setups = sym (length-map logs Ok) ∙ ap (λ l. length l) all ∙ long ∙ sym streams ∙ are.many in
     record {
       many = many;
       each = λ k s d below.
-          let there : k < length due = subst (λ n. k < n) (sym are.many) below in
+          let under : k < length (streams_of due) = subst (λ n. k < n) (sym are.many) below in
+          let there : k < length due = subst (λ n. k < n) streams under in
           let one = each k (Ok d) there in
-          let is : one.0 ≡ record { number = k; setup = get_or run.setups k s; seats = length run.scripts } = one.1 ∙ are.each k one.0 s there in
+          let here : one.0.stream ≡ get_or (streams_of due) k one.0.stream = ap (λ (v : DueValue K). v.stream) one.1 ∙ sym (get_or-map (λ (v : DueValue K). v.stream) due k one.0 one.0.stream there) in
+          let is : one.0.stream ≡ record { number = k; setup = get_or run.setups k s; seats = length run.scripts } = here ∙ are.each k one.0.stream s under in
           subst (λ (v : SharedValue). IsLog means run v.number v.setup (get_or logs k d)) is
-          (subst (λ r. IfOk r (λ log. IsLog means run one.0.number one.0.setup log)) (get_ok logs ended k d all) one.2);
+          (subst (λ r. IfOk r (λ log. IsLog means run one.0.stream.number one.0.stream.setup log)) (get_ok logs ended k d all) one.2);
     }
 
--- the seats of callers that have played their scripts, by the streams
-pub seats_played : {K : Type 0} (run : RunValue K) (columns : List (Vec SeatValue Global)) (many : ℕ) (all : List (Vec SeatValue Global)) → length run.setups ≡ many → All (λ seats. ArePlayed run seats.items) columns → IsTransposed columns many all → AreSeatsPlayed run all
-seats_played run columns many all is played turned = record {
+-- the accounts of callers that have played their scripts, by the streams
+pub seats_played : {K : Type 0} (run : RunValue K) (columns : List (Vec (AccountValue K) Global)) (many : ℕ) (all : List (Vec (AccountValue K) Global)) → length run.setups ≡ many → All (λ accounts. ArePlayed run accounts.items) columns → IsTransposed columns many all → AreSeatsPlayed run all
+seats_played {K} run columns many all is played turned = record {
   many = turned.many ∙ sym is;
   each = λ k d below i x inside.
       let there : k < many = subst (λ n. k < n) is below in
       let caller : i < length columns = subst (λ n. i < n) (turned.long k d there) inside in
       let sits = played i d caller in
-      subst (λ s. HasPlayed run k s) (sym (turned.each k i d d x there caller)) (sits.each k x (subst (λ n. k < n) (sym sits.many) below));
+      subst (λ (a : AccountValue K). HasPlayed run k a.seat) (sym (turned.each k i d d x there caller)) (sits.each k x (subst (λ n. k < n) (sym sits.many) below));
 }

@@ -1,7 +1,7 @@
 //! The streams of a run when all have played.
 ghost use Rattle.std.specs.Prelude.{◌≡◌, length, IfOk};
 ghost use Rattle.strm_crew.specs.Play.{AreStreams};
-ghost use Rattle.strm_run.specs.Inside.Ending.{AreLinesFed, AreSeatsPlayed, IsDue};
+ghost use Rattle.strm_run.specs.Inside.Ending.{streams_of, AreLinesFed, AreSeatsPlayed, IsDue};
 
 use std::alloc::Global;
 use std::marker::Model;
@@ -11,7 +11,8 @@ use strm_module::ModuleOf;
 use strm_msg::NoMem;
 use strm_shared::Shared;
 
-/// A stream of a run on which all have played, with what its callers and its feeder leave. A contract sees the stream.
+/// A stream of a run on which all have played, with what its callers and its feeder leave. A contract sees the stream and the accounts of
+/// its callers.
 #[derive(Drop)]
 pub(crate) struct Due<M: ModuleOf, N: Plays<M::Kind>> {
     shared: Shared<M, Of<N>>,
@@ -20,12 +21,11 @@ pub(crate) struct Due<M: ModuleOf, N: Plays<M::Kind>> {
 }
 
 impl<M: ModuleOf, N: Plays<M::Kind>> Model for Due<M, N> {
-    ghost use Rattle.strm_shared.specs.Ending.{SharedValue};
-    ghost use Rattle.strm_run.specs.Inside.Ending.{IsDue};
+    ghost use Rattle.strm_run.specs.Inside.Ending.{DueValue, IsDue};
 
-    ghost Value = { SharedValue };
+    ghost Value = { DueValue M.Kind };
 
-    ghost view = { λ d. d.shared };
+    ghost view = { λ d. record { stream = d.shared; accounts = d.accounts.items } };
 
     ghost invariant = { λ d. IsDue N.run d.shared d.accounts.items };
 }
@@ -38,7 +38,7 @@ impl<M: ModuleOf, N: Plays<M::Kind>> Due<M, N> {
         offered: Option<Offered<M::Kind, N>>,
     ) -> Due<M, N>
         requires { IsDue N.run shared accounts.items }
-        ensures { result ≡ shared }
+        ensures { result ≡ record { stream = shared; accounts = accounts.items } }
     {
         Due {
             shared,
@@ -55,8 +55,9 @@ impl<M: ModuleOf, N: Plays<M::Kind>> Due<M, N> {
         Vec<Account<M::Kind, N>>,
         Option<Offered<M::Kind, N>>,
     )
-        ensures stream { result.0 ≡ self }
-        ensures due { IsDue N.run self result.1.items }
+        ensures stream { result.0 ≡ self.stream }
+        ensures accounts { result.1.items ≡ self.accounts }
+        ensures due { IsDue N.run self.stream self.accounts }
     {
         let Due {
             shared,
@@ -77,7 +78,7 @@ pub(crate) fn all_due<M: ModuleOf, N: Plays<M::Kind>>(
     requires seats { AreSeatsPlayed N.run accounts.items }
     requires offered { length offered.items ≡ length N.run.setups }
     requires lines { AreLinesFed N.run }
-    ensures { IfOk result (λ due. AreStreams N.run due.items) }
+    ensures { IfOk result (λ due. AreStreams N.run (streams_of due.items)) }
 {
     let mut all = Vec::new(alloc);
     let mut at: usize = 0;

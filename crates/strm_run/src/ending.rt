@@ -3,7 +3,7 @@ ghost use Rattle.std.specs.Prelude.{◌≡◌, ◌<◌, length, map, option_map,
 ghost use Rattle.std.specs.List.{list_any};
 ghost use Rattle.strm_crew.specs.Transcript.{AreLogs, IsLog};
 ghost use Rattle.strm_crew.specs.Play.{ArePlayed, AreStreams};
-ghost use Rattle.strm_run.specs.Inside.Ending.{first_fault, is_fault, overrun_of, AreLinesFed, AreParted, AreSeatsPlayed, IsLate, IsOffered, Leaves};
+ghost use Rattle.strm_run.specs.Inside.Ending.{first_fault, is_fault, overrun_of, seats_of, streams_of, AreLinesFed, AreParted, AreSeatsPlayed, HoldsAccounts, IsLate, IsOffered, Leaves};
 
 use crate::due::{Due, all_due};
 use crate::feeds::offered_on;
@@ -59,13 +59,13 @@ where
     }
 }
 
-/// Seats, and apart from them the receipts of what was done from each. Refused for want of memory alone.
+/// Seats, and apart from them the receipts of what was done from each, in order. Refused for want of memory alone.
 fn parted<K: Drop, N: Plays<K>>(
     alloc: Global,
     accounts: Vec<Account<K, N>>,
 ) -> Result<(Vec<Seat>, Vec<Receipts<K>>), NoMem>
-    ensures seats { IfOk result (λ all. all.0.items ≡ accounts.items) }
-    ensures receipts { IfOk result (λ all. AreParted N.run all.0.items all.1.items) }
+    ensures seats { IfOk result (λ all. all.0.items ≡ seats_of accounts.items) }
+    ensures receipts { IfOk result (λ all. AreParted N.run accounts.items all.1.items) }
 {
     let mut seats = Vec::new(alloc);
     let mut receipts = Vec::new(alloc);
@@ -77,14 +77,15 @@ fn parted<K: Drop, N: Plays<K>>(
     Ok((seats, receipts))
 }
 
-/// Ends one stream of a run: what is left of it.
+/// Ends one stream of a run: what is left of it, where its history holds the receipts of all callers.
 fn end_one<M: ModuleOf, N: Plays<M::Kind>>(
     alloc: Global,
     due: Due<M, N>,
 ) -> Result<StreamLog<M::Kind>, RunFault>
 where
     M::Kind: SameKind,
-    ensures log { IfOk result (λ log. IsLog M.Kind.means N.run due.number due.setup log) }
+    ensures log { IfOk result (λ log. IsLog M.Kind.means N.run due.stream.number due.stream.setup log) }
+    ensures held { IfOk result (λ log. HoldsAccounts due.accounts log) }
     ensures late { IfErr result (λ fault. IsLate fault) }
 {
     let (shared, accounts, offered) = due.into_parts();
@@ -172,7 +173,7 @@ fn end_all<M: ModuleOf, N: Plays<M::Kind> + Send + Sync, R: Threads + Sync>(
 where
     M::Kind: SameKind + Send + Sync,
     requires threads { 0 < threads }
-    requires streams { AreStreams N.run due.items }
+    requires streams { AreStreams N.run (streams_of due.items) }
     ensures logs { IfOk result (λ logs. AreLogs M.Kind.means N.run logs.items) }
     ensures late { IfErr result (λ fault. IsLate fault) }
 {
@@ -182,7 +183,7 @@ where
         due,
         threads,
         &|due: Due<M, N>| -> Result<StreamLog<M::Kind>, RunFault>
-            ensures log { IfOk result (λ log. IsLog M.Kind.means N.run due.number due.setup log) }
+            ensures log { IfOk result (λ log. IsLog M.Kind.means N.run due.stream.number due.stream.setup log) }
             ensures late { IfErr result (λ fault. IsLate fault) }
         { end_one(alloc, due) },
     )?;

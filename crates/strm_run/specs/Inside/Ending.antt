@@ -1,5 +1,5 @@
 -- The seats and feeders of a run when its threads have ended, and how its streams end.
-use Rattle.std.specs.Prelude.{◌≡◌, ◌==◌, ℕ, ◌+◌, ◌<◌, Bool, false, if◌then◌else◌, Option, Some, None, Result, Ok, Err, List, [], All, get_or, length, Vec, ⊤}
+use Rattle.std.specs.Prelude.{◌≡◌, ◌==◌, ℕ, ◌+◌, ◌<◌, Bool, false, Option, Some, None, Result, Ok, Err, List, [], ◌∷◌, All, find, get_or, length, map, Vec, ⊤}
 use Rattle.std.specs.Global.{Global}
 use Rattle.std.specs.List.{list_any}
 use Rattle.strm_msg.specs.Message.{Msg}
@@ -21,17 +21,25 @@ use Rattle.strm_job.specs.declared.fault.RunFault.{RunFault}
 use Rattle.strm_job.specs.declared.fault.RunFault.TheVariants as RunFaults
 use Rattle.strm_entry.specs.declared.transcript.StreamLog.{StreamLog}
 use Rattle.strm_job.specs.Scripts.{feed_of}
-use Rattle.strm_crew.specs.Account.{HasReceipts}
-use Rattle.strm_ended.specs.Ended.{AreHeld}
+use Rattle.strm_crew.specs.Account.{AccountValue, HasReceipts}
+use Rattle.strm_ended.specs.Ended.{AreFirstCalls, AreHeld}
 use Rattle.strm_feed.specs.About.{RunValue}
 use Rattle.strm_feed.specs.Feeding.{OfferedValue, HasOffered}
 use Rattle.strm_crew.specs.Play.{HasPlayed}
 use Rattle.strm_ended.specs.Left.{names_at}
 
--- the seats of callers that have played their scripts, in order of the streams
-pub record AreSeatsPlayed {K : Type 0} (run : RunValue K) (seats : List (Vec SeatValue Global)) : Type 0 where
-  pub many : length seats ≡ length run.setups
-  pub each : (k : ℕ) (d : Vec SeatValue Global) → k < length run.setups → All (HasPlayed run k) (get_or seats k d).items
+-- the seats of accounts, in order
+abbrev pub seats_of : {K : Type 0} → List (AccountValue K) → List SeatValue
+seats_of accounts = map (λ account. account.seat) accounts
+
+-- these are accounts of callers that have played their scripts on a stream
+abbrev pub HavePlayed : {K : Type 0} → RunValue K → ℕ → List (AccountValue K) → Type 0
+HavePlayed run k accounts = All (λ account. HasPlayed run k account.seat) accounts
+
+-- the accounts of callers that have played their scripts, in order of the streams
+pub record AreSeatsPlayed {K : Type 0} (run : RunValue K) (accounts : List (Vec (AccountValue K) Global)) : Type 0 where
+  pub many : length accounts ≡ length run.setups
+  pub each : (k : ℕ) (d : Vec (AccountValue K) Global) → k < length run.setups → HavePlayed run k (get_or accounts k d).items
 
 -- a stream of a run
 pub record IsStream {K : Type 0} (run : RunValue K) (shared : SharedValue) : Type 0 where
@@ -39,10 +47,19 @@ pub record IsStream {K : Type 0} (run : RunValue K) (shared : SharedValue) : Typ
   pub setup_is : (s : Setup) → get_or run.setups shared.number s ≡ shared.setup
   pub callers : shared.seats ≡ length run.scripts
 
--- a stream of a run whose callers have played, with their seats on it; no feed is for it, unless it is a line
-pub record IsDue {K : Type 0} (run : RunValue K) (shared : SharedValue) (seats : List SeatValue) : Type 0 where
+-- a stream on which all have played, and the accounts of its callers
+pub record DueValue (K : Type 0) : Type 0 where
+  pub stream : SharedValue
+  pub accounts : List (AccountValue K)
+
+-- the streams of them, in order
+abbrev pub streams_of : {K : Type 0} → List (DueValue K) → List SharedValue
+streams_of all = map (λ due. due.stream) all
+
+-- a stream of a run whose callers have played, with their accounts on it; no feed is for it, unless it is a line
+pub record IsDue {K : Type 0} (run : RunValue K) (shared : SharedValue) (accounts : List (AccountValue K)) : Type 0 where
   pub stream : IsStream run shared
-  pub played : All (HasPlayed run shared.number) seats
+  pub played : HavePlayed run shared.number accounts
   pub unfed : is_line shared.setup.driver ≡ false → feed_of run.feeds shared.number ≡ []
 
 -- no stream but a line is fed
@@ -89,23 +106,32 @@ abbrev pub is_fault : {K : Type 0} → RunFault → Result (StreamLog K) RunFaul
 is_fault fault (Ok log) = false
 is_fault fault (Err other) = number_of other == number_of fault
 
--- the order of a run's faults, over all its streams: want of memory, then a stream that did not end, then a receipt that does not hold
+-- the faults of streams, in the order of a run
+abbrev pub run_order : List RunFault
+run_order = RunFaults.NoMem ∷ RunFaults.Unfinished ∷ RunFaults.NoReceipt ∷ []
+
+-- the first of them, in this order, that some stream has
 abbrev pub first_fault : {K : Type 0} → List (Result (StreamLog K) RunFault) → Option RunFault
-first_fault ended =
-    if list_any (is_fault RunFaults.NoMem) ended then Some RunFaults.NoMem
-    else if list_any (is_fault RunFaults.Unfinished) ended then Some RunFaults.Unfinished
-    else if list_any (is_fault RunFaults.NoReceipt) ended then Some RunFaults.NoReceipt
-    else None
+first_fault ended = find (λ fault. list_any (is_fault fault) ended) run_order
 
--- the receipts of the calls that were made from a seat
-pub record AreOf {K : Type 0} (run : RunValue K) (seat : SeatValue) (receipts : Receipts K) : Type 0 where
-  pub caller_is : receipts.caller ≡ seat.caller
-  pub has : HasReceipts run seat receipts.entries.items
+-- the receipts of an account: those of its caller, with its entries, which are of the first calls of that caller's script
+pub record AreOf {K : Type 0} (run : RunValue K) (account : AccountValue K) (receipts : Receipts K) : Type 0 where
+  pub caller_is : receipts.caller ≡ account.seat.caller
+  pub entries_are : receipts.entries.items ≡ account.entries
+  pub has : HasReceipts run account.seat account.entries
 
--- seats, and of each the receipts of what was done from it
-pub record AreParted {K : Type 0} (run : RunValue K) (seats : List SeatValue) (receipts : List (Receipts K)) : Type 0 where
-  pub many : length receipts ≡ length seats
-  pub each : (k : ℕ) (s : SeatValue) (d : Receipts K) → k < length seats → AreOf run (get_or seats k s) (get_or receipts k d)
+-- the receipts of accounts: of each its own, in order, and no others
+pub record AreParted {K : Type 0} (run : RunValue K) (accounts : List (AccountValue K)) (receipts : List (Receipts K)) : Type 0 where
+  pub many : length receipts ≡ length accounts
+  pub each : (k : ℕ) (a : AccountValue K) (d : Receipts K) → k < length accounts → AreOf run (get_or accounts k a) (get_or receipts k d)
+
+-- a history has the entries of an account as those of its caller's first calls, in order
+abbrev pub HoldsAccount : {K : Type 0} → List (Entry K) → AccountValue K → Type 0
+HoldsAccount history account = AreFirstCalls history account.seat.caller account.entries
+
+-- it has those of each of these accounts
+abbrev pub HoldsAccounts : {K : Type 0} → List (AccountValue K) → StreamLog K → Type 0
+HoldsAccounts accounts log = All (λ account. HoldsAccount log.history.items account) accounts
 
 -- a fault of a run of which all is there: none of those that were looked at before
 abbrev pub IsLate : RunFault → Type 0

@@ -20,14 +20,14 @@ pub call_on-kept-requires : goal.call_on-kept-requires
 call_on-kept-requires g c =
     let next = c.loop-one.invariant.next in
     let is = ap (λ l. l ++ next.0) c.in-Some.ensures.steps.0 in
-    let seat = c.index_mut.result.now in
+    let account = c.index_mut.result.now in
     let at = c.index_mut.ensures.value in (
       c.type_bounds.send-M,
       (
         c.requires.fits,
         (
-          seat_number g.N.Plays.run _ _ c.in-Some.one _ _ is next.1 seat at ∙ sym c.at.ensures,
-          seat_next g.N.Plays.run _ _ c.in-Some.one _ _ is next.1 seat at,
+          seat_number g.N.Plays.run _ _ c.in-Some.one _ _ is next.1 account at ∙ sym c.at.ensures,
+          seat_next g.N.Plays.run _ _ c.in-Some.one _ _ is next.1 account at,
         ),
       ),
     )
@@ -36,13 +36,13 @@ pub loop-one-preserved : goal.loop-one-preserved
 loop-one-preserved g c =
     let was = c.loop-one.invariant in
     let next = was.next in
-    let seat = c.index_mut.result.now in
+    let account = c.index_mut.result.now in
     let at = c.index_mut.ensures.value in
     let now = c.call_on-kept.new.account in
     record {
       left = rest_shorter _ _ _ _ _ was.left c.in-Some.ensures.steps.0 c.in-Some.ensures.steps.1;
-      next = (next.0, player_after g.N.Plays.run _ _ c.in-Some.one _ _ (ap (λ l. l ++ next.0) c.in-Some.ensures.steps.0) next.1 seat now.shown at now c.in_ok-kept.ensures);
-      others = λ others had. player_after g.N.Plays.run _ _ c.in-Some.one _ _ (ap (λ l. l ++ others) c.in-Some.ensures.steps.0) (was.others others had) seat now.shown at now c.in_ok-kept.ensures;
+      next = (next.0, player_after g.N.Plays.run _ _ c.in-Some.one _ _ (ap (λ l. l ++ next.0) c.in-Some.ensures.steps.0) next.1 account now at c.in_ok-kept.ensures.seat);
+      others = λ others had. player_after g.N.Plays.run _ _ c.in-Some.one _ _ (ap (λ l. l ++ others) c.in-Some.ensures.steps.0) (was.others others had) account now at c.in_ok-kept.ensures.seat;
     }
 
 pub returns : goal.returns

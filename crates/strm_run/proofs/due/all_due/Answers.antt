@@ -4,7 +4,7 @@ use Rattle.std.specs.Vec.Iter.{into_iter_items}
 use Rattle.strm_shared.specs.Ending.{SharedValue}
 use Rattle.strm_crew.specs.Play.{AreStreams}
 use Rattle.strm_job.proofs.LoopLemmas.{rest_shorter}
-use Rattle.strm_run.proofs.EndingLemmas.{place_there, next_due, left_next}
+use Rattle.strm_run.proofs.EndingLemmas.{due_more, place_there, next_due, left_next}
 use Rattle.strm_run.proofs.due.all_due.Goals as goal
 
 pub loop-shared-init : goal.loop-shared-init
@@ -60,7 +60,7 @@ loop-shared-preserved g c =
       left = rest_shorter (into_iter_items c.loop-shared.shared-iterator) (into_iter_items c.next.new.self) c.in-Some.shared _ _ was.left next c.in-Some.ensures.steps.1;
       place = ap (λ n. n + 1) was.place ∙ sym (length_push c.loop-shared.yielded c.in-Some.shared);
       offered = length-set c.loop-shared.offered.items c.loop-shared.at c.take.new.self ∙ was.offered;
-      due = c.in_ok-push.ensures.items ∙ ap (λ l. l ++ c.new-in-loop-shared.result ∷ []) was.due ∙ ap (λ x. c.loop-shared.yielded ++ x ∷ []) c.new-in-loop-shared.ensures;
+      due = due_more c.loop-shared.all.items c.push.new.self.items c.loop-shared.yielded c.new-in-loop-shared.result c.in-Some.shared was.due c.in_ok-push.ensures.items (ap (λ due. due.stream) c.new-in-loop-shared.ensures);
       others = rw (append_assoc, ← next) (left_next g.N.Plays.run (c.loop-shared.yielded ++ into_iter_items c.loop-shared.shared-iterator) c.loop-shared.yielded (into_iter_items c.next.new.self) c.loop-shared.at c.in-Some.shared was.others.streams_are (ap (λ l. c.loop-shared.yielded ++ l) next) was.place c.loop-shared.accounts.items was.others c.replace-mine.new.dest);
     }
 

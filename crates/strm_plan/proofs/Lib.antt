@@ -8,3 +8,4 @@ pub mod SoundLemmas
 pub mod StepLemmas
 pub mod StreamLemmas
 pub mod ThereLemmas
+mod WorkedExamples

@@ -12,6 +12,10 @@ pub record IsNoMemory (fault : ScriptFault) : Type 0 where
   pub line : fault.line ≡ 0
   pub cause : fault.cause ≡ causes.NoMemory
 
+-- too long a script is told before any line
+abbrev pub too_long : ScriptFault
+too_long = record { line = 0; cause = causes.TooLong }
+
 -- the plan is the one that is spelt; the fault is the one that reading finds, or want of memory
 abbrev pub Spells : {K : Type 0} → Result (Plan (Shape K)) ScriptFault → Result (Whole K) FaultAt → Type 0
 Spells (Ok plan) spelt = spelt ≡ Ok (plan_view plan)

@@ -1,10 +1,11 @@
 //! A call line: a verb, NAME:END, and the fields of the call.
-ghost use Rattle.std.specs.Prelude.{◌≡◌, ◌≤◌, ◌<◌, ◌^◌, length, map};
+ghost use Rattle.std.specs.Prelude.{◌≡◌, ◌≤◌, ◌<◌, ◌^◌, true, length, map, IsErrOf};
 ghost use Rattle.strm_plan.specs.Last.{IsKnown};
 ghost use Rattle.strm_plan.specs.Plan.{call_view, streams_view};
 ghost use Rattle.strm_plan.specs.Reading as reading;
 ghost use Rattle.strm_plan.specs.declared.draft.TheConstants.{MOST_STREAMS};
 ghost use Rattle.strm_verb.specs.Fault.{Gives};
+ghost use Rattle.strm_verb.specs.Table.{takes_memory};
 
 use crate::declared::Found;
 use crate::plan::Name;
@@ -27,7 +28,7 @@ pub(crate) fn modules_after(verb: Verb, modules: u64) -> u64
     }
 }
 
-/// A call with as many fields as it has.
+/// A call with as many fields as it has. A call that has no part and is no push takes no memory.
 fn placed_call<M: PlayModule>(
     alloc: Global,
     streams: &IndexMap<Name, Setup>,
@@ -43,6 +44,7 @@ where
     requires known { IsKnown (streams_view streams.now.entries) last.old }
     ensures known { IsKnown (streams_view streams.now.entries) last.new }
     ensures call { Gives call_view result (reading.placed_call M.Kind.words (streams_view streams.now.entries) serial verb target.now (map (λ text. text.now) texts.now)) }
+    ensures memory { IsErrOf result ReadError.Memory → takes_memory verb ≡ true }
 {
     let Some((stream, end)) = target_of(streams, last, target) else {
         return Err(ReadError::Fault(Cause::NoSuch));
@@ -52,7 +54,7 @@ where
     Ok(ScriptCall { stream, call })
 }
 
-/// The call of this verb with these fields: NAME:END and what follows it.
+/// The call of this verb with these fields: NAME:END and what follows it. As `placed_call` of memory.
 #[tactic(auto, unfolding(crate::specs::Reading::call_at))]
 #[inline(always)]
 pub(crate) fn call_at<M: PlayModule>(
@@ -69,6 +71,7 @@ where
     requires known { IsKnown (streams_view streams.now.entries) last.old }
     ensures known { IsKnown (streams_view streams.now.entries) last.new }
     ensures call { Gives call_view result (reading.call_at M.Kind.words (streams_view streams.now.entries) serial verb (map (λ text. text.now) texts.now)) }
+    ensures memory { IsErrOf result ReadError.Memory → takes_memory verb ≡ true }
 {
     let [target, texts @ ..] = texts else {
         return Err(ReadError::Fault(Cause::Fields));

@@ -1,5 +1,5 @@
 //! A plan while it is read, and how it grows line by line.
-ghost use Rattle.std.specs.Prelude.{◌≡◌, ◌≤◌, ◌<◌, ◌^◌, true, Ok, length, map};
+ghost use Rattle.std.specs.Prelude.{◌≡◌, ◌≤◌, ◌<◌, ◌^◌, true, Ok, length, map, IsErrOf, IsOk};
 ghost use Rattle.strm_plan.specs.Plan.{call_view, draft_view, feed_view, plan_view, process_view, streams_view};
 ghost use Rattle.strm_plan.specs.Plan.{In_feed, In_process};
 ghost use Rattle.strm_plan.specs.Reading as reading;
@@ -79,7 +79,8 @@ fn has_feed(feeds: &[Feed], number: u32) -> bool
 /// The fields of a line, in a list that is for them. Its length is judged first, and a comment, which begins with `#` and has none,
 /// for nothing else.
 pub(crate) fn fields_in<'a>(line: &'a [u8], texts: &mut Vec<&'a [u8]>) -> Result<(), ReadError>
-    ensures { Gives (λ _. map (λ text. text.now) texts.new.items) result (reading.fields_in line.now) }
+    ensures fields { Gives (λ _. map (λ text. text.now) texts.new.items) result (reading.fields_in line.now) }
+    ensures length { LONGEST_LINE < length line.now → IsErrOf result (ReadError.Fault Cause.TooLong) }
 {
     if line.len() > LONGEST_LINE {
         return Err(ReadError::Fault(Cause::TooLong));
@@ -136,9 +137,10 @@ where
         }
     }
 
-    /// A stream line, with the fields behind its driver.
+    /// A stream line, with the fields behind its driver. Memory is taken where nothing is wrong.
     fn add_setup(&mut self, driver: Driver, name: &[u8], texts: &[&[u8]]) -> Result<(), ReadError>
-        ensures { Gives (λ _. draft_view self.new) result (reading.setup_onto (draft_view self.old) driver name.now (map (λ text. text.now) texts.now)) }
+        ensures line { Gives (λ _. draft_view self.new) result (reading.setup_onto (draft_view self.old) driver name.now (map (λ text. text.now) texts.now)) }
+        ensures memory { IsErrOf result ReadError.Memory → IsOk (reading.setup_onto (draft_view self.old) driver name.now (map (λ text. text.now) texts.now)) }
     {
         let chosen = stream_name(&self.streams.map, name)?;
         let setup = setup_at(driver, texts)?;
@@ -149,10 +151,11 @@ where
         add_stream(&mut self.streams.map, chosen, setup)
     }
 
-    /// NAME DRIVER H D, and RING for a line. The driver is judged before the number of fields.
+    /// NAME DRIVER H D, and RING for a line. The driver is judged before the number of fields. Memory is taken where nothing is wrong.
     #[tactic(auto, unfolding(crate::specs::Reading::stream_onto))]
     fn stream_line(&mut self, texts: &[&[u8]]) -> Result<(), ReadError>
-        ensures { Gives (λ _. draft_view self.new) result (reading.stream_onto (draft_view self.old) (map (λ text. text.now) texts.now)) }
+        ensures line { Gives (λ _. draft_view self.new) result (reading.stream_onto (draft_view self.old) (map (λ text. text.now) texts.now)) }
+        ensures memory { IsErrOf result ReadError.Memory → IsOk (reading.stream_onto (draft_view self.old) (map (λ text. text.now) texts.now)) }
     {
         let [name, driver, texts @ ..] = texts else {
             return Err(ReadError::Fault(Cause::Fields));
@@ -164,10 +167,11 @@ where
         self.add_setup(driver, name, texts)
     }
 
-    /// NAME of a process, which goes on from here.
+    /// NAME of a process, which goes on from here. Memory is taken where nothing is wrong.
     #[tactic(auto, unfolding(crate::specs::Reading::process_onto))]
     fn process_line(&mut self, alloc: Global, texts: &[&[u8]]) -> Result<(), ReadError>
-        ensures { Gives (λ _. draft_view self.new) result (reading.process_onto (draft_view self.old) (map (λ text. text.now) texts.now)) }
+        ensures line { Gives (λ _. draft_view self.new) result (reading.process_onto (draft_view self.old) (map (λ text. text.now) texts.now)) }
+        ensures memory { IsErrOf result ReadError.Memory → IsOk (reading.process_onto (draft_view self.old) (map (λ text. text.now) texts.now)) }
     {
         let [name] = texts else {
             return Err(ReadError::Fault(Cause::Fields));
@@ -184,11 +188,12 @@ where
         Ok(())
     }
 
-    /// NAME of a line, whose feed goes on from here.
+    /// NAME of a line, whose feed goes on from here. Takes no memory.
     #[tactic(auto, unfolding(crate::specs::Reading::feed_onto))]
     fn feed_line(&mut self, alloc: Global, texts: &[&[u8]]) -> Result<(), ReadError>
         requires { length self.old.streams.map.entries ≤ MOST_STREAMS }
-        ensures { Gives (λ _. draft_view self.new) result (reading.feed_onto (draft_view self.old) (map (λ text. text.now) texts.now)) }
+        ensures line { Gives (λ _. draft_view self.new) result (reading.feed_onto (draft_view self.old) (map (λ text. text.now) texts.now)) }
+        ensures memory { IsErrOf result ReadError.Memory → ⊥ }
     {
         let [name] = texts else {
             return Err(ReadError::Fault(Cause::Fields));
@@ -340,7 +345,8 @@ where
     ) -> Result<(), ReadError>
         requires few { length self.old.streams.map.entries ≤ MOST_STREAMS }
         requires modules { self.old.modules < 2 ^ 63 }
-        ensures { Gives (λ _. draft_view self.new) result (reading.line_onto M.Kind.words (draft_view self.old) line.now) }
+        ensures line { Gives (λ _. draft_view self.new) result (reading.line_onto M.Kind.words (draft_view self.old) line.now) }
+        ensures length { LONGEST_LINE < length line.now → IsErrOf result (ReadError.Fault Cause.TooLong) }
     {
         fields_in(line, texts)?;
         self.fields_line(alloc, texts.as_slice())

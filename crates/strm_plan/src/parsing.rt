@@ -1,5 +1,5 @@
 //! A script, read from left to right.
-ghost use Rattle.std.specs.Prelude.{◌≡◌, ◌+◌, ◌<◌, ◌≤◌, All, length, take, IfErr, IfOk, Ok};
+ghost use Rattle.std.specs.Prelude.{◌≡◌, ◌+◌, ◌<◌, ◌≤◌, All, length, take, IfErr, IfOk, IsErrOf, Ok};
 ghost use Rattle.std.specs.List.{flat_map};
 ghost use Rattle.std.specs.Str.Lines.{lines};
 ghost use Rattle.strm_plan.specs.Kept.{IsAt};
@@ -7,7 +7,8 @@ ghost use Rattle.strm_plan.specs.Plan.{draft_view, plan_view};
 ghost use Rattle.strm_plan.specs.Reading as reading;
 ghost use Rattle.strm_plan.specs.Section.{AreRead, IsFaultOfLine, IsFaultOfLines, IsSection};
 ghost use Rattle.strm_plan.specs.Sound.{IsSound};
-ghost use Rattle.strm_plan.specs.Spelling.{IsNoMemory, Spells};
+ghost use Rattle.strm_plan.specs.Spelling.{IsNoMemory, Spells, too_long};
+ghost use Rattle.strm_plan.specs.declared.draft.TheConstants.{LONGEST_LINE};
 ghost use Rattle.strm_verb.specs.Push.{builtin_words};
 
 use crate::draft::Draft;
@@ -31,9 +32,10 @@ const SHORT: usize = 32_768;
 ///
 /// Refused with the first fault: too long a script before any line, then the faults of the lines in order,
 /// and those of a line from left to right. Want of memory, which says nothing of the script, is told of
-/// line 0.
+/// line 0; too long a script takes none.
 pub fn parse(alloc: Global, bytes: &[u8]) -> Result<Plan, ScriptFault>
     ensures spells { Spells result (reading.spelt builtin_words bytes.now) }
+    ensures length { LONGEST_SCRIPT < length bytes.now → IsErrOf result too_long }
     ensures sound { IfOk result (λ plan. IsSound (plan_view plan)) }
 {
     parse_made(alloc, bytes)
@@ -45,6 +47,7 @@ pub fn parse_made<M: PlayModule>(alloc: Global, bytes: &[u8]) -> Result<Plan<Box
 where
     M::Kind: ReadKind,
     ensures spells { Spells result (reading.spelt M.Kind.words bytes.now) }
+    ensures length { LONGEST_SCRIPT < length bytes.now → IsErrOf result too_long }
     ensures sound { IfOk result (λ plan. IsSound (plan_view plan)) }
 {
     if bytes.len() > LONGEST_SCRIPT {
@@ -68,6 +71,7 @@ where
     M::Kind: ReadKind + Send + Sync,
     requires threads { 0 < threads }
     ensures spells { Spells result (reading.spelt M.Kind.words bytes.now) }
+    ensures length { LONGEST_SCRIPT < length bytes.now → IsErrOf result too_long }
     ensures sound { IfOk result (λ plan. IsSound (plan_view plan)) }
 {
     if bytes.len() > LONGEST_SCRIPT {
@@ -111,6 +115,7 @@ where
     requires at { IsAt before (draft_view draft.old) }
     ensures read { IfOk result (λ _. reading.line_onto M.Kind.words (draft_view draft.old) line.now ≡ Ok (draft_view draft.new)) }
     ensures fault { IfErr result (λ fault. IsFaultOfLine M.Kind.words before (draft_view draft.old) line.now fault) }
+    ensures length { LONGEST_LINE < length line.now → IsErrOf result (record { line = before + 1; cause = Cause.TooLong }) }
 {
     match draft.line(alloc, line, texts) {
         Ok(()) => Ok(()),
@@ -214,7 +219,7 @@ where
 
 /// Too long a script.
 fn too_long() -> ScriptFault
-    ensures { result ≡ record { line = 0; cause = Cause.TooLong } }
+    ensures { result ≡ too_long }
 {
     ScriptFault {
         line: 0,

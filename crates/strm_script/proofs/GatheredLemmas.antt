@@ -1,5 +1,6 @@
 -- What is gathered, piece by piece.
-use Rattle.std.proofs.Common.{◌≡◌, ℕ, ◌+◌, ◌<◌, List, [], ◌∷◌, ◌++◌, length, take, map, get_or, Option, Some, None, Result, Ok, Err, IsOk, OnOk, refl, sym, ap, subst, ◌∙◌, append_assoc, arith}
+use Rattle.std.proofs.Common.{◌≡◌, ℕ, ◌+◌, ◌<◌, List, [], ◌∷◌, ◌++◌, length, take, map, get_or, Option, Some, None, IfSome, Result, Ok, Err, IsOk, OnOk, refl, sym, ap, subst, ◌∙◌, append_assoc, arith}
+use Rattle.std.specs.declared.io.Error.{Error}
 use Rattle.std.specs.Io.KnownBytes.{Appends, append_known}
 use Rattle.std.specs.Fmt.{decimal}
 use Rattle.std.specs.List.{flat_map}
@@ -21,7 +22,19 @@ use Rattle.strm_script.specs.declared.gathered.Gathered.{Gathered}
 use Rattle.strm_script.specs.Fields.{KindSpelling, fields_of, said, spaced, text_of, verb_of}
 use Rattle.strm_script.specs.Lines.{call_text, end_word, entries_text, entry_text}
 use Rattle.strm_script.specs.Replies.{list_fields, name_fields}
-use Rattle.strm_script.specs.Gathered.{IsFresh, with_gathered, Puts, IsFlushed}
+use Rattle.strm_script.specs.Gathered.{IsFresh, KeepsError, with_gathered, Puts, IsFlushed}
+
+same_error : (before after : Option Error) → after ≡ before → IfSome before (λ error. after ≡ Some error)
+same_error None after is = tt
+same_error (Some error) after is = is
+
+error_stays : (before between after : Option Error) → IfSome before (λ error. between ≡ Some error) → IfSome between (λ error. after ≡ Some error) → IfSome before (λ error. after ≡ Some error)
+error_stays None between after one other = tt
+error_stays (Some error) between after one other = subst (λ (mid : Option Error). IfSome mid (λ error. after ≡ Some error)) one other
+
+no_error : (before after : Option Error) → before ≡ None → IfSome before (λ error. after ≡ Some error)
+no_error None after none = tt
+no_error (Some error) after none = absurd cc
 
 -- what the first put, and then what the second put
 pub puts_then : (before between after : Option (List ℕ)) (old mid new : Gathered) (first second : List ℕ) → Puts before between old mid first → Puts between after mid new second → Puts before after old new (first ++ second)
@@ -29,6 +42,7 @@ unfolding Puts
 puts_then before between after old mid new first second one other = record {
   stays = λ none. one.stays (other.stays none);
   puts = λ none. appends_then (with_gathered before old) (with_gathered between mid) (with_gathered after new) first second (one.puts (other.stays none)) (other.puts none);
+  keeps = error_stays old.refused mid.refused new.refused one.keeps other.keeps;
 }
 
 -- the same, where the two are another text
@@ -43,7 +57,11 @@ nothing_more (Some xs) = sym (append-nil xs)
 -- nothing was put
 pub puts_nothing : (before : Option (List ℕ)) (old : Gathered) → Puts before before old old []
 unfolding Puts
-puts_nothing before old = record { stays = λ none. none; puts = λ none. nothing_more (with_gathered before old) }
+puts_nothing before old = record {
+  stays = λ none. none;
+  puts = λ none. nothing_more (with_gathered before old);
+  keeps = same_error old.refused old.refused refl;
+}
 
 more_gathered : (known : Option (List ℕ)) (items more bytes : List ℕ) → more ≡ items ++ bytes → Appends (append_known known items) (append_known known more) bytes
 more_gathered None items more bytes is = tt
@@ -55,6 +73,7 @@ unfolding Puts
 puts_gathered before old new bytes same is = record {
   stays = λ none. sym same ∙ none;
   puts = λ none. more_gathered before old.bytes.items new.bytes.items bytes is;
+  keeps = same_error old.refused new.refused same;
 }
 
 all_written : (before between after : Option (List ℕ)) (items left bytes : List ℕ) → left ≡ [] → Appends before between items → Appends between after bytes → Appends (append_known before items) (append_known after left) bytes
@@ -70,12 +89,14 @@ unfolding Puts
 puts_written before between after old mid new bytes flushed same written = record {
   stays = λ none. flushed.stays;
   puts = λ none. all_written before between after old.bytes.items new.bytes.items bytes (ap (λ bytes. bytes.items) same ∙ flushed.fresh.bytes) flushed.text (written none);
+  keeps = no_error old.refused new.refused flushed.stays;
 }
 
 -- nothing is put any more
-pub puts_refused : (before after : Option (List ℕ)) (old new : Gathered) (bytes : List ℕ) → (new.refused ≡ None → ⊥) → Puts before after old new bytes
+pub puts_refused : (before after : Option (List ℕ)) (old new : Gathered) (bytes : List ℕ) → (new.refused ≡ None → ⊥) → KeepsError old new → Puts before after old new bytes
 unfolding Puts
-puts_refused before after old new bytes refused = record { stays = λ none. absurd (refused none); puts = λ none. absurd (refused none) }
+puts_refused before after old new bytes refused kept =
+    record { stays = λ none. absurd (refused none); puts = λ none. absurd (refused none); keeps = kept }
 
 last_written : (before between after : Option (List ℕ)) (first items text : List ℕ) → first ≡ [] → Appends (append_known before first) (append_known between items) text → Appends between after items → Appends before after text
 last_written None between after first items text none one other = tt

@@ -1,7 +1,7 @@
 //! What is printed, gathered before it is written.
-ghost use Rattle.std.specs.Prelude.{◌≡◌, ℕ, List, None, Option, false, true, IsOk, OnOk};
+ghost use Rattle.std.specs.Prelude.{◌≡◌, ℕ, List, None, Option, Some, false, true, IfErr, IfSome, IsErrOf, IsOk, OnOk};
 ghost use Rattle.std.specs.Io.KnownBytes.{Appends};
-ghost use Rattle.strm_script.specs.Gathered.{IsFlushed, IsFresh, Puts};
+ghost use Rattle.strm_script.specs.Gathered.{IsFlushed, IsFresh, KeepsError, Puts};
 
 use arrayvec::ArrayVec;
 use std::io::{self, Error, Write};
@@ -31,16 +31,18 @@ impl Gathered {
     pub(crate) fn note(&mut self, written: io::Result<()>)
         ensures bytes { self.new.bytes ≡ self.old.bytes }
         ensures ok { self.new.refused ≡ None → IsOk written }
+        ensures error { IfErr written (λ error. self.new.refused ≡ Some error) }
     {
         if let Err(error) = written {
             self.refused = Some(error);
         }
     }
 
-    /// Writes what is gathered, and tells whether the writer has refused nothing so far.
+    /// Writes what is gathered, and tells whether the writer has refused nothing so far. Where it has, nothing is changed.
     pub(crate) fn flush<W: Write>(&mut self, w: &mut W) -> bool
         ensures flushed { result ≡ true → IsFlushed (W.contents w.old) (W.contents w.new) self.old self.new }
         ensures refused { result ≡ false → self.new.refused ≡ None → ⊥ }
+        ensures error { KeepsError self.old self.new }
     {
         if self.refused.is_some() {
             return false;
@@ -81,7 +83,8 @@ impl Gathered {
 
     /// Writes what is still gathered. Refused where the writer is, or was before, and with its error.
     pub(crate) fn finish<W: Write>(self, w: &mut W) -> io::Result<()>
-        ensures { (before : Option (List ℕ)) (fresh : Gathered) (text : List ℕ) → IsFresh fresh → Puts before (W.contents w.old) fresh self text → OnOk result (Appends before (W.contents w.new) text) }
+        ensures text { (before : Option (List ℕ)) (fresh : Gathered) (text : List ℕ) → IsFresh fresh → Puts before (W.contents w.old) fresh self text → OnOk result (Appends before (W.contents w.new) text) }
+        ensures error { IfSome self.refused (λ error. IsErrOf result error) }
     {
         let Gathered { bytes, refused } = self;
         match refused {

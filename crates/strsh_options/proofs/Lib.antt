@@ -1,2 +1,3 @@
 pub mod ReadLemmas
 pub mod CrewLemmas
+mod WorkedExamples

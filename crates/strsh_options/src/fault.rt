@@ -1,7 +1,8 @@
 //! Why the program did not print a transcript.
 ghost use Rattle.std.specs.Prelude.{◌≡◌};
 ghost use Rattle.strm_job.specs.declared.fault.RunFault.TheVariants as RunFaults;
-ghost use Rattle.strsh_options.specs.Fault.{EndsWith, IsFaultOf, fault_line};
+ghost use Rattle.strsh_options.specs.declared.fault.Fault.TheVariants as Faults;
+ghost use Rattle.strsh_options.specs.Fault.{EndsWith, IsFaultOf, IsFaultOfWords, fault_line, fault_of_load};
 
 use clap::error::ErrorKind;
 use std::alloc::AllocError;
@@ -73,6 +74,8 @@ impl From<clap::Error> for Fault {
 }
 
 impl From<LoadFault> for Fault {
+    ghost from_gives = { λ load fault. fault ≡ fault_of_load load };
+
     fn from(fault: LoadFault) -> Self {
         match fault {
             LoadFault::Read => Fault::Read,
@@ -85,12 +88,16 @@ impl From<LoadFault> for Fault {
 }
 
 impl From<ScriptFault> for Fault {
+    ghost from_gives = { λ script fault. fault ≡ Faults.Script script };
+
     fn from(fault: ScriptFault) -> Self {
         Fault::Script(fault)
     }
 }
 
 impl From<RunFault> for Fault {
+    ghost from_gives = { λ run fault. fault ≡ Faults.Run run };
+
     fn from(fault: RunFault) -> Self {
         Fault::Run(fault)
     }
@@ -98,6 +105,8 @@ impl From<RunFault> for Fault {
 
 /// Want of memory for the words of the command line.
 impl From<AllocError> for Fault {
+    ghost from_gives = { λ _ fault. fault ≡ Faults.Run RunFaults.NoMem };
+
     fn from(_: AllocError) -> Self {
         Fault::no_memory()
     }
@@ -105,6 +114,8 @@ impl From<AllocError> for Fault {
 
 /// Words of the command line that cannot be read.
 impl From<io::Error> for Fault {
+    ghost from_gives = { λ error fault. IsFaultOfWords error fault };
+
     fn from(error: io::Error) -> Self {
         match LoadFault::from(error) {
             LoadFault::Read => Fault::Read,

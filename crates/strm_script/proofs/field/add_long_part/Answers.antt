@@ -8,4 +8,4 @@ returns-then-flush g c =
 
 -- the writer has refused
 pub returns-else-flush : goal.returns-else-flush
-returns-else-flush g c = puts_refused _ _ _ _ _ (c.flush.ensures.refused c.if-flush.false)
+returns-else-flush g c = puts_refused _ _ _ _ _ (c.flush.ensures.refused c.if-flush.false) c.flush.ensures.error

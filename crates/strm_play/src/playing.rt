@@ -1,9 +1,11 @@
 //! A script is read and run.
-ghost use Rattle.std.specs.Prelude.{◌≡◌, ◌<◌, true, IfOk, IfErr};
+ghost use Rattle.std.specs.Prelude.{◌≡◌, ◌<◌, true, length, IfOk, IfErr, IsErrOf};
 ghost use Rattle.strm_crew.specs.Run.{CallsFit};
 ghost use Rattle.strm_job.specs.There.{is_crew};
 ghost use Rattle.strm_plan.specs.Plan.{plan_view};
 ghost use Rattle.strm_plan.specs.Sound.{IsSound};
+ghost use Rattle.strm_plan.specs.Spelling.{too_long};
+ghost use Rattle.strm_plan.specs.declared.parsing.TheConstants.{LONGEST_SCRIPT};
 ghost use Rattle.strm_play.specs.Played.{IsPlayed, IsPlayedPlan, IsFaultOf, may_have};
 
 use std::alloc::Global;
@@ -95,6 +97,7 @@ where
     ensures played { IfOk result (λ outcome. IsPlayed M.Kind.means M.Kind.words bytes.now outcome) }
     ensures workers { IfOk result (λ _. is_crew workers ≡ true) }
     ensures fault { IfErr result (λ fault. IsFaultOf M.Kind.words bytes.now workers fault) }
+    ensures length { LONGEST_SCRIPT < length bytes.now → IsErrOf result (PlayFault.Script too_long) }
 {
     let plan = parse_shared_out::<M, R>(rt, alloc, bytes, readers(workers))?;
     Ok(play_plan::<M, R>(rt, alloc, plan, workers)?)

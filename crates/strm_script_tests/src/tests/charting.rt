@@ -3,6 +3,7 @@ use super::names_of;
 use super::printing::log;
 use std::alloc::Global;
 use std::process::Abort;
+use strm_chain::Looks;
 use strm_chart::chart;
 use strm_entry::{Entry, Kept, room_for_arrival, taken};
 use strm_head::{Moves, Place};
@@ -36,7 +37,7 @@ fn came(rt: &impl Abort, alloc: Global, m: &Message) -> Box<Entry<Kind>> {
 /// The messages that came in.
 fn arrivals(rt: &impl Abort, alloc: Global) -> Vec<Kept<Kind>> {
     let data = Message::of_data(alloc, 0, b"abc").expect(rt, "no memory");
-    let first = taken(came(rt, alloc, &data), places(rt, alloc), 3);
+    let first = taken(came(rt, alloc, &data), places(rt, alloc), Looks::none());
     let second = Kept::plain(came(rt, alloc, &Message::of_hangup()));
     vec![in alloc; first, second].expect(rt, "no memory")
 }

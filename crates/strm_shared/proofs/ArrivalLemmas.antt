@@ -24,7 +24,7 @@ use Rattle.strm_line.specs.Inlet.{InletValue}
 use Rattle.strm_line.specs.Runs.{IsNextOf}
 use Rattle.strm_shared.specs.Seat.{SeatValue}
 use Rattle.strm_shared.specs.Turns.{turned, IsLocked, TurnsValue}
-use Rattle.strm_shared.specs.Arrivals.{TakesIn, ComesIn, Stops, TakesAll, Finds}
+use Rattle.strm_shared.specs.Arrivals.{TakesIn, ComesIn, NoMoreCome, TakesAll, Finds}
 use Rattle.strm_shared.proofs.TurnLemmas.{call_keeps, line_in_turn}
 
 -- what came in, with one step more
@@ -73,7 +73,7 @@ module _ {K : Type 0} (means : Meaning K) where
   }
 
   -- all that can came in, with other room before
-  stops_same : (old between new : LogValue K) (many : ℕ) (has_memory : Bool) (held : Option Msg) → IsSameLog old between → Stops means between many has_memory new held → Stops means old many has_memory new held
+  stops_same : (old between new : LogValue K) (many : ℕ) (has_memory : Bool) (held : Option Msg) → IsSameLog old between → NoMoreCome means between many has_memory new held → NoMoreCome means old many has_memory new held
   stops_same old between new many true held same stops = rw same.setup at stops
   stops_same old between new many false held same stops = stops
 

@@ -15,8 +15,8 @@ use Rattle.strm_shared.specs.declared.locked.Intake.{Intake}
 use Rattle.strm_shared.specs.declared.locked.Intake.TheVariants.{Entered, Rests, NoMem}
 
 -- a message is held back that could come in: memory was wanting for it
-abbrev pub LacksMemory : {K : Type 0} → LogValue K → Option Msg → Type 0
-LacksMemory log held = (m : Msg) × (held ≡ Some m) × (can_arrive log.image A m ≡ true)
+abbrev pub HeldForMemory : {K : Type 0} → LogValue K → Option Msg → Type 0
+HeldForMemory log held = (m : Msg) × (held ≡ Some m) × (can_arrive log.image A m ≡ true)
 
 -- none is held back, or one that cannot come in
 abbrev pub AllWait : {K : Type 0} → LogValue K → Option Msg → Type 0
@@ -28,7 +28,7 @@ module _ {K : Type 0} (means : Meaning K) where
   abbrev pub Intakes : LogValue K → Intake → LogValue K → Option Msg → Type 0
   Intakes old Entered new held = (m : Msg) × HasLanded means old m new
   Intakes old Rests new held = IsSameLog old new × AllWait new held
-  Intakes old NoMem new held = IsSameLog old new × LacksMemory new held
+  Intakes old NoMem new held = IsSameLog old new × HeldForMemory new held
 
   -- these messages came in, in order, and nothing else happened
   abbrev pub TakesIn : LogValue K → List Msg → LogValue K → Type 0
@@ -43,16 +43,16 @@ module _ {K : Type 0} (means : Meaning K) where
 
   -- why no more came in than did: the stream is no line, or as many did as its ring holds, or none can; or else memory was wanting for
   -- the next one
-  abbrev pub Stops : LogValue K → ℕ → Bool → LogValue K → Option Msg → Type 0
-  Stops old many true new held = is_line old.setup.driver ≡ true → many < old.setup.ring → AllWait new held
-  Stops old many false new held = LacksMemory new held
+  abbrev pub NoMoreCome : LogValue K → ℕ → Bool → LogValue K → Option Msg → Type 0
+  NoMoreCome old many true new held = is_line old.setup.driver ≡ true → many < old.setup.ring → AllWait new held
+  NoMoreCome old many false new held = HeldForMemory new held
 
   -- messages came in, as many as the ring holds at most: all that can, unless memory was wanting for one
   pub record TakesAll (old : LogValue K) (has_memory : Bool) (new : LogValue K) (held : Option Msg) : Type 0 where
     pub many : ℕ
     pub few : many ≤ old.setup.ring
     pub comes : ComesIn many old new
-    pub stops : Stops old many has_memory new held
+    pub stops : NoMoreCome old many has_memory new held
 
   -- why a call comes back: its place was wanting, before any message came in; or memory was wanting for a message
   abbrev pub ComesBack : LogValue K → LogValue K → Option Msg → Type 0

@@ -19,6 +19,7 @@ use strm_run::{
     Feed, Gate, RunFault, Script, ScriptCall, Transcript, are_from_line, are_setups, run,
 };
 
+mod across;
 mod crews;
 mod faults;
 mod feeds;

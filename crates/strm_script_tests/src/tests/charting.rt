@@ -1,6 +1,6 @@
 //! Charts of which no script is sure to be the cause: messages that came in from a line.
 use super::names_of;
-use super::printing::log;
+use super::printing::{KINDS, Taker, is_told, kind_of, log, taker};
 use std::alloc::Global;
 use std::process::Abort;
 use strm_chain::Looks;
@@ -50,11 +50,37 @@ fn drawn(rt: &impl Abort, alloc: Global, names: &Names, log: StreamLog<Kind>) ->
     out
 }
 
+/// What is left of the line.
+fn line(rt: &impl Abort, alloc: Global) -> StreamLog<Kind> {
+    let mut log = log(rt, alloc, &[b"m"]);
+    log.history = arrivals(rt, alloc);
+    log
+}
+
 #[test]
 fn messages_that_came_in_are_drawn_from_the_line(rt: HostRuntime) {
     let alloc: Global = rt.alloc();
     let names = names_of(&rt, alloc, PLAN);
-    let mut log = log(&rt, alloc, &[b"m"]);
-    log.history = arrivals(&rt, alloc);
-    assert!(rt; drawn(&rt, alloc, &names, log).as_slice() == DRAWN.as_bytes());
+    assert!(rt; drawn(&rt, alloc, &names, line(&rt, alloc)).as_slice() == DRAWN.as_bytes());
+}
+
+/// Whether what is drawn to a writer is told as that, and whether all is.
+fn drawn_to(transcript: &Transcript<Kind>, names: &Names, mut taker: Taker) -> (bool, bool) {
+    let fault = kind_of(chart(transcript, names, &mut taker));
+    (is_told(&taker, DRAWN, fault), fault.is_none())
+}
+
+#[test]
+fn each_write_of_a_chart_may_fail(rt: HostRuntime) {
+    let alloc: Global = rt.alloc();
+    let names = names_of(&rt, alloc, PLAN);
+    let streams = vec![in alloc; line(&rt, alloc)].expect(&rt, "no memory");
+    let transcript = Transcript { streams };
+    for kind in KINDS {
+        for before in 0..DRAWN.len() {
+            assert!(rt; drawn_to(&transcript, &names, taker(kind, 1, before)) == (true, false));
+        }
+        let all = drawn_to(&transcript, &names, taker(kind, 1, DRAWN.len()));
+        assert!(rt; all == (true, true));
+    }
 }

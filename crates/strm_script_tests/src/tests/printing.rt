@@ -331,18 +331,19 @@ fn transcript(rt: &impl Abort, alloc: Global) -> Transcript<Kind> {
 /// What is printed of it. The third log is of no stream.
 const PRINTED: &str = "stream one\nopen a\nopen b\nstream two\np close two:a : closed\nclosed a\n";
 
-/// A writer that takes at most so many bytes at a time, and fails at the write after so many others.
+/// A writer that takes at most so many bytes at a time, and fails at the write after so many others, with an error of this kind.
 #[derive(Drop)]
-struct Taker {
-    out: ArrayVec<u8, 80>,
-    most: usize,
-    before: usize,
+pub(super) struct Taker {
+    pub(super) out: ArrayVec<u8, 512>,
+    pub(super) most: usize,
+    pub(super) before: usize,
+    pub(super) kind: ErrorKind,
 }
 
 impl Write for Taker {
     fn write(&mut self, buf: &[u8]) -> io::Result<usize> {
         if self.before == 0 {
-            return Err(io::Error::from(ErrorKind::BrokenPipe));
+            return Err(io::Error::from(self.kind));
         }
         self.before -= 1;
         self.out.write(&buf[..self.most.min(buf.len())])
@@ -353,24 +354,44 @@ impl Write for Taker {
     }
 }
 
-/// What is printed to such a writer, and whether all was.
-fn taken(transcript: &Transcript<Kind>, names: &Names, most: usize, before: usize) -> Taken {
+/// The kinds of a writer's error, among them that of want of memory.
+pub(super) const KINDS: [ErrorKind; 3] = [
+    ErrorKind::BrokenPipe,
+    ErrorKind::StorageFull,
+    ErrorKind::OutOfMemory,
+];
+
+/// A writer that has nothing yet.
+pub(super) fn taker(kind: ErrorKind, most: usize, before: usize) -> Taker {
     let out = ArrayVec::new();
-    let mut taker = Taker { out, most, before };
-    let is_ok = print(transcript, names, &mut taker).is_ok();
-    (taker.out, is_ok)
+    Taker {
+        out,
+        most,
+        before,
+        kind,
+    }
 }
 
-/// What a writer has, and whether all was printed.
-type Taken = (ArrayVec<u8, 80>, bool);
-
-/// Whether all was printed, or it was not and the writer has its beginning.
-fn is_beginning((out, is_ok): &Taken) -> bool {
-    if *is_ok {
-        out.as_slice() == PRINTED.as_bytes()
-    } else {
-        PRINTED.as_bytes().starts_with(out.as_slice())
+/// The kind of error with which something is not written, if it is not.
+pub(super) fn kind_of(written: io::Result<()>) -> Option<ErrorKind> {
+    match written {
+        Ok(()) => None,
+        Err(error) => Some(error.kind()),
     }
+}
+
+/// Whether the writer has the whole text and no error, or the beginning of the text and its own error.
+pub(super) fn is_told(taker: &Taker, text: &str, fault: Option<ErrorKind>) -> bool {
+    match fault {
+        None => taker.out.as_slice() == text.as_bytes(),
+        Some(kind) => kind == taker.kind && text.as_bytes().starts_with(taker.out.as_slice()),
+    }
+}
+
+/// Whether what is printed to a writer is told as that, and whether all is.
+fn printed_to(transcript: &Transcript<Kind>, names: &Names, mut taker: Taker) -> (bool, bool) {
+    let fault = kind_of(print(transcript, names, &mut taker));
+    (is_told(&taker, PRINTED, fault), fault.is_none())
 }
 
 /// How many bytes are printed, and so after how many writes all is, at the latest.
@@ -380,13 +401,15 @@ const WRITES: usize = 68;
 fn each_write_may_fail_or_take_little(rt: HostRuntime) {
     let alloc: Global = rt.alloc();
     let (transcript, names) = (transcript(&rt, alloc), names_of(&rt, alloc, PLAN));
-    for most in [1, 5, 80] {
-        for before in 0..WRITES {
-            assert!(rt; is_beginning(&taken(&transcript, &names, most, before)));
+    for kind in KINDS {
+        for most in [1, 5, 80] {
+            for before in 0..WRITES {
+                assert!(rt; printed_to(&transcript, &names, taker(kind, most, before)).0);
+            }
+            let all = printed_to(&transcript, &names, taker(kind, most, WRITES));
+            assert!(rt; all == (true, true));
         }
-        let all = taken(&transcript, &names, most, WRITES);
-        assert!(rt; all.1 && is_beginning(&all));
     }
-    let (none, is_ok) = taken(&transcript, &names, 0, WRITES);
-    assert!(rt; !is_ok && none.is_empty());
+    let none = printed_to(&transcript, &names, taker(ErrorKind::WriteZero, 0, WRITES));
+    assert!(rt; none == (true, false));
 }

@@ -11,7 +11,7 @@ use strm_msg::End::A;
 use strm_run::Gate;
 
 /// Writes digits behind those that stand there, where `shift` is the power of ten that makes room for them.
-fn note(done: &AtomicU64, shift: u64, digits: u64) {
+pub(super) fn note(done: &AtomicU64, shift: u64, digits: u64) {
     let before = done.load(Ordering::SeqCst).saturating_mul(shift);
     done.store(before.saturating_add(digits), Ordering::SeqCst);
 }

@@ -1,6 +1,6 @@
 //! Charts of which no script is sure to be the cause: messages that came in from a line.
 use super::names_of;
-use super::printing::{KINDS, Taker, is_told, kind_of, log, taker};
+use super::printing::{KINDS, Taker, is_told, kind_of, log, new_taker};
 use std::alloc::Global;
 use std::process::Abort;
 use strm_chain::Looks;
@@ -78,9 +78,9 @@ fn each_write_of_a_chart_may_fail(rt: HostRuntime) {
     let transcript = Transcript { streams };
     for kind in KINDS {
         for before in 0..DRAWN.len() {
-            assert!(rt; drawn_to(&transcript, &names, taker(kind, 1, before)) == (true, false));
+            assert!(rt; drawn_to(&transcript, &names, new_taker(kind, 1, before)) == (true, false));
         }
-        let all = drawn_to(&transcript, &names, taker(kind, 1, DRAWN.len()));
+        let all = drawn_to(&transcript, &names, new_taker(kind, 1, DRAWN.len()));
         assert!(rt; all == (true, true));
     }
 }

@@ -362,7 +362,7 @@ pub(super) const KINDS: [ErrorKind; 3] = [
 ];
 
 /// A writer that has nothing yet.
-pub(super) fn taker(kind: ErrorKind, most: usize, before: usize) -> Taker {
+pub(super) fn new_taker(kind: ErrorKind, most: usize, before: usize) -> Taker {
     let out = ArrayVec::new();
     Taker {
         out,
@@ -404,12 +404,16 @@ fn each_write_may_fail_or_take_little(rt: HostRuntime) {
     for kind in KINDS {
         for most in [1, 5, 80] {
             for before in 0..WRITES {
-                assert!(rt; printed_to(&transcript, &names, taker(kind, most, before)).0);
+                assert!(rt; printed_to(&transcript, &names, new_taker(kind, most, before)).0);
             }
-            let all = printed_to(&transcript, &names, taker(kind, most, WRITES));
+            let all = printed_to(&transcript, &names, new_taker(kind, most, WRITES));
             assert!(rt; all == (true, true));
         }
     }
-    let none = printed_to(&transcript, &names, taker(ErrorKind::WriteZero, 0, WRITES));
+    let none = printed_to(
+        &transcript,
+        &names,
+        new_taker(ErrorKind::WriteZero, 0, WRITES),
+    );
     assert!(rt; none == (true, false));
 }

@@ -1,5 +1,5 @@
 -- What follows from an answer, whichever it is.
-use Rattle.std.proofs.Common.{Result, Ok, Err, OnOk, OnErr, IfOk, Option, Some, None, IfSome, IfNone}
+use Rattle.std.proofs.Common.{◌≡◌, ◌⊎◌, inl, inr, ◌&&◌, Bool, true, false, Result, Ok, Err, OnOk, OnErr, IfOk, Option, Some, None, IfSome, IfNone}
 
 pub on_result : {T E : Type 0} (r : Result T E) (P Q C : Type 0) → OnOk r P → OnErr r Q → (P → C) → (Q → C) → C
 on_result (Ok t) P Q C p q f g = f p
@@ -29,3 +29,8 @@ if_none None P C p f = f p
 pub always : {T E : Type 0} (r : Result T E) (P : Type 0) → P → OnErr r P
 always (Ok t) P p = tt
 always (Err e) P p = p
+
+-- of two that do not both hold one does not
+pub either_not : (a b : Bool) → (a && b) ≡ false → (b ≡ false) ⊎ (a ≡ false)
+either_not true b h = inl h
+either_not false b h = inr h

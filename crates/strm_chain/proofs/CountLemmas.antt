@@ -10,7 +10,7 @@ use Rattle.strm_module.specs.Kinds.{OutList, Meaning}
 use Rattle.strm_module.specs.Calm.{is_calm, are_calm, options_of, options_held, options_sent, IsCalm}
 use Rattle.strm_qpair.specs.Head.{head_does}
 use Rattle.strm_qpair.specs.End.{EndState, list_at, end_gets, end_serves}
-use Rattle.strm_qpair.specs.Modules.{HoldsOrdinary}
+use Rattle.strm_qpair.specs.Modules.{HoldsCalm}
 use Rattle.strm_ends.specs.declared.place.Place.TheVariants as Places
 use Rattle.strm_ends.specs.declared.place.NextQueue.{NextQueue}
 use Rattle.strm_ends.specs.declared.place.NextQueue.TheVariants.{Of, Head}
@@ -82,7 +82,7 @@ module _ {K : Type 0} (means : Meaning K) where
       rw (held_on old side e i, held_on new side e i, is, end_with old e (end_gets means (end_of old e) i side m).state)
       (gets_calm means (end_of old e) i side m calm h).1
 
-  pub serves_one : (old new : Image K) (e : End) (i : ℕ) (side : Side) → IsCalm means → HoldsOrdinary (end_of old e) → new ≡ with_end old e (end_serves means (end_of old e) i side).state → IsServed (held_by old (Of (module_place side e i))) (held_by new (Of (module_place side e i)))
+  pub serves_one : (old new : Image K) (e : End) (i : ℕ) (side : Side) → IsCalm means → HoldsCalm (end_of old e) → new ≡ with_end old e (end_serves means (end_of old e) i side).state → IsServed (held_by old (Of (module_place side e i))) (held_by new (Of (module_place side e i)))
   serves_one old new e i side calm ordinary is =
       rw (held_on old side e i, held_on new side e i, is, end_with old e (end_serves means (end_of old e) i side).state)
       (serves_calm means (end_of old e) i side calm ordinary).1

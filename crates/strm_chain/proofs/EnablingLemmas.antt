@@ -16,7 +16,7 @@ use Rattle.strm_ends.specs.declared.place.NextQueue.TheVariants.{Of, Head}
 use Rattle.strm_ends.specs.Image.{Image, end_of, with_state}
 use Rattle.strm_ends.specs.Path.{front_of}
 use Rattle.strm_ends.specs.Flow.{may, is_due}
-use Rattle.strm_ends.specs.Held.{held_by, SameHeadMarks, DiffersIn, SetsMarks, AreOrdinary}
+use Rattle.strm_ends.specs.Held.{held_by, SameHeadMarks, DiffersIn, SetsMarks, AreCalm}
 use Rattle.strm_ends.specs.Next.{next_of, modules_at, SameWays}
 use Rattle.strm_ends.proofs.NextLemmas.{next_same, marks_but, marks_same, front_same, ways_of_same, next_once}
 use Rattle.strm_ends.specs.Count.{is_place, places_of, place_count}
@@ -251,7 +251,7 @@ ready_empty image old new n rest before items wanted empty r =
     }
 
 -- the first place was given out, may not move, and waits from now on
-waits_now : {K : Type 0} (image : Image K) (old new : Enabled) (n : ℕ) (rest : List ℕ) (queue : NextQueue) → AreOrdinary image → old.run.items ≡ n ∷ rest → new.run.items ≡ rest → new.wanted ≡ slice_set old.wanted (number_of queue) (Some (place_of n)) → number_of queue < length old.wanted → next_of image (place_of n) ≡ Some queue → is_some (front_of image (place_of n)) ≡ true → is_due image (place_of n) ≡ false → IsReady image old → IsReady image new
+waits_now : {K : Type 0} (image : Image K) (old new : Enabled) (n : ℕ) (rest : List ℕ) (queue : NextQueue) → AreCalm image → old.run.items ≡ n ∷ rest → new.run.items ≡ rest → new.wanted ≡ slice_set old.wanted (number_of queue) (Some (place_of n)) → number_of queue < length old.wanted → next_of image (place_of n) ≡ Some queue → is_some (front_of image (place_of n)) ≡ true → is_due image (place_of n) ≡ false → IsReady image old → IsReady image new
 waits_now image old new n rest queue ordinary before items wanted inside next holds rests r =
     record {
       stands = λ p some out.
@@ -280,7 +280,7 @@ waits_now image old new n rest queue ordinary before items wanted inside next ho
     }
 
 -- the first place was given out, may not move, and waits for the queue ahead
-pub ready_waits : {K : Type 0} (image : Image K) (old new : Enabled) (n : ℕ) (rest : List ℕ) → AreOrdinary image → ((q : NextQueue) → next_of image (place_of n) ≡ Some q → number_of q < length old.wanted) → old.run.items ≡ n ∷ rest → new.run.items ≡ rest → Awaits image (place_of n) old.wanted new.wanted → is_some (front_of image (place_of n)) ≡ true → may image (place_of n) ≡ false → is_due image (place_of n) ≡ false → IsReady image old → IsReady image new
+pub ready_waits : {K : Type 0} (image : Image K) (old new : Enabled) (n : ℕ) (rest : List ℕ) → AreCalm image → ((q : NextQueue) → next_of image (place_of n) ≡ Some q → number_of q < length old.wanted) → old.run.items ≡ n ∷ rest → new.run.items ≡ rest → Awaits image (place_of n) old.wanted new.wanted → is_some (front_of image (place_of n)) ≡ true → may image (place_of n) ≡ false → is_due image (place_of n) ≡ false → IsReady image old → IsReady image new
 ready_waits image old new n rest ordinary few before items wanted holds still rests r =
     elim (next_of image (place_of n)) as (λ o. next_of image (place_of n) ≡ o → new.wanted ≡ awaits o (place_of n) old.wanted → IsReady image new) [
       | None ↦ λ e h. differ (IsReady image new) (sym (may_unless_next image (place_of n) e holds) ∙ still)

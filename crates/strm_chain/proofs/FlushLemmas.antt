@@ -7,13 +7,13 @@ use Rattle.strm_msg.specs.declared.words.Side.TheVariants.{Rd, Wr}
 use Rattle.strm_module.specs.Builtin.{builtin}
 use Rattle.strm_module.specs.declared.kind.Kind.{Kind}
 use Rattle.strm_module.specs.declared.driver.Driver.{Driver}
-use Rattle.strm_module.specs.declared.driver.Driver.TheVariants.{Echo, Loop, Line}
+use Rattle.strm_module.specs.declared.driver.Driver.TheVariants.{Echo, Loop, Line, Wire}
 use Rattle.strm_module.specs.Driver.{has_end}
 use Rattle.strm_qpair.specs.End.{EndState, pair_at, found_gets}
 use Rattle.strm_qpair.specs.Head.{head_does, open_head, keeps}
 use Rattle.strm_qpair.specs.Driver.{driver_at, consumes, flush_up}
 use Rattle.strm_qpair.specs.declared.driver.DriverSends.TheVariants.{Nothing}
-use Rattle.strm_ends.specs.Image.{Image, end_of, with_end, count_of, driver_does}
+use Rattle.strm_ends.specs.Image.{Image, end_of, with_end, count_of, driver_does, driven}
 use Rattle.strm_chain.specs.Deliver.{Onward, OnwardPast, Passing, passing, head_gets, send_on, up_through, down_through, driver_sends, route}
 use Rattle.strm_chain.specs.HeadFlush.{HeadSendsOnce}
 
@@ -53,6 +53,7 @@ driver_flush d e r w band false = refl
 driver_flush Echo e r w band true = refl
 driver_flush Loop e r w band true = refl
 driver_flush Line e r w band true = refl
+driver_flush Wire e r w band true = refl
 
 abbrev ups : Onward Kind → OnwardPast Kind
 ups send e n image m = up_through builtin (head_gets send) e n image m
@@ -71,7 +72,7 @@ unfolding down_through
 down_same send other e zero image r w band =
     let state = end_of image e in
     let step = driver_does image.driver e state (flush r w band) in
-    let there = with_end image e step.state in
+    let there = driven image e (flush r w band) in
     let sends : step.sends ≡ cond (has_end image.driver e) (flush_up r band) Nothing = driver_flush image.driver state r w band (has_end image.driver e) in
     ap (driver_sends (ups send) image e there) sends ∙ back_same send other image e there r band (has_end image.driver e) ∙ sym (ap (driver_sends (ups other) image e there) sends)
 down_same send other e (suc n) image r w band =

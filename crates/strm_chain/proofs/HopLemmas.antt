@@ -17,7 +17,7 @@ use Rattle.strm_qpair.specs.End.{pair_at}
 use Rattle.strm_qpair.specs.Modules.{identity_of, identities_of}
 use Rattle.strm_qpair.specs.Head.{head_does}
 use Rattle.strm_qpair.specs.declared.driver.DriverSends.TheVariants.{Nothing, Reply, Across, Options}
-use Rattle.strm_ends.specs.Image.{Image, end_of, with_end, with_drv, count_of, driver_does}
+use Rattle.strm_ends.specs.Image.{Image, end_of, with_end, with_drv, count_of, driver_does, driven}
 use Rattle.strm_chain.specs.declared.chain.hop.Hop.{Hop}
 use Rattle.strm_ends.specs.declared.place.Place.TheVariants as Place
 use Rattle.strm_chain.specs.Deliver.{up, down, up_through, down_through, send_on, sends, sends_nothing, sent_down, put_at, route, driver_sends}
@@ -69,25 +69,25 @@ module _ {K : Type 0} (means : Meaning K) where
       rw (k, h) (ap (send_on (sent_down means) e (with_end old e (head_does (end_of old e) m).state)) some)
 
   -- what a driver sends
-  pub driver_nothing : (hs : Bool) (e : End) (old new : Image K) (m : Msg) → Nothing ≡ (driver_does old.driver e (end_of old e) m).sends → new ≡ with_end old e (driver_does old.driver e (end_of old e) m).state → new ≡ down means hs e 0 old m
+  pub driver_nothing : (hs : Bool) (e : End) (old new : Image K) (m : Msg) → Nothing ≡ (driver_does old.driver e (end_of old e) m).sends → new ≡ driven old e m → new ≡ down means hs e 0 old m
   unfolding down_through
   driver_nothing hs e old new m s h =
-      h ∙ ap (driver_sends (up means hs) old e (with_end old e (driver_does old.driver e (end_of old e) m).state)) s
+      h ∙ ap (driver_sends (up means hs) old e (driven old e m)) s
 
-  pub driver_reply : (hs : Bool) (e : End) (n : ℕ) (old new : Image K) (m r : Msg) → n ≡ count_of old e → Reply r ≡ (driver_does old.driver e (end_of old e) m).sends → new ≡ with_end old e (driver_does old.driver e (end_of old e) m).state → up means hs e n new r ≡ down means hs e 0 old m
+  pub driver_reply : (hs : Bool) (e : End) (n : ℕ) (old new : Image K) (m r : Msg) → n ≡ count_of old e → Reply r ≡ (driver_does old.driver e (end_of old e) m).sends → new ≡ driven old e m → up means hs e n new r ≡ down means hs e 0 old m
   unfolding down_through
   driver_reply hs e n old new m r k s h =
-      rw (k, h) (ap (driver_sends (up means hs) old e (with_end old e (driver_does old.driver e (end_of old e) m).state)) s)
+      rw (k, h) (ap (driver_sends (up means hs) old e (driven old e m)) s)
 
-  pub driver_across : (hs : Bool) (e p : End) (n : ℕ) (old new : Image K) (m r : Msg) → p ≡ partner old.driver e → n ≡ count_of old p → Across r ≡ (driver_does old.driver e (end_of old e) m).sends → new ≡ with_end old e (driver_does old.driver e (end_of old e) m).state → up means hs p n new r ≡ down means hs e 0 old m
+  pub driver_across : (hs : Bool) (e p : End) (n : ℕ) (old new : Image K) (m r : Msg) → p ≡ partner old.driver e → n ≡ count_of old p → Across r ≡ (driver_does old.driver e (end_of old e) m).sends → new ≡ driven old e m → up means hs p n new r ≡ down means hs e 0 old m
   unfolding down_through
   driver_across hs e p n old new m r hp k s h =
-      rw (k, hp, h) (ap (driver_sends (up means hs) old e (with_end old e (driver_does old.driver e (end_of old e) m).state)) s)
+      rw (k, hp, h) (ap (driver_sends (up means hs) old e (driven old e m)) s)
 
-  pub driver_options : (hs : Bool) (e : End) (n : ℕ) (old new : Image K) (m : Msg) (mode : Option ReadMode) (prot : Option Prot) (marks : Option (ℕ × ℕ)) (id : ℕ) → n ≡ count_of old e → Options mode prot marks id ≡ (driver_does old.driver e (end_of old e) m).sends → new ≡ with_end old e (driver_does old.driver e (end_of old e) m).state → up means hs e n (up means hs e n new (bare (MSetopts mode prot marks))) (ack_msg id 0 None) ≡ down means hs e 0 old m
+  pub driver_options : (hs : Bool) (e : End) (n : ℕ) (old new : Image K) (m : Msg) (mode : Option ReadMode) (prot : Option Prot) (marks : Option (ℕ × ℕ)) (id : ℕ) → n ≡ count_of old e → Options mode prot marks id ≡ (driver_does old.driver e (end_of old e) m).sends → new ≡ driven old e m → up means hs e n (up means hs e n new (bare (MSetopts mode prot marks))) (ack_msg id 0 None) ≡ down means hs e 0 old m
   unfolding down_through
   driver_options hs e n old new m mode prot marks id k s h =
-      rw (k, h) (ap (driver_sends (up means hs) old e (with_end old e (driver_does old.driver e (end_of old e) m).state)) s)
+      rw (k, h) (ap (driver_sends (up means hs) old e (driven old e m)) s)
 
   -- two messages on their way up, one after the other
   pub carries_two : (image : Image K) (hs : Bool) (e : End) (n : ℕ) (x y : Msg) → carry means (carry means image (up_hop hs e n x)) (up_hop hs e n y) ≡ up means hs e n (up means hs e n image x) y

@@ -19,19 +19,19 @@ use Rattle.strm_module.specs.declared.outs.Put.{Put}
 use Rattle.strm_module.specs.declared.outs.Put.TheVariants.{Queue as Queued, Sent}
 use Rattle.strm_module.proofs.ProcedureLemmas.{put_of_same}
 use Rattle.strm_module.specs.declared.driver.Driver.{Driver}
-use Rattle.strm_module.specs.declared.driver.Driver.TheVariants.{Echo, Loop, Line}
+use Rattle.strm_module.specs.declared.driver.Driver.TheVariants.{Echo, Loop, Line, Wire}
 use Rattle.strm_module.specs.Driver.{has_end, partner}
-use Rattle.strm_qpair.specs.Pair.{QueuePair, list_on, flushed_if, flushed_pair, after_put, pair_gets, pair_front, pair_serves}
+use Rattle.strm_qpair.specs.Pair.{QueuePair, list_on, flushed, flushed_if, flushed_pair, after_put, pair_gets, pair_front, pair_serves}
 use Rattle.strm_qpair.specs.End.{EndState, in_head, in_state, in_drv, pair_at, set_pair, found_gets, end_gets, found_serves, end_serves}
 use Rattle.strm_qpair.specs.Head.{is_id, kept_answer, with_errors, open_head, keeps, head_does}
-use Rattle.strm_qpair.specs.Driver.{DriverStep, consumes, refuses, line_does, loop_does, options_up, echo_does, driver_at}
+use Rattle.strm_qpair.specs.Driver.{DriverStep, consumes, refuses, line_does, loop_does, options_up, echo_does, wire_does, driver_at}
 use Rattle.strm_qpair.specs.Modules.{identity_of, identities_of, SameIds, SameEnd}
 use Rattle.strm_qpair.specs.declared.driver.DriverSends.{DriverSends}
 use Rattle.strm_qpair.specs.declared.driver.DriverSends.TheVariants.{Nothing, Reply, Across, Options}
 use Rattle.strm_qpair.specs.declared.record.Record.{Record}
 use Rattle.strm_qpair.proofs.EndLemmas.{identities-set}
 use Rattle.strm_ends.specs.declared.place.Place.{Place}
-use Rattle.strm_ends.specs.Image.{Image, end_of, with_end, with_drv, count_of, driver_does}
+use Rattle.strm_ends.specs.Image.{Image, end_of, with_end, with_drv, count_of, driver_does, input_flushed, driven}
 use Rattle.strm_chain.specs.declared.spot.Spot.{Spot}
 use Rattle.strm_chain.specs.declared.spot.Spot.TheVariants.{Down, Up}
 use Rattle.strm_chain.specs.Deliver.{Onward, OnwardPast, send_on, head_gets, driver_sends, driver_gets, route, put_at, up_through, down_through, sent_down_with, sends_nothing, sends, up, down, deliver}
@@ -125,10 +125,18 @@ echo_keeps e (MIoctl id cmd) m =
     either_step_keeps (cmd == SETOPTS) e (record { state = e; sends = options_up id (options_asked m.dat) }) (refuses e id) (same_end e) (same_end e)
 echo_keeps e kind m = loop_keeps e kind m
 
+wire_keeps : {K : Type 0} (e : EndState K) (kind : MsgKind) (m : Msg) → SameEnd e (wire_does e kind m).state
+wire_keeps e (MFlush r w band) m = in_drv_keeps e (flushed_if w band e.drv)
+wire_keeps e MData m = in_drv_keeps e (put_in e.drv m)
+wire_keeps e MProto m = in_drv_keeps e (put_in e.drv m)
+wire_keeps e MPcproto m = in_drv_keeps e (put_in e.drv m)
+wire_keeps e kind m = same_end e
+
 driver_at_keeps : {K : Type 0} (d : Driver) (e : EndState K) (m : Msg) → SameEnd e (driver_at d e m).state
 driver_at_keeps Line e m = line_keeps e m.kind
 driver_at_keeps Echo e m = echo_keeps e m.kind m
 driver_at_keeps Loop e m = loop_keeps e m.kind m
+driver_at_keeps Wire e m = wire_keeps e m.kind m
 
 driver_step_keeps : {K : Type 0} (d : Driver) (e : EndState K) (m : Msg) (has : Bool) → SameEnd e (cond has (driver_at d e m) (consumes e)).state
 driver_step_keeps d e m true = driver_at_keeps d e m
@@ -136,6 +144,20 @@ driver_step_keeps d e m false = same_end e
 
 pub driver_does_keeps : {K : Type 0} (d : Driver) (e : End) (state : EndState K) (m : Msg) → SameEnd state (driver_does d e state m).state
 driver_does_keeps d e state m = driver_step_keeps d state m (has_end d e)
+
+input_keeps : {K : Type 0} (d : Driver) (far : EndState K) (kind : MsgKind) → SameEnd far (input_flushed d far kind)
+input_keeps Echo far kind = same_end far
+input_keeps Loop far kind = same_end far
+input_keeps Line far kind = same_end far
+input_keeps Wire far (MFlush true w band) = in_drv_keeps far (flushed band far.drv)
+input_keeps Wire far (MFlush false w band) = same_end far
+input_keeps Wire far kind = same_end far
+
+-- a message that comes to a driver leaves the same modules
+driven_keeps : {K : Type 0} (image : Image K) (e : End) (m : Msg) → SameModules image (driven image e m)
+driven_keeps image A m =
+    record { driver = refl; broken = refl; on_a = driver_does_keeps image.driver A image.a m; on_b = input_keeps image.driver image.b m.kind }
+driven_keeps image B m = record { driver = refl; broken = refl; on_a = same_end image.a; on_b = driver_does_keeps image.driver B image.b m }
 
 -- one end changes, and the other stays
 pub with_end_keeps : {K : Type 0} (image : Image K) (e : End) (new : EndState K) → SameEnd (end_of image e) new → SameModules image (with_end image e new)
@@ -185,8 +207,8 @@ driver_sends_keeps up each old e image (Options mode prot marks id) =
 driver_gets_keeps : {K : Type 0} (up : OnwardPast K) → OnwardPastKeeps up → OnwardKeeps (driver_gets up)
 driver_gets_keeps up each e image m =
     let d = driver_does image.driver e (end_of image e) m in
-    let there = with_end image e d.state in
-    same_trans image there (driver_sends up image e there d.sends) (with_end_keeps image e d.state (driver_does_keeps image.driver e (end_of image e) m)) (driver_sends_keeps up each image e there d.sends)
+    let there = driven image e m in
+    same_trans image there (driver_sends up image e there d.sends) (driven_keeps image e m) (driver_sends_keeps up each image e there d.sends)
 
 -- a put leaves the shape that its module's answer came with
 put_shape : {K : Type 0} (s : QueuePair K) (side : Side) (put : Put) → (after_put s side put).pair.shape ≡ s.shape

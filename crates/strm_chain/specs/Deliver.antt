@@ -12,7 +12,7 @@ use Rattle.strm_qpair.specs.End.{EndStep, end_gets}
 use Rattle.strm_qpair.specs.Head.{head_does}
 use Rattle.strm_qpair.specs.declared.driver.DriverSends.{DriverSends}
 use Rattle.strm_qpair.specs.declared.driver.DriverSends.TheVariants.{Nothing, Reply, Across, Options}
-use Rattle.strm_ends.specs.Image.{Image, end_of, with_end, count_of, driver_does}
+use Rattle.strm_ends.specs.Image.{Image, end_of, with_end, count_of, driver_does, driven}
 use Rattle.strm_chain.specs.declared.spot.Spot.{Spot}
 use Rattle.strm_chain.specs.declared.spot.Spot.TheVariants.{Down, Up}
 
@@ -55,8 +55,7 @@ driver_sends up old e image (Options mode prot marks id) =
 -- a message comes to the driver
 abbrev pub driver_gets : {K : Type 0} → OnwardPast K → Onward K
 driver_gets up e image m =
-    let d = driver_does image.driver e (end_of image e) m in
-    driver_sends up image e (with_end image e d.state) d.sends
+    driver_sends up image e (driven image e m) (driver_does image.driver e (end_of image e) m).sends
 
 -- an out of the write side goes on down, one of the read side up
 abbrev pub route : {K : Type 0} → (Image K → Msg → Image K) → (Image K → Msg → Image K) → Image K → Side × Msg → Image K

@@ -1,7 +1,7 @@
 //! A chain: one or two ends over a driver, and their service.
 ghost use Rattle.std.specs.Prelude.{◌≡◌, ◌∷◌, [], ◌≤◌, OnOk, OnErr, IfErr, IfOk, IfSome, IfNone, is_ok, true, map, Some, option_map, option_copied};
 ghost use Rattle.strm_qpair.specs.End.{shapes_of, pair_at};
-ghost use Rattle.strm_qpair.specs.Modules.{IsFitEnd, HoldsOrdinary};
+ghost use Rattle.strm_qpair.specs.Modules.{IsFitEnd, HoldsCalm};
 ghost use Rattle.strm_qpair.specs.Change.{has_room, inserted, removed, closed};
 ghost use Rattle.strm_ends.specs.Image.{end_of, with_end, count_of, KeepsHeadRoom, fresh};
 ghost use Rattle.strm_chain.specs.Enabled.{is_enabled, DueAreEnabled};
@@ -113,7 +113,7 @@ impl<M: ModuleOf> Chain<M> {
         ensures value { result ≡ count_of self.now.image end }
         ensures few { result ≤ MOST_MODULES }
         ensures fit { IsFitEnd (end_of self.now.image end) }
-        ensures ordinary { HoldsOrdinary (end_of self.now.image end) }
+        ensures ordinary { HoldsCalm (end_of self.now.image end) }
     {
         self.ends.count(end)
     }

@@ -3,7 +3,7 @@ ghost use Rattle.std.specs.Prelude.{◌≡◌, ◌+◌, ◌||◌, ◌==◌, ◌<
 ghost use Rattle.strm_msg.specs.Count.{one_more};
 ghost use Rattle.strm_queue.specs.Run.{AreOnce, with_place};
 ghost use Rattle.strm_ends.specs.Flow.{may, is_due};
-ghost use Rattle.strm_ends.specs.Held.{held_by, DiffersIn, AreOrdinary};
+ghost use Rattle.strm_ends.specs.Held.{held_by, DiffersIn, AreCalm};
 ghost use Rattle.strm_ends.specs.Next.{next_of};
 ghost use Rattle.strm_ends.specs.declared.place.NextQueue.{NextQueue};
 ghost use Rattle.strm_ends.specs.Path.{front_of};
@@ -238,7 +238,7 @@ impl Enabling {
         ensures run { self.new.run ≡ self.old.run }
         ensures wanted { Awaits ends.now.image place self.old.wanted self.new.wanted }
         ensures few { (queue : NextQueue) → next_of ends.now.image place ≡ Some queue → number_of queue < length self.old.wanted }
-        ensures ordinary { AreOrdinary ends.now.image }
+        ensures ordinary { AreCalm ends.now.image }
     {
         // The proof learns from the numbers of modules that no high message waits below a head.
         let _ = ends.count(End::A);

@@ -26,6 +26,7 @@ mod rows;
 mod steps;
 mod texts;
 mod user;
+mod wires;
 
 /// A part of a message that may be missing.
 type Part = Option<&'static [u8]>;
@@ -67,6 +68,8 @@ enum Way {
     Comes,
     /// It is the first of the head of an end, and is taken.
     Take(End),
+    /// It is the first that was sent down to a wire, and is taken from outside.
+    TakeOut,
     /// Room is made in band 0 of the head of end A and of the list of the line, and it is put back to that head.
     PutBack,
     /// It is the answer that has come at end A, and is taken.
@@ -112,6 +115,8 @@ enum Call {
     HeadHeld(End, u128),
     /// Whether the first write queue of an end is full in band 0.
     FullAhead(End, bool),
+    /// Nothing is there that was sent down to a wire.
+    NothingOut,
     /// Whether the list of the line is full in band 0.
     LineFull(bool),
     /// Which lists of an end hold a message: those of two modules on their way down, of the driver, of the

@@ -19,13 +19,13 @@ use Rattle.strm_module.specs.declared.outs.Put.{Put}
 use Rattle.strm_module.specs.declared.outs.Put.TheVariants.{Queue as Queued, Sent}
 use Rattle.strm_module.proofs.CalmLemmas.{ordinary_calm, put_calm, put_keeps, serve_calm, serve_keeps}
 use Rattle.strm_module.specs.declared.driver.Driver.{Driver}
-use Rattle.strm_module.specs.declared.driver.Driver.TheVariants.{Echo, Loop, Line}
+use Rattle.strm_module.specs.declared.driver.Driver.TheVariants.{Echo, Loop, Line, Wire}
 use Rattle.strm_module.specs.Driver.{has_end}
 use Rattle.strm_qpair.specs.Pair.{QueuePair, list_on, after_put, pair_gets, pair_front, pair_serves}
 use Rattle.strm_qpair.specs.End.{EndState, in_head, pair_at, list_at, found_gets, end_gets, found_serves, end_serves}
 use Rattle.strm_qpair.specs.Head.{open_head, keeps, head_does}
-use Rattle.strm_qpair.specs.Driver.{consumes, refuses, line_does, loop_does, options_up, echo_does, driver_at}
-use Rattle.strm_qpair.specs.Modules.{HoldsOrdinary}
+use Rattle.strm_qpair.specs.Driver.{consumes, refuses, line_does, loop_does, options_up, echo_does, wire_does, driver_at}
+use Rattle.strm_qpair.specs.Modules.{HoldsCalm}
 use Rattle.strm_qpair.specs.declared.driver.DriverSends.{DriverSends}
 use Rattle.strm_qpair.specs.declared.driver.DriverSends.TheVariants.{Nothing, Reply, Across, Options}
 use Rattle.strm_qpair.proofs.NextLemmas.{front_ordinary}
@@ -132,10 +132,19 @@ echo_calm : {K : Type 0} (e : EndState K) (kind : MsgKind) (m : Msg) → is_calm
 echo_calm e (MIoctl id cmd) m h k = asked_calm (cmd == SETOPTS) e id m.dat
 echo_calm e kind m h k = loop_calm e kind m h k
 
+wire_calm : {K : Type 0} (e : EndState K) (kind : MsgKind) (m : Msg) → is_calm kind ≡ true → (sends_calm (wire_does e kind m).sends ≡ true) × (length e.drv ≤ length (wire_does e kind m).state.drv)
+wire_calm e (MFlush r w band) m h = cc
+wire_calm e (MIoctl id cmd) m h = (refl, le_same (length e.drv))
+wire_calm e MData m h = (refl, longer e.drv m)
+wire_calm e MProto m h = (refl, longer e.drv m)
+wire_calm e MPcproto m h = (refl, longer e.drv m)
+wire_calm e kind m h = (refl, le_same (length e.drv))
+
 at_calm : {K : Type 0} (d : Driver) (e : EndState K) (m : Msg) → is_calm m.kind ≡ true → (sends_calm (driver_at d e m).sends ≡ true) × (length e.drv ≤ length (driver_at d e m).state.drv)
 at_calm Line e m h = line_calm e m.kind h
 at_calm Echo e m h = echo_calm e m.kind m h h
 at_calm Loop e m h = loop_calm e m.kind m h h
+at_calm Wire e m h = wire_calm e m.kind m h
 
 -- a calm message makes a driver send a calm one, if any, and flushes no list
 pub driver_calm : {K : Type 0} (d : Driver) (end : End) (e : EndState K) (m : Msg) → is_calm m.kind ≡ true → (sends_calm (driver_does d end e m).sends ≡ true) × (length e.drv ≤ length (driver_does d end e m).state.drv)
@@ -161,6 +170,14 @@ loop_options b e MProto m h = put_less b e.drv m
 loop_options b e MPcproto m h = le_same (options_held b e.drv + options_of b m)
 loop_options b e kind m h = omega arith
 
+wire_options : {K : Type 0} (b : Bool) (e : EndState K) (kind : MsgKind) (m : Msg) → is_calm kind ≡ true → options_held b (wire_does e kind m).state.drv + options_driven b (wire_does e kind m).sends ≤ options_held b e.drv + options_of b m
+wire_options b e (MFlush r w band) m h = cc
+wire_options b e (MIoctl id cmd) m h = omega arith
+wire_options b e MData m h = put_less b e.drv m
+wire_options b e MProto m h = put_less b e.drv m
+wire_options b e MPcproto m h = put_less b e.drv m
+wire_options b e kind m h = omega arith
+
 up_options : (id : ℕ) (o : Option MsgKind) → options_driven true (options_up id o) ≤ cond (is_some o) 1 0
 up_options id (Some (MSetopts mode prot marks)) = le_same 1
 up_options id (Some kind) = omega arith
@@ -179,6 +196,7 @@ at_options : {K : Type 0} (d : Driver) (e : EndState K) (m : Msg) → is_calm m.
 at_options Line e m h = line_options e m.kind (options_of false m) h
 at_options Echo e m h = echo_options e m.kind m refl h
 at_options Loop e m h = loop_options false e m.kind m h
+at_options Wire e m h = wire_options false e m.kind m h
 
 -- what comes to a driver waits there, or is answered with what sets no more
 pub driver_options : {K : Type 0} (d : Driver) (end : End) (e : EndState K) (m : Msg) → is_calm m.kind ≡ true → options_held (answers_options d) (driver_does d end e m).state.drv + options_driven (answers_options d) (driver_does d end e m).sends ≤ options_held (answers_options d) e.drv + options_of (answers_options d) m
@@ -241,7 +259,7 @@ module _ {K : Type 0} (means : Meaning K) where
   front_calm s Wr (m ∷ q) calm at all =
       (serve_calm means s.shape Wr m calm (all m refl), let n = ap length at in record { fewer = omega (arith, n); one = omega (arith, n) })
 
-  found_served : (e : EndState K) (i : ℕ) (o : Option (QueuePair K)) (side : Side) → IsCalm means → HoldsOrdinary e → pair_at e.modules i ≡ o → (are_calm (found_serves means e i o side).outs ≡ true) × IsServed (list_at e i side) (list_at (found_serves means e i o side).state i side)
+  found_served : (e : EndState K) (i : ℕ) (o : Option (QueuePair K)) (side : Side) → IsCalm means → HoldsCalm e → pair_at e.modules i ≡ o → (are_calm (found_serves means e i o side).outs ≡ true) × IsServed (list_at e i side) (list_at (found_serves means e i o side).state i side)
   found_served e i None side calm ordinary at = (refl, record { fewer = le_same (length (list_at e i side)); one = omega arith })
   found_served e i (Some s) side calm ordinary at =
       let new = (pair_serves means s side).pair in
@@ -251,7 +269,7 @@ module _ {K : Type 0} (means : Meaning K) where
       (both.0, rw (at, pair_there e.modules i s new at) both.1)
 
   -- a module that serves an ordinary message sends calm ones
-  pub serves_calm : (e : EndState K) (i : ℕ) (side : Side) → IsCalm means → HoldsOrdinary e → (are_calm (end_serves means e i side).outs ≡ true) × IsServed (list_at e i side) (list_at (end_serves means e i side).state i side)
+  pub serves_calm : (e : EndState K) (i : ℕ) (side : Side) → IsCalm means → HoldsCalm e → (are_calm (end_serves means e i side).outs ≡ true) × IsServed (list_at e i side) (list_at (end_serves means e i side).state i side)
   serves_calm e i side calm ordinary = found_served e i (pair_at e.modules i) side calm ordinary refl
 
   pair_options : (b : Bool) (s : QueuePair K) (side : Side) (m : Msg) → IsCalm means → is_calm m.kind ≡ true → options_held b (list_on (pair_gets means s side m).pair side) + options_sent b (pair_gets means s side m).outs ≤ options_held b (list_on s side) + options_of b m

@@ -12,7 +12,7 @@ use Rattle.strm_msg.specs.declared.words.Side.{Side}
 use Rattle.strm_msg.specs.declared.words.Side.TheVariants.{Rd, Wr}
 use Rattle.strm_msg.specs.Marks.{WaterMarks}
 use Rattle.strm_module.specs.declared.driver.Driver.{Driver}
-use Rattle.strm_module.specs.declared.driver.Driver.TheVariants.{Echo, Loop, Line}
+use Rattle.strm_module.specs.declared.driver.Driver.TheVariants.{Echo, Loop, Line, Wire}
 use Rattle.strm_module.specs.Driver.{partner}
 use Rattle.strm_qpair.specs.Pair.{QueuePair}
 use Rattle.strm_qpair.specs.End.{EndState}
@@ -91,6 +91,7 @@ fit_head false q h = tt
 fit_after_writes : (d : Driver) (q : Fill) → q.marks.lo < q.marks.hi → IsFitFill (after_writes d q)
 fit_after_writes Echo q h = h
 fit_after_writes Loop q h = h
+fit_after_writes Wire q h = h
 fit_after_writes Line q h = tt
 
 fit_above : {K : Type 0} (e : EndState K) (i : ℕ) → IsFitEnd e → IsFitFill (above e i)

@@ -1,5 +1,5 @@
 -- What each change of one queue leaves of the others.
-use Rattle.std.proofs.Common.{◌≡◌, ◌≢◌, ◌∙◌, ◌==◌, ◌+◌, ◌≤◌, ◌&&◌, not, ℕ, Bool, true, false, cond, Option, Some, None, List, [], ◌∷◌, length, drop, filter, insert, slice_get, slice_set, refl, sym, ap, subst, arith, suc, zero}
+use Rattle.std.proofs.Common.{◌⊎◌, inl, inr, ◌≡◌, ◌≢◌, ◌∙◌, ◌==◌, ◌+◌, ◌≤◌, ◌&&◌, not, ℕ, Bool, true, false, cond, Option, Some, None, List, [], ◌∷◌, length, drop, filter, insert, slice_get, slice_set, refl, sym, ap, subst, arith, suc, zero}
 use Rattle.std.proofs.lemmas.List.Edits.{length-insert}
 use Rattle.std.proofs.lemmas.List.Sums.{sum_by-insert, prefix_len-le-length, length-filter, count_by-le-length}
 use Rattle.strm_msg.specs.Message.{Msg, rank_of}
@@ -18,12 +18,12 @@ use Rattle.strm_module.specs.declared.shape.Shape.{Shape}
 use Rattle.strm_module.specs.declared.outs.Put.{Put}
 use Rattle.strm_module.specs.declared.outs.Put.TheVariants.{Queue as Queued, Sent}
 use Rattle.strm_module.specs.declared.driver.Driver.{Driver}
-use Rattle.strm_module.specs.declared.driver.Driver.TheVariants.{Echo, Loop, Line}
-use Rattle.strm_module.specs.Driver.{has_end}
+use Rattle.strm_module.specs.declared.driver.Driver.TheVariants.{Echo, Loop, Line, Wire}
+use Rattle.strm_module.specs.Driver.{has_end, is_wire}
 use Rattle.strm_qpair.specs.Pair.{QueuePair, list_on, with_list, flushed_if, flushed_pair, after_put, pair_gets, pair_front, pair_serves}
 use Rattle.strm_qpair.specs.End.{EndState, in_head, in_state, in_drv, pair_at, set_pair, list_found, list_at, found_gets, end_gets, found_serves, end_serves}
 use Rattle.strm_qpair.specs.Head.{kept_answer, with_errors, open_head, keeps, head_does}
-use Rattle.strm_qpair.specs.Driver.{DriverStep, consumes, line_does, loop_does, options_up, refuses, echo_does, driver_at}
+use Rattle.strm_qpair.specs.Driver.{DriverStep, consumes, line_does, loop_does, options_up, refuses, echo_does, wire_does, driver_at}
 use Rattle.strm_qpair.specs.Modules.{SameIds, SameEnd}
 use Rattle.strm_qpair.specs.declared.record.Record.{Record}
 use Rattle.strm_ends.specs.declared.place.Place.{Place}
@@ -32,7 +32,7 @@ use Rattle.strm_ends.specs.declared.place.NextQueue.{NextQueue}
 use Rattle.strm_ends.specs.declared.place.NextQueue.TheVariants.{Of, Head}
 use Rattle.strm_ends.specs.Same.{SameModules}
 use Rattle.strm_ends.specs.Held.{module_place, held_by, IsShift, SameHeadMarks, DiffersIn, is_flush, sets_options, SetsMarks}
-use Rattle.strm_ends.specs.Image.{Image, end_of, with_end, driver_does, with_head, with_drv}
+use Rattle.strm_ends.specs.Image.{Image, end_of, with_end, driver_does, input_flushed, driven, with_head, with_drv}
 
 -- a list that stays as it is
 pub shift_same : (q : List Msg) → IsShift q q
@@ -298,10 +298,18 @@ echo_alone e (MIoctl id cmd) m =
     either_driver (cmd == SETOPTS) e (record { state = e; sends = options_up id (options_asked m.dat) }) (refuses e id) (drv_stays e) (drv_stays e)
 echo_alone e kind m = loop_alone e kind m
 
+wire_alone : {K : Type 0} (e : EndState K) (kind : MsgKind) (m : Msg) → DrvAlone e (wire_does e kind m).state
+wire_alone e (MFlush r w band) m = drv_alone e (flushed_if w band e.drv) (shift_flush w band e.drv)
+wire_alone e MData m = drv_alone e (put_in e.drv m) (shift_put e.drv m)
+wire_alone e MProto m = drv_alone e (put_in e.drv m) (shift_put e.drv m)
+wire_alone e MPcproto m = drv_alone e (put_in e.drv m) (shift_put e.drv m)
+wire_alone e kind m = drv_stays e
+
 driver_at_alone : {K : Type 0} (d : Driver) (e : EndState K) (m : Msg) → DrvAlone e (driver_at d e m).state
 driver_at_alone Line e m = line_alone e m.kind
 driver_at_alone Echo e m = echo_alone e m.kind m
 driver_at_alone Loop e m = loop_alone e m.kind m
+driver_at_alone Wire e m = wire_alone e m.kind m
 
 driver_step_alone : {K : Type 0} (d : Driver) (e : EndState K) (m : Msg) (has : Bool) → DrvAlone e (cond has (driver_at d e m) (consumes e)).state
 driver_step_alone d e m true = driver_at_alone d e m
@@ -311,11 +319,32 @@ drv_changes : {K : Type 0} (image : Image K) (e : End) (s : EndState K) (new : I
 drv_changes {K = K} image e s new same is h =
     subst (λ (j : Image K). DiffersIn image j (Of (Places.Drv e))) (sym is) (differs_in_drv image e s (subst (λ (j : Image K). SameModules image j) is same) h.marks h.modules h.head h.shift)
 
--- a message comes to a driver
-pub driver_differs : {K : Type 0} (image : Image K) (e : End) (new : Image K) (m : Msg) → SameModules image new → new ≡ with_end image e (driver_does image.driver e (end_of image e) m).state → DiffersIn image new (Of (Places.Drv e))
-driver_differs image e new m same is =
+-- what no flush passes
+input_stays : {K : Type 0} (d : Driver) (far : EndState K) (kind : MsgKind) → is_flush kind ≡ false → input_flushed d far kind ≡ far
+input_stays Echo far kind h = refl
+input_stays Loop far kind h = refl
+input_stays Line far kind h = refl
+input_stays Wire far (MFlush r w band) h = cc
+input_stays Wire far kind h = refl
+
+-- nor a flush, but that which comes to a wire
+input_apart : {K : Type 0} (d : Driver) (far : EndState K) (kind : MsgKind) → is_wire d ≡ false → input_flushed d far kind ≡ far
+input_apart Echo far kind h = refl
+input_apart Loop far kind h = refl
+input_apart Line far kind h = refl
+input_apart Wire far kind h = cc
+
+-- one list of a driver changes, where no flush comes to a wire
+pub driven_one : {K : Type 0} (image : Image K) (e : End) (m : Msg) → (is_flush m.kind ≡ false) ⊎ (is_wire image.driver ≡ false) → driven image e m ≡ with_end image e (driver_does image.driver e (end_of image e) m).state
+driven_one {K = K} image A m (inl h) = ap (λ (s : EndState K). record image { a = (driver_does image.driver A image.a m).state; b = s }) (input_stays image.driver image.b m.kind h)
+driven_one {K = K} image A m (inr h) = ap (λ (s : EndState K). record image { a = (driver_does image.driver A image.a m).state; b = s }) (input_apart image.driver image.b m.kind h)
+driven_one image B m h = refl
+
+-- a message comes to a driver, that is no flush which comes to a wire
+pub driver_differs : {K : Type 0} (image : Image K) (e : End) (new : Image K) (m : Msg) → (is_flush m.kind ≡ false) ⊎ (is_wire image.driver ≡ false) → SameModules image new → new ≡ driven image e m → DiffersIn image new (Of (Places.Drv e))
+driver_differs image e new m one same is =
     let s = end_of image e in
-    drv_changes image e (driver_does image.driver e s m).state new same is (driver_step_alone image.driver s m (has_end image.driver e))
+    drv_changes image e (driver_does image.driver e s m).state new same (is ∙ driven_one image e m one) (driver_step_alone image.driver s m (has_end image.driver e))
 
 -- the first message of a driver's list is taken
 pub take_driver_differs : {K : Type 0} (image : Image K) (e : End) (new : Image K) (m : Msg) → SameModules image new → (end_of image e).drv ≡ m ∷ (end_of new e).drv → new ≡ with_drv image e (end_of new e).drv → DiffersIn image new (Of (Places.Drv e))
@@ -488,10 +517,11 @@ put_back_differs image e new m is =
     let q = (end_of image e).head in with_head_differs image e new (put_back_in q m) (shift_put_back q m) is
 
 -- a message comes in from a line
-pub line_put_differs : {K : Type 0} (image new : Image K) (m : Msg) → new ≡ with_drv image A (put_in image.a.drv m) → DiffersIn image new (Of (Places.Drv A))
-line_put_differs {K = K} image new m is =
-    let q = put_in image.a.drv m in
-    drv_changes image A (in_drv image.a q) new (subst (λ (j : Image K). SameModules image j) (sym is) (with_end_keeps image A (in_drv image.a q) (in_drv_keeps image.a q))) is (drv_alone image.a q (shift_put image.a.drv m))
+pub line_put_differs : {K : Type 0} (image new : Image K) (e : End) (m : Msg) → new ≡ with_drv image e (put_in (end_of image e).drv m) → DiffersIn image new (Of (Places.Drv e))
+line_put_differs {K = K} image new e m is =
+    let s = end_of image e in
+    let q = put_in s.drv m in
+    drv_changes image e (in_drv s q) new (subst (λ (j : Image K). SameModules image j) (sym is) (with_end_keeps image e (in_drv s q) (in_drv_keeps s q))) is (drv_alone s q (shift_put s.drv m))
 
 -- nothing differs, as where a message was refused
 pub same_differs : {K : Type 0} (image new : Image K) (queue : NextQueue) → new ≡ image → DiffersIn image new queue

@@ -7,11 +7,11 @@ use Rattle.strm_msg.specs.declared.words.End.TheVariants.{A, B}
 use Rattle.strm_msg.specs.declared.words.Side.{Side}
 use Rattle.strm_msg.specs.declared.words.Side.TheVariants.{Rd, Wr}
 use Rattle.strm_module.specs.declared.driver.Driver.{Driver}
-use Rattle.strm_module.specs.declared.driver.Driver.TheVariants.{Echo, Loop, Line}
-use Rattle.strm_module.specs.Driver.{has_end, partner}
+use Rattle.strm_module.specs.declared.driver.Driver.TheVariants.{Echo, Loop, Line, Wire}
+use Rattle.strm_module.specs.Driver.{is_serviced, partner}
 use Rattle.strm_qpair.specs.Pair.{QueuePair}
 use Rattle.strm_qpair.specs.End.{pair_at, list_found}
-use Rattle.strm_qpair.specs.Modules.{Identity, identity_of, HoldsOrdinary}
+use Rattle.strm_qpair.specs.Modules.{Identity, identity_of, HoldsCalm}
 use Rattle.strm_qpair.specs.Canput.{head_fill, driver_fill}
 use Rattle.strm_qpair.specs.Next.{marks_at, identity_at, has_queue, next_below, next_above, queue_at, or_at}
 use Rattle.strm_qpair.proofs.NextLemmas.{below_is, above_is, queue_at_marks, next_below_once, next_above_once, next_above_last, has_queue_front}
@@ -21,14 +21,14 @@ use Rattle.strm_ends.specs.declared.place.NextQueue.{NextQueue}
 use Rattle.strm_ends.specs.declared.place.NextQueue.TheVariants.{Of, Head}
 use Rattle.strm_ends.specs.Same.{SameModules}
 use Rattle.strm_ends.specs.Path.{ahead, front_of}
-use Rattle.strm_ends.specs.Held.{held_by, SameHeadMarks, AreOrdinary}
+use Rattle.strm_ends.specs.Held.{held_by, SameHeadMarks, AreCalm}
 use Rattle.strm_ends.specs.Next.{modules_at, past_writes, next_down, next_up, next_of, marks_by, fill_by, IsCounted, SameWays}
 use Rattle.strm_ends.specs.Image.{Image, end_of, count_of}
 
 down_fill : {K : Type 0} (image : Image K) (e : End) (o : Option ℕ) → or_at (queue_at (end_of image e) Wr) (driver_fill image.driver (end_of image e)) o ≡ fill_by image (next_down image.driver e o)
 down_fill image e (Some i) = queue_at_marks (end_of image e) Wr i
 down_fill image e None =
-    elim (image.driver) as (λ d. driver_fill d (end_of image e) ≡ fill_by image (past_writes d e)) [ Echo ↦ refl | Loop ↦ refl | Line ↦ refl ]
+    elim (image.driver) as (λ d. driver_fill d (end_of image e) ≡ fill_by image (past_writes d e)) [ Echo ↦ refl | Loop ↦ refl | Line ↦ refl | Wire ↦ refl ]
 
 up_fill : {K : Type 0} (image : Image K) (e : End) (o : Option ℕ) → or_at (queue_at (end_of image e) Rd) (head_fill (end_of image e)) o ≡ fill_by image (next_up (end_of image e).is_open e o)
 up_fill image e (Some i) = queue_at_marks (end_of image e) Rd i
@@ -81,7 +81,7 @@ marks_same x y q s heads = marks_but x y q s (λ e _. heads e)
 pub front_same : {K : Type 0} (x y : Image K) (p : Place) → SameWays x y → held_by y (Of p) ≡ held_by x (Of p) → front_of y p ≡ front_of x p
 front_same x y (Place.Wr e i) s h = ap (λ q. slice_get q 0) h
 front_same x y (Place.Drv e) s h =
-    ap (λ d. slice_get (cond (has_end d e) (end_of y e).drv []) 0) s.driver ∙ ap (λ q. slice_get (cond (has_end x.driver e) q []) 0) h
+    ap (λ d. slice_get (cond (is_serviced d e) (end_of y e).drv []) 0) s.driver ∙ ap (λ q. slice_get (cond (is_serviced x.driver e) q []) 0) h
 front_same x y (Place.Rd e i) s h = ap (λ q. slice_get q 0) h
 
 -- one end and one number, where one queue is next
@@ -90,12 +90,15 @@ downs_meet d e f (Some i) (Some j) q x y = (cc, cc)
 downs_meet Echo e f (Some i) None q x y = cc
 downs_meet Loop e f (Some i) None q x y = cc
 downs_meet Line e f (Some i) None q x y = cc
+downs_meet Wire e f (Some i) None q x y = cc
 downs_meet Echo e f None (Some j) q x y = cc
 downs_meet Loop e f None (Some j) q x y = cc
 downs_meet Line e f None (Some j) q x y = cc
+downs_meet Wire e f None (Some j) q x y = cc
 downs_meet Echo e f None None q x y = (cc, refl)
 downs_meet Loop e f None None q x y = (cc, refl)
 downs_meet Line e f None None q x y = cc
+downs_meet Wire e f None None q x y = (cc, refl)
 
 ups_meet : (a b : Bool) (e f : End) (o p : Option ℕ) (q : NextQueue) → next_up a e o ≡ Some q → next_up b f p ≡ Some q → (e ≡ f) × (o ≡ p)
 ups_meet a b e f (Some i) (Some j) q x y = (cc, cc)
@@ -113,11 +116,14 @@ apart d true e f (Some i) None q C x y = cc
 apart d false e f (Some i) None q C x y = cc
 apart Echo b e f None (Some j) q C x y = cc
 apart Loop b e f None (Some j) q C x y = cc
+apart Wire b e f None (Some j) q C x y = cc
 apart Line b e f None p q C x y = cc
 apart Echo true e f None None q C x y = cc
 apart Echo false e f None None q C x y = cc
 apart Loop true e f None None q C x y = cc
 apart Loop false e f None None q C x y = cc
+apart Wire true e f None None q C x y = cc
+apart Wire false e f None None q C x y = cc
 
 partners_meet : (d : Driver) (e f : End) → partner d e ≡ partner d f → e ≡ f
 partners_meet Echo e f h = h
@@ -126,13 +132,17 @@ partners_meet Loop A A h = refl
 partners_meet Loop A B h = cc
 partners_meet Loop B A h = cc
 partners_meet Loop B B h = refl
+partners_meet Wire A A h = refl
+partners_meet Wire A B h = cc
+partners_meet Wire B A h = cc
+partners_meet Wire B B h = refl
 
-pub end_ordinary : {K : Type 0} (image : Image K) (e : End) → AreOrdinary image → HoldsOrdinary (end_of image e)
+pub end_ordinary : {K : Type 0} (image : Image K) (e : End) → AreCalm image → HoldsCalm (end_of image e)
 end_ordinary image A h = h.on_a
 end_ordinary image B h = h.on_b
 
 -- what the driver's place has next no read queue of a module has
-last_meets : {K : Type 0} (image : Image K) (e f : End) (j : ℕ) (q : NextQueue) → AreOrdinary image → is_some (front_of image (Places.Rd f j)) ≡ true → next_up (end_of image e).is_open e (next_above (modules_at image e) (count_of image e + 1)) ≡ Some q → next_of image (Places.Rd f j) ≡ Some q → ⊥
+last_meets : {K : Type 0} (image : Image K) (e f : End) (j : ℕ) (q : NextQueue) → AreCalm image → is_some (front_of image (Places.Rd f j)) ≡ true → next_up (end_of image e).is_open e (next_above (modules_at image e) (count_of image e + 1)) ≡ Some q → next_of image (Places.Rd f j) ≡ Some q → ⊥
 last_meets image e f j q h y m n =
     let both = ups_meet _ _ e f (next_above (modules_at image e) (count_of image e + 1)) (next_above (modules_at image f) j) q m n in
     let there : has_queue Rd (modules_at image e) j ≡ true = ap (λ k. has_queue Rd (modules_at image k) j) both.0 ∙ has_queue_front (end_of image f) Rd j (end_ordinary image f h) y in
@@ -142,7 +152,7 @@ last_meets image e f j q h y m n =
     next_above_last (modules_at image e) j same there
 
 -- two places that hold messages and have one next queue are one
-pub next_once : {K : Type 0} (image : Image K) (p r : Place) (q : NextQueue) → AreOrdinary image → is_some (front_of image p) ≡ true → is_some (front_of image r) ≡ true → next_of image p ≡ Some q → next_of image r ≡ Some q → p ≡ r
+pub next_once : {K : Type 0} (image : Image K) (p r : Place) (q : NextQueue) → AreCalm image → is_some (front_of image p) ≡ true → is_some (front_of image r) ≡ true → next_of image p ≡ Some q → next_of image r ≡ Some q → p ≡ r
 next_once image (Place.Wr e i) (Place.Wr f j) q h x y m n =
     let both = downs_meet image.driver e f (next_below (modules_at image e) i) (next_below (modules_at image f) j) q m n in
     let a = has_queue_front (end_of image e) Wr i (end_ordinary image e h) x in

@@ -5,14 +5,14 @@ use Rattle.strm_msg.specs.declared.words.End.{End}
 use Rattle.strm_msg.specs.declared.words.End.TheVariants.{A, B}
 use Rattle.strm_msg.specs.declared.words.Side.{Side}
 use Rattle.strm_msg.specs.declared.words.Side.TheVariants.{Rd, Wr}
-use Rattle.strm_module.specs.Driver.{has_end}
+use Rattle.strm_module.specs.Driver.{is_serviced}
 use Rattle.strm_qpair.specs.Modules.{Identity}
 use Rattle.strm_qpair.specs.Next.{has_queue}
 use Rattle.strm_qpair.proofs.NextLemmas.{has_queue_front}
 use Rattle.strm_ends.specs.declared.place.Place.{Place}
 use Rattle.strm_ends.specs.declared.place.Place.TheVariants as Places
 use Rattle.strm_ends.specs.Path.{front_of}
-use Rattle.strm_ends.specs.Held.{module_place, AreOrdinary}
+use Rattle.strm_ends.specs.Held.{module_place, AreCalm}
 use Rattle.strm_ends.specs.Next.{modules_at, SameWays}
 use Rattle.strm_ends.specs.Count.{is_place, places_in, places_at, places_of}
 use Rattle.strm_ends.proofs.NextLemmas.{end_ordinary}
@@ -53,7 +53,7 @@ in_modules side e first (suc k) n (m ∷ rest) h is =
 in_end : {K : Type 0} (image : Image K) (e : End) (side : Side) (i : ℕ) → has_queue side (modules_at image e) i ≡ true → IsIn (module_place side e i) (places_at image e)
 in_end image e side zero h = cc
 in_end image e side (suc k) h =
-    in_right (module_place side e (suc k)) (cond (has_end image.driver e) (Places.Drv e ∷ []) []) (places_in e 1 (modules_at image e)) (in_modules side e 1 k (suc k) (modules_at image e) h (omega arith))
+    in_right (module_place side e (suc k)) (cond (is_serviced image.driver e) (Places.Drv e ∷ []) []) (places_in e 1 (modules_at image e)) (in_modules side e 1 k (suc k) (modules_at image e) h (omega arith))
 
 in_image : {K : Type 0} (image : Image K) (p : Place) (e : End) → IsIn p (places_at image e) → IsIn p (places_of image)
 in_image image p A h = in_left p (places_at image A) (places_at image B) h
@@ -64,20 +64,20 @@ pub place_in : {K : Type 0} (image : Image K) (p : Place) → is_place image p �
 place_in image (Place.Wr e i) h = in_image image (Places.Wr e i) e (in_end image e Wr i h)
 place_in image (Place.Rd e i) h = in_image image (Places.Rd e i) e (in_end image e Rd i h)
 place_in image (Place.Drv e) h =
-    in_image image (Places.Drv e) e (in_left (Places.Drv e) (cond (has_end image.driver e) (Places.Drv e ∷ []) []) (places_in e 1 (modules_at image e)) (in_if (Places.Drv e) (has_end image.driver e) h))
+    in_image image (Places.Drv e) e (in_left (Places.Drv e) (cond (is_serviced image.driver e) (Places.Drv e ∷ []) []) (places_in e 1 (modules_at image e)) (in_if (Places.Drv e) (is_serviced image.driver e) h))
 
 -- no message changes which places are there
 pub place_same : {K : Type 0} (x y : Image K) (p : Place) → SameWays x y → is_place y p ≡ is_place x p
 place_same x y (Place.Wr e i) s = ap (λ ids. has_queue Wr ids i) (s.modules e)
 place_same x y (Place.Rd e i) s = ap (λ ids. has_queue Rd ids i) (s.modules e)
-place_same x y (Place.Drv e) s = ap (λ d. has_end d e) s.driver
+place_same x y (Place.Drv e) s = ap (λ d. is_serviced d e) s.driver
 
 drv_there : (b : Bool) (q : List Msg) → is_some (slice_get (cond b q []) 0) ≡ true → b ≡ true
 drv_there true q h = refl
 drv_there false q h = cc
 
 -- a place that holds a message is there
-pub holds_there : {K : Type 0} (image : Image K) (p : Place) → AreOrdinary image → is_some (front_of image p) ≡ true → is_place image p ≡ true
+pub holds_there : {K : Type 0} (image : Image K) (p : Place) → AreCalm image → is_some (front_of image p) ≡ true → is_place image p ≡ true
 holds_there image (Place.Wr e i) o h = has_queue_front (end_of image e) Wr i (end_ordinary image e o) h
 holds_there image (Place.Rd e i) o h = has_queue_front (end_of image e) Rd i (end_ordinary image e o) h
-holds_there image (Place.Drv e) o h = drv_there (has_end image.driver e) (end_of image e).drv h
+holds_there image (Place.Drv e) o h = drv_there (is_serviced image.driver e) (end_of image e).drv h

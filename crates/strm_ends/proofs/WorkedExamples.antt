@@ -1,18 +1,19 @@
 -- Small streams, and what the definitions compute at them.
 use Rattle.std.proofs.Common.{◌≡◌, true, false, Option, Some, None, List, [], ◌∷◌, refl}
-use Rattle.strm_msg.specs.Message.{Msg, data_msg}
+use Rattle.strm_msg.specs.Message.{Msg, data_msg, bare}
+use Rattle.strm_msg.specs.declared.kind.MsgKind.TheVariants.{MFlush}
 use Rattle.strm_msg.specs.declared.words.End.TheVariants.{A, B}
 use Rattle.strm_msg.specs.Marks.{WaterMarks}
 use Rattle.strm_module.specs.declared.kind.Kind.{Kind}
 use Rattle.strm_module.specs.declared.kind.Kind.TheVariants.{Pass}
 use Rattle.strm_module.specs.declared.driver.Driver.{Driver}
-use Rattle.strm_module.specs.declared.driver.Driver.TheVariants.{Echo, Loop, Line}
+use Rattle.strm_module.specs.declared.driver.Driver.TheVariants.{Echo, Loop, Line, Wire}
 use Rattle.strm_qpair.specs.Pair.{QueuePair}
 use Rattle.strm_qpair.specs.End.{EndState}
 use Rattle.strm_qpair.specs.Change.{fresh_record}
 use Rattle.strm_ends.specs.declared.place.Place.TheVariants as Place
 use Rattle.strm_ends.specs.declared.place.NextQueue.TheVariants.{Of, Head}
-use Rattle.strm_ends.specs.Image.{Image}
+use Rattle.strm_ends.specs.Image.{Image, driven}
 use Rattle.strm_ends.specs.Flow.{may, is_due}
 use Rattle.strm_ends.specs.Next.{next_of}
 use Rattle.strm_ends.specs.Count.{place_count, message_count}
@@ -47,6 +48,9 @@ bytes = data_msg 0 (97 ∷ 97 ∷ 97 ∷ 97 ∷ 97 ∷ []) ∷ []
 abbrev four : List Msg
 four = data_msg 0 (97 ∷ 97 ∷ 97 ∷ 97 ∷ []) ∷ []
 
+abbrev waiting : QueuePair Kind
+waiting = record queued { wr = bytes }
+
 abbrev mixed : Image Kind
 mixed = stream Echo (empty (queued ∷ passing ∷ queued ∷ [])) (empty [])
 
@@ -70,6 +74,30 @@ driver_of_a_loop = refl
 
 write_side_of_a_line : next_of (stream Line (empty (queued ∷ [])) (empty [])) (Place.Wr A 1) ≡ None
 write_side_of_a_line = refl
+
+-- what is written to a wire waits in its list at end A until it is taken; that list is no place, and moves by no service
+write_side_of_a_wire : next_of (stream Wire (empty (queued ∷ [])) (empty [])) (Place.Wr A 1) ≡ Some (Of (Place.Drv A))
+write_side_of_a_wire = refl
+
+behind_a_full_wire : may (stream Wire (end_with [] (waiting ∷ []) bytes) (empty [])) (Place.Wr A 1) ≡ false
+behind_a_full_wire = refl
+
+behind_a_slack_wire : is_due (stream Wire (end_with [] (waiting ∷ []) four) (empty [])) (Place.Wr A 1) ≡ true
+behind_a_slack_wire = refl
+
+outlet_of_a_wire : may (stream Wire (end_with [] [] bytes) (empty [])) (Place.Drv A) ≡ false
+outlet_of_a_wire = refl
+
+-- what came in waits in the list of the far end, and goes up end A
+input_of_a_wire : next_of (stream Wire (empty (queued ∷ [])) (empty [])) (Place.Drv B) ≡ Some (Of (Place.Rd A 1))
+input_of_a_wire = refl
+
+places_of_a_wire : place_count (stream Wire (empty (queued ∷ [])) (empty [])) ≡ 3
+places_of_a_wire = refl
+
+-- a flush of both sides empties both lists
+flushed_wire : driven (stream Wire (end_with [] [] bytes) (end_with [] [] four)) A (bare (MFlush true true None)) ≡ stream Wire (empty []) (empty [])
+flushed_wire = refl
 
 -- above a closed end nothing waits
 closed_end : next_of (stream Loop (empty []) (record (empty []) { is_open = false })) (Place.Drv A) ≡ None

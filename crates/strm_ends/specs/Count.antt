@@ -7,7 +7,7 @@ use Rattle.strm_msg.specs.declared.words.Side.TheVariants.{Rd, Wr}
 use Rattle.strm_module.specs.Calm.{options_of, options_held}
 use Rattle.strm_module.specs.declared.driver.Driver.{Driver}
 use Rattle.strm_module.specs.declared.driver.Driver.TheVariants.{Echo}
-use Rattle.strm_module.specs.Driver.{has_end}
+use Rattle.strm_module.specs.Driver.{is_serviced}
 use Rattle.strm_qpair.specs.End.{EndState}
 use Rattle.strm_qpair.specs.declared.driver.DriverSends.{DriverSends}
 use Rattle.strm_qpair.specs.declared.driver.DriverSends.TheVariants.{Nothing, Reply, Across, Options}
@@ -18,10 +18,10 @@ use Rattle.strm_ends.specs.declared.place.Place.TheVariants as Places
 use Rattle.strm_ends.specs.Next.{modules_at}
 use Rattle.strm_ends.specs.Image.{Image}
 
--- whether a place is there: a queue that a module has, or the driver's list of an end that the driver has
+-- whether a place is there: a queue that a module has, or a list of the driver that it serves
 abbrev pub is_place : {K : Type 0} → Image K → Place → Bool
 is_place image (Place.Wr e i) = has_queue Wr (modules_at image e) i
-is_place image (Place.Drv e) = has_end image.driver e
+is_place image (Place.Drv e) = is_serviced image.driver e
 is_place image (Place.Rd e i) = has_queue Rd (modules_at image e) i
 
 -- the queues of modules, the first of which has this number
@@ -31,7 +31,7 @@ places_in e i (m ∷ rest) =
     (if is_some m.wr then Places.Wr e i ∷ [] else []) ++ ((if is_some m.rd then Places.Rd e i ∷ [] else []) ++ places_in e (i + 1) rest)
 
 abbrev pub places_at : {K : Type 0} → Image K → End → List Place
-places_at image e = (if has_end image.driver e then Places.Drv e ∷ [] else []) ++ places_in e 1 (modules_at image e)
+places_at image e = (if is_serviced image.driver e then Places.Drv e ∷ [] else []) ++ places_in e 1 (modules_at image e)
 
 -- the places that are there
 abbrev pub places_of : {K : Type 0} → Image K → List Place

@@ -9,7 +9,7 @@ use Rattle.strm_msg.specs.declared.words.Side.{Side}
 use Rattle.strm_ends.specs.declared.place.Place.TheVariants as Places
 use Rattle.strm_queue.specs.Queue.{held_of}
 use Rattle.strm_qpair.specs.End.{list_at}
-use Rattle.strm_qpair.specs.Modules.{HoldsOrdinary}
+use Rattle.strm_qpair.specs.Modules.{HoldsCalm}
 use Rattle.strm_ends.specs.declared.place.Place.{Place}
 use Rattle.strm_ends.specs.declared.place.NextQueue.{NextQueue}
 use Rattle.strm_ends.specs.declared.place.NextQueue.TheVariants.{Of, Head}
@@ -63,6 +63,6 @@ pub record SetsMarks {K : Type 0} (old new : Image K) (e : End) : Type 0 where
   pub others : (other : End) → other ≢ e → (end_of new other).head_marks ≡ (end_of old other).head_marks
 
 -- no high message waits below the heads
-pub record AreOrdinary {K : Type 0} (image : Image K) : Type 0 where
-  pub on_a : HoldsOrdinary image.a
-  pub on_b : HoldsOrdinary image.b
+pub record AreCalm {K : Type 0} (image : Image K) : Type 0 where
+  pub on_a : HoldsCalm image.a
+  pub on_b : HoldsCalm image.b

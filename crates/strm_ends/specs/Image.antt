@@ -1,11 +1,15 @@
 -- What a contract sees of the ends of a stream (Programmer's Guide: STREAMS, "Overview of STREAMS").
-use Rattle.std.specs.Prelude.{ℕ, Bool, false, List, length, if◌then◌else◌}
+use Rattle.std.specs.Prelude.{ℕ, Bool, true, false, List, length, if◌then◌else◌}
 use Rattle.strm_msg.specs.Message.{Msg}
 use Rattle.strm_msg.specs.declared.words.End.{End}
 use Rattle.strm_msg.specs.declared.words.End.TheVariants.{A, B}
 use Rattle.strm_msg.specs.Marks.{WaterMarks}
 use Rattle.strm_module.specs.declared.driver.Driver.{Driver}
 use Rattle.strm_module.specs.Driver.{has_end}
+use Rattle.strm_msg.specs.declared.kind.MsgKind.{MsgKind}
+use Rattle.strm_msg.specs.declared.kind.MsgKind.TheVariants.{MFlush}
+use Rattle.strm_qpair.specs.Pair.{flushed}
+use Rattle.strm_module.specs.declared.driver.Driver.TheVariants.{Wire}
 use Rattle.strm_qpair.specs.End.{EndState, KeepsRoom, in_head, in_state, in_drv}
 use Rattle.strm_qpair.specs.Change.{fresh_end}
 use Rattle.strm_qpair.specs.Driver.{DriverStep, consumes, driver_at}
@@ -54,6 +58,16 @@ with_end image B e = record image { b = e }
 abbrev pub driver_does : {K : Type 0} → Driver → End → EndState K → Msg → DriverStep K
 driver_does d e state m = if has_end d e then driver_at d state m else consumes state
 
+-- what is told of the ends, of the one whose list holds what came in from a line
+abbrev pub at_input : {X : Type 0} → Driver → X → X → X
+at_input Wire a b = b
+at_input d a b = a
+
+-- what came in to a wire, past which a flush of read queues goes that its driver sends back up
+abbrev pub input_flushed : {K : Type 0} → Driver → EndState K → MsgKind → EndState K
+input_flushed Wire far (MFlush true w band) = in_drv far (flushed band far.drv)
+input_flushed d far kind = far
+
 -- how many modules an end has
 abbrev pub count_of : {K : Type 0} → Image K → End → ℕ
 count_of image e = length (end_of image e).modules
@@ -63,6 +77,11 @@ with_head image e q = with_end image e (in_head (end_of image e) q)
 
 abbrev pub with_drv : {K : Type 0} → Image K → End → List Msg → Image K
 with_drv image e q = with_end image e (in_drv (end_of image e) q)
+
+-- the ends when a message has come to the driver: the list of that end, and of a wire that of what came in
+abbrev pub driven : {K : Type 0} → Image K → End → Msg → Image K
+driven image A m = record image { a = (driver_does image.driver A image.a m).state; b = input_flushed image.driver image.b m.kind }
+driven image B m = record image { b = (driver_does image.driver B image.b m).state }
 
 abbrev pub with_state : {K : Type 0} → Image K → End → Record → Image K
 with_state image e r = with_end image e (in_state (end_of image e) r)

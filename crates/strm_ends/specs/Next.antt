@@ -5,7 +5,7 @@ use Rattle.strm_msg.specs.declared.words.Side.TheVariants.{Rd, Wr}
 use Rattle.strm_msg.specs.Marks.{WaterMarks}
 use Rattle.strm_module.specs.declared.driver.TheConstants.{MOST_MODULES}
 use Rattle.strm_module.specs.declared.driver.Driver.{Driver}
-use Rattle.strm_module.specs.declared.driver.Driver.TheVariants.{Echo, Loop, Line}
+use Rattle.strm_module.specs.declared.driver.Driver.TheVariants.{Echo, Loop, Line, Wire}
 use Rattle.strm_module.specs.Driver.{partner}
 use Rattle.strm_qpair.specs.Modules.{Identity, identities_of}
 use Rattle.strm_qpair.specs.Canput.{Fill, fill_with}
@@ -26,6 +26,7 @@ abbrev pub past_writes : Driver → End → Option NextQueue
 past_writes Line e = None
 past_writes Echo e = Some (Of (Places.Drv e))
 past_writes Loop e = Some (Of (Places.Drv e))
+past_writes Wire e = Some (Of (Places.Drv e))
 
 abbrev pub next_down : Driver → End → Option ℕ → Option NextQueue
 next_down d e (Some i) = Some (Of (Places.Wr e i))

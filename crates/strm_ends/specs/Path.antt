@@ -2,7 +2,7 @@
 use Rattle.std.specs.Prelude.{◌+◌, Option, List, [], slice_get, if◌then◌else◌}
 use Rattle.strm_msg.specs.Message.{Msg}
 use Rattle.strm_msg.specs.declared.words.Side.TheVariants.{Rd, Wr}
-use Rattle.strm_module.specs.Driver.{has_end, partner}
+use Rattle.strm_module.specs.Driver.{is_serviced, partner}
 use Rattle.strm_qpair.specs.End.{list_at}
 use Rattle.strm_qpair.specs.Canput.{Fill, above, below}
 use Rattle.strm_ends.specs.declared.place.Place.{Place}
@@ -15,10 +15,10 @@ ahead image (Place.Drv e) =
     let p = partner image.driver e in above (end_of image p) (count_of image p + 1)
 ahead image (Place.Rd e i) = above (end_of image e) i
 
--- the messages of a place, none of one that is not there
+-- the messages of a place, none of one that is not there: the list of a wire that is taken from outside is no place
 abbrev pub messages_at : {K : Type 0} → Image K → Place → List Msg
 messages_at image (Place.Wr e i) = list_at (end_of image e) i Wr
-messages_at image (Place.Drv e) = if has_end image.driver e then (end_of image e).drv else []
+messages_at image (Place.Drv e) = if is_serviced image.driver e then (end_of image e).drv else []
 messages_at image (Place.Rd e i) = list_at (end_of image e) i Rd
 
 -- the message that a place would move

@@ -2,7 +2,7 @@
 ghost use Rattle.std.specs.Prelude.{◌≡◌, ◌∷◌, [], ◌≤◌, OnOk, OnErr, IfErr, IfOk, IfSome, IfNone, is_ok, true, map, Some};
 ghost use Rattle.strm_module.specs.Driver.{has_end};
 ghost use Rattle.strm_qpair.specs.End.{shapes_of};
-ghost use Rattle.strm_qpair.specs.Modules.{IsFitEnd, HoldsOrdinary};
+ghost use Rattle.strm_qpair.specs.Modules.{IsFitEnd, HoldsCalm};
 ghost use Rattle.strm_qpair.specs.Change.{has_room, inserted, removed, closed};
 ghost use Rattle.strm_ends.specs.Image.{end_of, with_end, count_of, room_of, KeepsHeadRoom, fresh};
 
@@ -34,11 +34,11 @@ pub struct Ends<M: ModuleOf> {
 }
 
 impl<M: ModuleOf> Model for Ends<M> {
-    ghost use Rattle.strm_ends.specs.Image.{EndsValue};
+    ghost use Rattle.strm_ends.specs.Image.{EndsValue, at_input};
 
     ghost Value = { EndsValue M.Kind };
 
-    ghost view = { λ c. record { image = record { driver = c.driver; broken = c.broken; a = c.a.state; b = c.b.state }; rooms = record { a = c.a.head_room; b = c.b.head_room; line = c.a.drv_room } } };
+    ghost view = { λ c. record { image = record { driver = c.driver; broken = c.broken; a = c.a.state; b = c.b.state }; rooms = record { a = c.a.head_room; b = c.b.head_room; line = at_input c.driver c.a.drv_room c.b.drv_room } } };
 }
 
 impl<M: ModuleOf> Ends<M> {
@@ -100,7 +100,7 @@ impl<M: ModuleOf> Ends<M> {
         ensures value { result ≡ count_of self.now.image end }
         ensures few { result ≤ MOST_MODULES }
         ensures fit { IsFitEnd (end_of self.now.image end) }
-        ensures ordinary { HoldsOrdinary (end_of self.now.image end) }
+        ensures ordinary { HoldsCalm (end_of self.now.image end) }
     {
         self.end(end).count()
     }

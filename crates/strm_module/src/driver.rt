@@ -1,6 +1,6 @@
 //! What stands at the bottom of a stream, and how many modules can stand above it.
 ghost use Rattle.std.specs.Prelude.{◌≡◌};
-ghost use Rattle.strm_module.specs.Driver.{has_end, partner, is_line, driver_name};
+ghost use Rattle.strm_module.specs.Driver.{has_end, partner, is_line, is_wire, input_end, is_serviced, driver_name};
 
 use strm_msg::End;
 
@@ -18,6 +18,9 @@ pub enum Driver {
     /// Consumes data and protocol messages that come down, answers flushes and ioctls, and sends up
     /// what comes in from a line.
     Line,
+    /// Keeps data and protocol messages that come down until they are taken from outside, answers flushes and ioctls, and
+    /// sends up what comes in from a line: a loop of which the outside has end B.
+    Wire,
 }
 
 impl Driver {
@@ -38,6 +41,8 @@ impl Driver {
         match (self, end) {
             (Driver::Loop, End::A) => End::B,
             (Driver::Loop, End::B) => End::A,
+            (Driver::Wire, End::A) => End::B,
+            (Driver::Wire, End::B) => End::A,
             _ => end,
         }
     }
@@ -46,7 +51,35 @@ impl Driver {
     pub fn is_line(self) -> bool
         ensures { result ≡ is_line self }
     {
-        self == Driver::Line
+        matches!(self, Driver::Line | Driver::Wire)
+    }
+
+    /// Whether what comes down is taken from outside.
+    pub fn is_wire(self) -> bool
+        ensures { result ≡ is_wire self }
+    {
+        self == Driver::Wire
+    }
+
+    /// The end whose list holds what came in from a line.
+    pub fn input_end(self) -> End
+        ensures { result ≡ input_end self }
+    {
+        match self {
+            Driver::Wire => End::B,
+            _ => End::A,
+        }
+    }
+
+    /// Whether its list for an end is serviced: what it holds goes up.
+    pub fn services(self, end: End) -> bool
+        ensures { result ≡ is_serviced self end }
+    {
+        match (self, end) {
+            (Driver::Wire, End::A) => false,
+            (Driver::Wire, End::B) => true,
+            _ => self.has_end(end),
+        }
     }
 
     /// Its name, as a list of what stands on an end has it (streamio(7), I_LIST).
@@ -57,6 +90,7 @@ impl Driver {
             Driver::Echo => b"echo",
             Driver::Loop => b"loop",
             Driver::Line => b"line",
+            Driver::Wire => b"wire",
         }
     }
 }

@@ -10,12 +10,13 @@ use Rattle.strm_msg.specs.Kind.{is_high}
 use Rattle.strm_msg.specs.declared.words.Side.{Side}
 use Rattle.strm_msg.specs.declared.words.Side.TheVariants.{Rd, Wr}
 use Rattle.strm_msg.specs.Marks.{WaterMarks}
+use Rattle.strm_module.specs.Calm.{is_calm}
 use Rattle.strm_module.specs.Shape.{marks_on, queues_on}
 use Rattle.strm_module.specs.declared.shape.Shape.{Shape}
 use Rattle.strm_module.specs.declared.driver.Driver.{Driver}
 use Rattle.strm_qpair.specs.Pair.{QueuePair, list_on}
 use Rattle.strm_qpair.specs.End.{EndState, pair_at, list_at, list_found}
-use Rattle.strm_qpair.specs.Modules.{Identity, identity_of, identities_of, are_ordinary, waits_in, waits_well, HoldsOrdinary}
+use Rattle.strm_qpair.specs.Modules.{Identity, identity_of, identities_of, are_ordinary, waits_in, waits_well, HoldsCalm}
 use Rattle.strm_qpair.specs.Canput.{Fill, fill_with, fill_on, or_else, first_fill, head_fill, driver_fill, above, below}
 use Rattle.strm_qpair.specs.Next.{marks_for, marks_at, identity_at, has_queue, first_from, last_below, next_below, next_above, queue_found, queue_at, or_at}
 use Rattle.strm_qpair.proofs.EndLemmas.{pair_at-found}
@@ -220,7 +221,7 @@ found-waits : {K : Type 0} (modules : List (QueuePair K)) (i : ℕ) (s : QueuePa
 found-waits modules zero s is h = cc
 found-waits modules (suc i) s is h = all-at waits_well modules i s is h
 
-pub has_queue_front : {K : Type 0} (e : EndState K) (side : Side) (i : ℕ) → HoldsOrdinary e → is_some (slice_get (list_at e i side) 0) ≡ true → has_queue side (identities_of e.modules) i ≡ true
+pub has_queue_front : {K : Type 0} (e : EndState K) (side : Side) (i : ℕ) → HoldsCalm e → is_some (slice_get (list_at e i side) 0) ≡ true → has_queue side (identities_of e.modules) i ≡ true
 has_queue_front {K = K} e side i holds front =
     rw (identity-found e.modules i)
     (elim (pair_at e.modules i) as (λ (o : Option (QueuePair K)). pair_at e.modules i ≡ o → is_some (slice_get (list_found o side) 0) ≡ true → is_some (marks_at side (option_map identity o)) ≡ true) [
@@ -228,15 +229,16 @@ has_queue_front {K = K} e side i holds front =
       | Some s ↦ λ is h. rw (marks_same side s.shape) (waits-some (marks_on s.shape side) (list_on s side) (waits-on side s (found-waits e.modules i s is holds.modules)) h)
     ] refl front)
 
-pub front_ordinary : {K : Type 0} (e : EndState K) (side : Side) (i : ℕ) (m : Msg) → HoldsOrdinary e → slice_get (list_at e i side) 0 ≡ Some m → is_high m.kind ≡ false
+pub front_ordinary : {K : Type 0} (e : EndState K) (side : Side) (i : ℕ) (m : Msg) → HoldsCalm e → slice_get (list_at e i side) 0 ≡ Some m → is_high m.kind ≡ false
 front_ordinary {K = K} e side i m holds front =
     elim (pair_at e.modules i) as (λ (o : Option (QueuePair K)). pair_at e.modules i ≡ o → slice_get (list_found o side) 0 ≡ Some m → is_high m.kind ≡ false) [
       | None ↦ λ is h. cc
       | Some s ↦ λ is h. waits-first (marks_on s.shape side) (list_on s side) m (waits-on side s (found-waits e.modules i s is holds.modules)) h
     ] refl front
 
-pub drv_ordinary : {K : Type 0} (e : EndState K) (m : Msg) → HoldsOrdinary e → slice_get e.drv 0 ≡ Some m → is_high m.kind ≡ false
-drv_ordinary e m holds front = ordinary-first e.drv m holds.driver front
+-- what waits in the driver's list is calm
+pub drv_calm : {K : Type 0} (e : EndState K) (m : Msg) → HoldsCalm e → slice_get e.drv 0 ≡ Some m → is_calm m.kind ≡ true
+drv_calm e m holds front = all-at (λ (x : Msg). is_calm x.kind) e.drv 0 m front holds.driver
 
 -- what a loop over the modules reads of one of them
 pub has_queue_found : {K : Type 0} (side : Side) (modules : List (QueuePair K)) (i j : ℕ) (d : QueuePair K) (b : Bool) → j ≡ i + 1 → i < length modules → d ≡ slice_index_or modules i d → queues_on d.shape side ≡ b → has_queue side (identities_of modules) j ≡ b

@@ -1,11 +1,11 @@
--- What waits in the queues of modules and in lists stays ordinary.
+-- What waits in the queues of modules stays ordinary, and what waits in the driver's list calm.
 use Rattle.std.proofs.Common.{◌≡◌, ◌⊎◌, inl, inr, ◌<◌, ◌&&◌, not, ℕ, Bool, true, false, Option, Some, None, List, [], ◌∷◌, length, slice_get, slice_set, slice_index_or, is_some, Result, Ok, Err, OnOk, OnErr, refl, ap, sym, ◌∙◌, arith, suc, zero}
 use Rattle.std.specs.List.{list_all, insert}
 use Rattle.std.specs.Cmp.Derive.{both_true}
 use Rattle.strm_msg.specs.Message.{Msg}
 use Rattle.strm_msg.specs.Kind.{is_high}
 use Rattle.strm_msg.specs.declared.kind.MsgKind.{MsgKind}
-use Rattle.strm_msg.specs.declared.kind.MsgKind.TheVariants.{MData, MProto, MFlush}
+use Rattle.strm_msg.specs.declared.kind.MsgKind.TheVariants.{MData, MProto, MPcproto, MFlush}
 use Rattle.strm_msg.specs.declared.words.Side.{Side}
 use Rattle.strm_msg.specs.declared.words.Side.TheVariants.{Rd, Wr}
 use Rattle.strm_msg.specs.Marks.{WaterMarks}
@@ -13,9 +13,11 @@ use Rattle.strm_queue.specs.Queue.{is_flushed, is_of_band, put_in, front_len}
 use Rattle.strm_queue.proofs.ListLemmas.{left_of, right_of, all_filter}
 use Rattle.strm_module.specs.Shape.{marks_on}
 use Rattle.strm_module.specs.Module.{IsTaken}
+use Rattle.strm_module.specs.Calm.{is_calm}
+use Rattle.strm_module.proofs.CalmLemmas.{ordinary_calm}
 use Rattle.strm_module.specs.declared.shape.Shape.{Shape}
 use Rattle.strm_qpair.specs.Pair.{QueuePair, list_on, with_list, flushed, flushed_if, flushed_pair}
-use Rattle.strm_qpair.specs.Modules.{are_ordinary, is_nothing, waits_in, waits_well}
+use Rattle.strm_qpair.specs.Modules.{are_ordinary, are_calm, is_nothing, waits_in, waits_well}
 
 pub all-insert : {X : Type 0} (p : X → Bool) (xs : List X) (i : ℕ) (y : X) → list_all p xs ≡ true → p y ≡ true → list_all p (insert xs i y) ≡ true
 all-insert p [] zero y h k = both_true k refl
@@ -117,12 +119,30 @@ module _ {K : Type 0} where
       let low : is_high q.kind ≡ false = rw taken.same taken.ordinary in
       rw is (waits-queued side s q taken.queues low h)
 
--- a put that may have been refused
-pub ordinary-tried : {A E : Type 0} (result : Result A E) (old new : List Msg) (m : Msg) → OnOk result (new ≡ put_in old m) → OnErr result (new ≡ old) → is_high m.kind ≡ false → are_ordinary old ≡ true → are_ordinary new ≡ true
-ordinary-tried (Ok x) old new m ok err low h = rw ok (ordinary-put old m low h)
-ordinary-tried (Err e) old new m ok err low h = rw err h
+-- a calm message more, and messages fewer
+pub calm-put : (q : List Msg) (m : Msg) → is_calm m.kind ≡ true → are_calm q ≡ true → are_calm (put_in q m) ≡ true
+calm-put q m calm h = all-insert (λ (x : Msg). is_calm x.kind) q (front_len _ q) m h calm
 
--- data and protocol messages are ordinary
-pub ordinary-kind : (kind : MsgKind) → (kind ≡ MData) ⊎ (kind ≡ MProto) → is_high kind ≡ false
-ordinary-kind kind (inl is) = rw is refl
-ordinary-kind kind (inr is) = rw is refl
+calm-flushed : (band : Option ℕ) (q : List Msg) → are_calm q ≡ true → are_calm (flushed band q) ≡ true
+calm-flushed None q h = all_filter (λ (x : Msg). is_calm x.kind) (λ m. not (is_flushed m.kind)) q h
+calm-flushed (Some b) q h = all_filter (λ (x : Msg). is_calm x.kind) (λ m. not (is_flushed m.kind && is_of_band b m)) q h
+
+pub calm-flushed_if : (wanted : Bool) (band : Option ℕ) (q : List Msg) → are_calm q ≡ true → are_calm (flushed_if wanted band q) ≡ true
+calm-flushed_if true band q h = calm-flushed band q h
+calm-flushed_if false band q h = h
+
+-- a put that may have been refused
+pub calm-tried : {A E : Type 0} (result : Result A E) (old new : List Msg) (m : Msg) → OnOk result (new ≡ put_in old m) → OnErr result (new ≡ old) → is_high m.kind ≡ false → are_calm old ≡ true → are_calm new ≡ true
+calm-tried (Ok x) old new m ok err low h = rw ok (calm-put old m (ordinary_calm m.kind low) h)
+calm-tried (Err e) old new m ok err low h = rw err h
+
+-- data and protocol messages are calm
+pub calm-kind : (kind : MsgKind) → (kind ≡ MData) ⊎ (kind ≡ MProto) → is_calm kind ≡ true
+calm-kind kind (inl is) = rw is refl
+calm-kind kind (inr is) = rw is refl
+
+-- so are all messages that a user sends
+pub calm-sent : (kind : MsgKind) → (kind ≡ MData) ⊎ (kind ≡ MProto) ⊎ (kind ≡ MPcproto) → is_calm kind ≡ true
+calm-sent kind (inl is) = rw is refl
+calm-sent kind (inr (inl is)) = rw is refl
+calm-sent kind (inr (inr is)) = rw is refl

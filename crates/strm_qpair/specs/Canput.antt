@@ -8,7 +8,7 @@ use Rattle.strm_msg.specs.Marks.{WaterMarks}
 use Rattle.strm_queue.specs.Queue.{Queue, is_full, is_slack}
 use Rattle.strm_module.specs.Shape.{marks_on}
 use Rattle.strm_module.specs.declared.driver.Driver.{Driver}
-use Rattle.strm_module.specs.declared.driver.Driver.TheVariants.{Echo, Loop, Line}
+use Rattle.strm_module.specs.declared.driver.Driver.TheVariants.{Echo, Loop, Line, Wire}
 use Rattle.strm_qpair.specs.Pair.{QueuePair, list_on}
 use Rattle.strm_qpair.specs.End.{EndState}
 
@@ -46,6 +46,7 @@ abbrev pub after_writes : Driver → Fill → Option Fill
 after_writes Line q = None
 after_writes Echo q = Some q
 after_writes Loop q = Some q
+after_writes Wire q = Some q
 
 abbrev pub driver_fill : {K : Type 0} → Driver → EndState K → Option Fill
 driver_fill d e = after_writes d (record { marks = e.drv_marks; messages = e.drv })

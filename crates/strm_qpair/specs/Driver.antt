@@ -8,7 +8,7 @@ use Rattle.strm_msg.specs.declared.kind.MsgKind.TheVariants.{MData, MProto, MPcp
 use Rattle.strm_msg.specs.declared.errno.Errno.TheVariants.{EINVAL}
 use Rattle.strm_queue.specs.Queue.{put_in}
 use Rattle.strm_module.specs.declared.driver.Driver.{Driver}
-use Rattle.strm_module.specs.declared.driver.Driver.TheVariants.{Echo, Loop, Line}
+use Rattle.strm_module.specs.declared.driver.Driver.TheVariants.{Echo, Loop, Line, Wire}
 use Rattle.strm_qpair.specs.Pair.{flushed_if}
 use Rattle.strm_qpair.specs.End.{EndState, in_drv}
 use Rattle.strm_qpair.specs.declared.driver.DriverSends.{DriverSends}
@@ -56,7 +56,18 @@ abbrev pub echo_does : {K : Type 0} → EndState K → MsgKind → Msg → Drive
 echo_does e (MIoctl id cmd) m = if cmd == SETOPTS then record { state = e; sends = options_up id (options_asked m.dat) } else refuses e id
 echo_does e kind m = loop_does e kind m
 
+-- the list of a wire's end holds what came down until it is taken from outside, a high protocol message before all others, so it is
+-- flushed as a write queue
+abbrev pub wire_does : {K : Type 0} → EndState K → MsgKind → Msg → DriverStep K
+wire_does e (MFlush r w band) m = record { state = in_drv e (flushed_if w band e.drv); sends = flush_up r band }
+wire_does e (MIoctl id cmd) m = refuses e id
+wire_does e MData m = consumes (in_drv e (put_in e.drv m))
+wire_does e MProto m = consumes (in_drv e (put_in e.drv m))
+wire_does e MPcproto m = consumes (in_drv e (put_in e.drv m))
+wire_does e kind m = consumes e
+
 abbrev pub driver_at : {K : Type 0} → Driver → EndState K → Msg → DriverStep K
 driver_at Line e m = line_does e m.kind
 driver_at Echo e m = echo_does e m.kind m
 driver_at Loop e m = loop_does e m.kind m
+driver_at Wire e m = wire_does e m.kind m

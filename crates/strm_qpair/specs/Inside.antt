@@ -5,10 +5,10 @@ use Rattle.strm_msg.specs.Message.{Msg}
 use Rattle.strm_msg.specs.Marks.{WaterMarks}
 use Rattle.strm_module.specs.declared.driver.TheConstants.{MOST_MODULES}
 use Rattle.strm_qpair.specs.Pair.{QueuePair}
-use Rattle.strm_qpair.specs.Modules.{are_fit, are_ordinary, waits_well}
+use Rattle.strm_qpair.specs.Modules.{are_fit, are_calm, waits_well}
 
--- room for all modules that there can be, no more of them, marks whose low ones are below the high ones, and no high message in
--- a queue of a module or in the driver's list
+-- room for all modules that there can be, no more of them, marks whose low ones are below the high ones, no high message in
+-- a queue of a module, and no flush or error in the driver's list
 pub record IsKept {K : Type 0} (capacity : ℕ) (modules : List (QueuePair K)) (head drv : WaterMarks) (waiting : List Msg) : Type 0 where
   pub room : MOST_MODULES ≤ capacity
   pub few : length modules ≤ MOST_MODULES
@@ -16,4 +16,4 @@ pub record IsKept {K : Type 0} (capacity : ℕ) (modules : List (QueuePair K)) (
   pub drv_fit : drv.lo < drv.hi
   pub fit : are_fit modules ≡ true
   pub waits : list_all waits_well modules ≡ true
-  pub ordinary : are_ordinary waiting ≡ true
+  pub calm : are_calm waiting ≡ true

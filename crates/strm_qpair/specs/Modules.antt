@@ -5,6 +5,7 @@ use Rattle.std.specs.List.{list_all}
 use Rattle.strm_msg.specs.Kind.{is_high}
 use Rattle.strm_msg.specs.Message.{Msg}
 use Rattle.strm_msg.specs.Marks.{WaterMarks}
+use Rattle.strm_module.specs.Calm.{is_calm}
 use Rattle.strm_module.specs.declared.shape.Shape.{Shape}
 use Rattle.strm_qpair.specs.Pair.{QueuePair}
 use Rattle.strm_qpair.specs.End.{EndState}
@@ -60,6 +61,10 @@ pub record IsFitEnd {K : Type 0} (e : EndState K) : Type 0 where
 abbrev pub are_ordinary : List Msg → Bool
 are_ordinary q = list_all (λ m. not (is_high m.kind)) q
 
+-- no flush, and no error, which a head answers with one
+abbrev pub are_calm : List Msg → Bool
+are_calm q = list_all (λ m. is_calm m.kind) q
+
 -- no message at all
 abbrev pub is_nothing : List Msg → Bool
 is_nothing [] = true
@@ -73,7 +78,7 @@ waits_in (Some marks) q = are_ordinary q
 abbrev pub waits_well : {K : Type 0} → QueuePair K → Bool
 waits_well s = waits_in s.shape.rd s.rd && waits_in s.shape.wr s.wr
 
--- no high message waits in a queue of a module or in the driver's list, and none at all where a module has no queue
-pub record HoldsOrdinary {K : Type 0} (e : EndState K) : Type 0 where
+-- no high message waits in a queue of a module, and none at all where it has no queue; no flush or error waits in the driver's list
+pub record HoldsCalm {K : Type 0} (e : EndState K) : Type 0 where
   pub modules : list_all waits_well e.modules ≡ true
-  pub driver : are_ordinary e.drv ≡ true
+  pub driver : are_calm e.drv ≡ true

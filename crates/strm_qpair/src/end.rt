@@ -1,7 +1,7 @@
 //! One end of a stream.
 ghost use Rattle.std.specs.Prelude.{◌≡◌, ◌∷◌, [], ◌<◌, ◌≤◌, OnOk, OnErr, IfOk, IfSome, IfNone, Some, true, length, map, option_map, option_copied, slice_get, vec_capacity};
 ghost use Rattle.strm_qpair.specs.End.{KeepsRoom, shapes_of, pair_at, list_at, end_gets, end_serves};
-ghost use Rattle.strm_qpair.specs.Modules.{SameEnd, IsFitEnd, HoldsOrdinary};
+ghost use Rattle.strm_qpair.specs.Modules.{SameEnd, IsFitEnd, HoldsCalm};
 ghost use Rattle.strm_qpair.specs.Change.{has_room, inserted, removed, closed, fresh_end};
 
 use crate::pair::Pair;
@@ -69,12 +69,12 @@ impl<M: ModuleOf> StreamEnd<M> {
     }
 
     /// The number of modules. Their marks, and those of both lists, are such that the low one is
-    /// below the high one, and no high message waits in a queue of theirs or in the driver's list.
+    /// below the high one, no high message waits in a queue of theirs, and no flush or error in the driver's list.
     pub fn count(&self) -> usize
         ensures value { result ≡ length self.now.state.modules }
         ensures few { result ≤ MOST_MODULES }
         ensures fit { IsFitEnd self.now.state }
-        ensures ordinary { HoldsOrdinary self.now.state }
+        ensures ordinary { HoldsCalm self.now.state }
     {
         self.pairs.len()
     }

@@ -1,10 +1,11 @@
 //! What a message does to a head, to the driver and to a module, what service takes, and which
 //! places that enables.
-ghost use Rattle.std.specs.Prelude.{◌≡◌, ◌∷◌, ◌<◌, [], None, true, OnOk, OnErr, IfOk, IfSome, IfNone};
+ghost use Rattle.std.specs.Prelude.{◌&&◌, ◌≡◌, ◌∷◌, ◌<◌, [], None, true, OnOk, OnErr, IfOk, IfSome, IfNone};
 ghost use Rattle.strm_qpair.specs.End.{pair_at};
-ghost use Rattle.strm_qpair.specs.Modules.{HoldsOrdinary};
+ghost use Rattle.strm_qpair.specs.Modules.{HoldsCalm};
 ghost use Rattle.strm_qpair.specs.Head.{head_does};
-ghost use Rattle.strm_ends.specs.Image.{end_of, with_end, with_drv, driver_does};
+ghost use Rattle.strm_ends.specs.Image.{end_of, with_end, with_drv, driver_does, driven};
+ghost use Rattle.strm_module.specs.Driver.{is_wire};
 ghost use Rattle.strm_ends.specs.Held.{is_flush, sets_options};
 ghost use Rattle.strm_ends.specs.Same.{SameModules};
 ghost use Rattle.strm_ends.specs.declared.place.NextQueue.TheVariants.{Of};
@@ -21,7 +22,7 @@ ghost use Rattle.strm_chain.specs.Service.{serve_at};
 
 use super::Chain;
 use strm_ends::{NextQueue, Place};
-use strm_module::{ModuleOf, Outs};
+use strm_module::{Driver, ModuleOf, Outs};
 use strm_msg::{BoxedMessage, End, MsgKind, NoMem, Side};
 use strm_qpair::DriverSends;
 
@@ -33,6 +34,13 @@ fn is_flush(kind: MsgKind) -> bool
         MsgKind::MFlush { .. } => true,
         _ => false,
     }
+}
+
+/// Whether a message may change two lists of a driver: a flush that comes to a wire.
+fn flushes_both(driver: Driver, kind: MsgKind) -> bool
+    ensures { result ≡ (is_wire driver && is_flush kind) }
+{
+    driver.is_wire() && is_flush(kind)
 }
 
 /// Whether a message sets options of a head.
@@ -51,7 +59,7 @@ impl<M: ModuleOf> Chain<M> {
         ensures some { IfSome result (λ queue. queue ≡ Of (module_place side end i)) }
         ensures few { IfSome result (λ queue. number_of queue < QUEUES) }
         ensures none { IfNone result (pair_at (end_of self.now.image end).modules i ≡ None) }
-        ensures ordinary { HoldsOrdinary (end_of self.now.image end) }
+        ensures ordinary { HoldsCalm (end_of self.now.image end) }
     {
         let count = self.ends.count(end);
         if i == 0 || i > count {
@@ -91,9 +99,10 @@ impl<M: ModuleOf> Chain<M> {
         answer
     }
 
-    /// What the driver does with a message from above, and what it sends up.
+    /// What the driver does with a message from above, and what it sends up. A flush may change both lists of a wire, and then
+    /// each place is looked at again.
     pub(super) fn driver_does(&mut self, end: End, m: BoxedMessage) -> Result<DriverSends, NoMem>
-        ensures state { OnOk result (self.new.image ≡ with_end self.old.image end (driver_does self.old.image.driver end (end_of self.old.image end) m).state) }
+        ensures state { OnOk result (self.new.image ≡ driven self.old.image end m) }
         ensures sends { IfOk result (λ sends. sends ≡ (driver_does self.old.image.driver end (end_of self.old.image end) m).sends) }
         ensures err { OnErr result (self.new.image ≡ self.old.image) }
         ensures same { SameModules self.old.image self.new.image }
@@ -104,7 +113,12 @@ impl<M: ModuleOf> Chain<M> {
             place: Place::Drv { end },
         };
         let before = self.ends.len(queue);
+        let flushes = flushes_both(self.ends.driver(), m.kind);
         let answer = self.ends.driver_does(end, m);
+        if flushes {
+            self.enabling.wake_all(&self.ends);
+            return answer;
+        }
         self.enabling.wake(&self.ends, queue, before);
         answer
     }

@@ -1,8 +1,8 @@
 //! Service: which places may move, and their moves.
 ghost use Rattle.std.specs.VecDeque.{deque_len, deque_capacity};
-ghost use Rattle.std.specs.Prelude.{◌≡◌, [], OnOk, IfErr, true, false, ◌≤◌, ◌+◌};
+ghost use Rattle.std.specs.Prelude.{◌≡◌, [], OnOk, IfErr, true, false, ◌≤◌, ◌+◌, option_map, option_copied};
 ghost use Rattle.strm_ends.specs.declared.place.Place.TheVariants as Places;
-ghost use Rattle.strm_qpair.specs.Canput.{below, full_in};
+ghost use Rattle.strm_qpair.specs.Canput.{fill_of, below, full_in};
 ghost use Rattle.strm_ends.specs.Image.{end_of};
 ghost use Rattle.strm_ends.specs.Same.{SameModules};
 ghost use Rattle.strm_chain.specs.Fault.{Refuses};
@@ -21,11 +21,19 @@ use std::collections::VecDeque;
 use strm_ends::Place;
 use strm_module::ModuleOf;
 use strm_msg::{End, NoMem, Side};
+use strm_queue::BandQueue;
 
 impl<M: ModuleOf> Chain<M> {
-    /// Whether the first write place of an end is full in a band, where bcanput(9F) would answer the
-    /// opposite: the topmost write queue of its modules, else the list of an echo or a loop. Without
-    /// one it is not.
+    /// The first write queue of an end: the topmost write queue of its modules, else the list of an
+    /// echo, a loop or a wire.
+    pub fn queue_ahead(&self, end: End) -> Option<&BandQueue>
+        ensures { option_map fill_of (option_copied result) ≡ below self.now.image.driver (end_of self.now.image end) 0 }
+    {
+        self.ends.end(end).queue_below(self.ends.driver(), 0)
+    }
+
+    /// Whether the first write queue of an end is full in a band, where bcanput(9F) would answer the
+    /// opposite. Without one it is not.
     pub fn full_ahead(&self, end: End, band: u8) -> bool
         ensures { result ≡ full_in (below self.now.image.driver (end_of self.now.image end) 0) band }
     {

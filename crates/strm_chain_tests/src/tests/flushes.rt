@@ -111,7 +111,7 @@ fn is_left(rt: &impl Abort, alloc: Global, (name, driver, flush, left): Written)
 /// What fills each list of an end with two modules over a driver.
 fn filling(driver: Driver) -> &'static [&'static [Call]] {
     match driver {
-        Driver::Line => LINE_IS_FILLED,
+        Driver::Line | Driver::Wire => LINE_IS_FILLED,
         _ => FILLED,
     }
 }

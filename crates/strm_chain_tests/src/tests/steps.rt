@@ -29,6 +29,18 @@ fn takes<M: ModuleOf>(rt: &impl Abort, chain: &mut Chain<M>, end: End, sample: S
     are_same(chain.take_head(end), Some(want))
 }
 
+/// Takes the first message that was sent down to a wire, which is to be this.
+fn takes_out<M: ModuleOf>(rt: &impl Abort, chain: &mut Chain<M>, sample: Sample) -> bool {
+    let want = message(rt, chain.alloc(), sample);
+    assert!(rt; chain.driver().is_wire());
+    are_same(chain.take_out(), Some(want))
+}
+
+/// Nothing is there that was sent down to a wire.
+fn gives_nothing<M: ModuleOf>(chain: &mut Chain<M>) -> bool {
+    chain.driver().is_wire() && are_same(chain.take_out(), None)
+}
+
 /// Serves until no place is enabled, by these moves and so many looks.
 fn settles<M: ModuleOf>(chain: &mut Chain<M>, moves: &[Place], looks: u64) -> bool {
     match chain.settle() {
@@ -40,7 +52,7 @@ fn settles<M: ModuleOf>(chain: &mut Chain<M>, moves: &[Place], looks: u64) -> bo
 /// An ordinary message comes in from the line.
 fn comes<M: ModuleOf>(rt: &impl Abort, chain: &mut Chain<M>, sample: Sample) -> bool {
     let m = boxed_message(rt, chain.alloc(), sample);
-    assert!(rt; chain.driver() == Driver::Line);
+    assert!(rt; chain.driver().is_line());
     assert!(rt; m.class() == Class::Ordinary);
     is_taken(chain.line_put(m))
 }
@@ -48,7 +60,7 @@ fn comes<M: ModuleOf>(rt: &impl Abort, chain: &mut Chain<M>, sample: Sample) -> 
 /// Room is made for a message, which is put back.
 fn puts_back<M: ModuleOf>(rt: &impl Abort, chain: &mut Chain<M>, sample: Sample) -> bool {
     let has_room = chain.head_room(End::A, 0).is_ok();
-    let line_has_room = chain.driver() == Driver::Line && chain.line_room(0).is_ok();
+    let line_has_room = chain.driver().is_line() && chain.line_room(0).is_ok();
     let m = boxed_message(rt, chain.alloc(), sample);
     let is_back = is_taken(chain.put_back_head(End::A, m));
     has_room && line_has_room && is_back
@@ -68,6 +80,7 @@ fn moves<M: ModuleOf>(rt: &impl Abort, chain: &mut Chain<M>, way: Way, sample: S
         Way::Fails(spot, fault) => puts(rt, chain, spot, sample, Err(fault)),
         Way::Comes => comes(rt, chain, sample),
         Way::Take(end) => takes(rt, chain, end, sample),
+        Way::TakeOut => takes_out(rt, chain, sample),
         Way::PutBack => puts_back(rt, chain, sample),
         Way::Answer => ends(rt, chain, sample),
     }
@@ -128,6 +141,7 @@ fn sets<M: ModuleOf>(chain: &mut Chain<M>, call: Call) -> bool {
         Call::Begins(id) => begins(chain, id),
         Call::Undoes => undoes(chain),
         Call::NoAnswer => are_same(chain.end_ioctl(End::A), None),
+        Call::NothingOut => gives_nothing(chain),
         Call::Remove(want) => removes(chain) == want,
         _ => shows(chain, call),
     }
@@ -164,7 +178,7 @@ fn shows<M: ModuleOf>(chain: &Chain<M>, call: Call) -> bool {
         Call::HeadLen(end, want) => chain.head(end).len() == want,
         Call::HeadHeld(end, want) => chain.head(end).held(0) == want,
         Call::FullAhead(end, want) => chain.full_ahead(end, 0) == want,
-        Call::LineFull(want) => chain.driver() == Driver::Line && chain.line_full(0) == want,
+        Call::LineFull(want) => chain.driver().is_line() && chain.line_full(0) == want,
         Call::Holds(end, i, want) => held(chain, end, i, i.saturating_add(1)) == want,
         Call::HasSpot(spot, want) => chain.has_spot(spot) == want,
         _ => tells(chain, call),

@@ -117,8 +117,8 @@ impl<M: ModuleOf> Ends<M> {
     }
 
     /// Whether the first write queue of an end is full in a band, where bcanput(9F) would answer the
-    /// opposite: the topmost write queue of its modules, else the list of an echo or a loop. Without
-    /// one it is not.
+    /// opposite: the topmost write queue of its modules, else the list of an echo, a loop or a
+    /// wire. Without one it is not.
     pub fn full_ahead(&self, end: End, band: u8) -> bool
         ensures { result ≡ full_in (below self.now.image.driver (end_of self.now.image end) 0) band }
     {
@@ -136,7 +136,7 @@ impl<M: ModuleOf> Ends<M> {
         match place {
             Place::Wr { end, i } => self.end(end).front(i, Side::Wr),
             Place::Drv { end } => {
-                if self.driver.has_end(end) {
+                if self.driver.services(end) {
                     self.end(end).driver_list().first()
                 } else {
                     None

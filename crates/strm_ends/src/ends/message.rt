@@ -2,12 +2,13 @@
 ghost use Rattle.std.specs.Prelude.{◌≡◌, ◌∷◌, [], OnOk, OnErr, IfOk, IfSome, IfNone};
 ghost use Rattle.strm_qpair.specs.End.{end_gets, end_serves};
 ghost use Rattle.strm_qpair.specs.Head.{head_does};
-ghost use Rattle.strm_ends.specs.Image.{end_of, with_end, with_drv, driver_does};
+ghost use Rattle.strm_ends.specs.Image.{end_of, with_end, with_drv, input_flushed, driven, driver_does};
+ghost use Rattle.strm_qpair.specs.Modules.{SameEnd};
 ghost use Rattle.strm_ends.specs.Same.{SameModules};
 
 use super::Ends;
-use strm_module::{ModuleOf, Outs};
-use strm_msg::{BoxedMessage, End, NoMem, Side};
+use strm_module::{Driver, ModuleOf, Outs};
+use strm_msg::{BoxedMessage, End, MsgKind, NoMem, Side};
 use strm_qpair::DriverSends;
 
 impl<M: ModuleOf> Ends<M> {
@@ -25,10 +26,29 @@ impl<M: ModuleOf> Ends<M> {
         }
     }
 
+    /// A flush of read queues that comes to a wire's driver passes what came in.
+    fn flush_input(&mut self, kind: MsgKind)
+        ensures image { self.new.image ≡ record self.old.image { b = input_flushed self.old.image.driver self.old.image.b kind } }
+        ensures same { SameEnd self.old.image.b self.new.image.b }
+    {
+        match (self.driver, kind) {
+            (
+                Driver::Wire,
+                MsgKind::MFlush {
+                    r: true,
+                    w: _,
+                    band,
+                },
+            ) => self.b.flush_driver(true, band),
+            _ => {}
+        }
+    }
+
     /// What the driver does with a message from above, and what it sends up; at an end that it lacks
-    /// the message is dropped. Refused for want of memory alone: then nothing is changed.
+    /// the message is dropped. A flush of read queues also passes what came in to a wire. Refused for want of memory alone: then
+    /// nothing is changed.
     pub fn driver_does(&mut self, end: End, m: BoxedMessage) -> Result<DriverSends, NoMem>
-        ensures state { OnOk result (self.new.image ≡ with_end self.old.image end (driver_does self.old.image.driver end (end_of self.old.image end) m).state) }
+        ensures state { OnOk result (self.new.image ≡ driven self.old.image end m) }
         ensures sends { IfOk result (λ sends. sends ≡ (driver_does self.old.image.driver end (end_of self.old.image end) m).sends) }
         ensures err { OnErr result (self.new.image ≡ self.old.image) }
         ensures same { SameModules self.old.image self.new.image }
@@ -38,7 +58,12 @@ impl<M: ModuleOf> Ends<M> {
             return Ok(DriverSends::Nothing);
         }
         match end {
-            End::A => self.a.driver_does(driver, m),
+            End::A => {
+                let kind = m.kind;
+                let sends = self.a.driver_does(driver, m)?;
+                self.flush_input(kind);
+                Ok(sends)
+            }
             End::B => self.b.driver_does(driver, m),
         }
     }

@@ -52,7 +52,7 @@ impl<M: ModuleOf> StreamEnd<M> {
     }
 
     /// The first write queue below a module, and below the head where `i` is 0: that of a module,
-    /// else the list of an echo or a loop.
+    /// else the list of an echo, a loop or a wire.
     pub fn queue_below(&self, driver: Driver, i: usize) -> Option<&BandQueue>
         ensures { option_map fill_of (option_copied result) ≡ below driver self.now.state i }
     {
@@ -62,6 +62,7 @@ impl<M: ModuleOf> StreamEnd<M> {
                 Driver::Line => None,
                 Driver::Echo => Some(&self.drv),
                 Driver::Loop => Some(&self.drv),
+                Driver::Wire => Some(&self.drv),
             },
         }
     }

@@ -11,7 +11,7 @@ ghost use Rattle.strm_queue.specs.Room.{room_for};
 ghost use Rattle.strm_qpair.specs.End.{KeepsRoom, SpendsOne, in_drv};
 ghost use Rattle.strm_qpair.specs.Modules.{SameEnd};
 ghost use Rattle.strm_qpair.specs.Pair.{flushed_if};
-ghost use Rattle.strm_qpair.specs.Driver.{flush_up, line_does, loop_does, options_up, echo_does, driver_at};
+ghost use Rattle.strm_qpair.specs.Driver.{flush_up, line_does, loop_does, options_up, echo_does, wire_does, driver_at};
 
 use super::StreamEnd;
 use super::head::{flush_list, put_in_list};
@@ -55,7 +55,7 @@ fn options_up(id: u64, m: BoxedMessage) -> DriverSends
 
 impl<M: ModuleOf> StreamEnd<M> {
     /// Flushes the driver's list, where the flush names it.
-    fn flush_driver(&mut self, is_named: bool, band: Option<u8>)
+    pub fn flush_driver(&mut self, is_named: bool, band: Option<u8>)
         ensures state { self.new.state ≡ in_drv self.old.state (flushed_if is_named band self.old.state.drv) }
         ensures same { SameEnd self.old.state self.new.state }
     {
@@ -117,6 +117,28 @@ impl<M: ModuleOf> StreamEnd<M> {
         }
     }
 
+    /// What a wire does: it keeps what is written until that is taken, a high protocol message before all others, and its list
+    /// is flushed as a write queue. Refused for want of memory alone: then nothing is changed.
+    fn wire_does(&mut self, m: BoxedMessage) -> Result<DriverSends, NoMem>
+        ensures state { OnOk result (self.new.state ≡ (wire_does self.old.state m.kind m).state) }
+        ensures sends { IfOk result (λ sends. sends ≡ (wire_does self.old.state m.kind m).sends) }
+        ensures err { OnErr result (self.new.state ≡ self.old.state) }
+        ensures same { SameEnd self.old.state self.new.state }
+    {
+        match m.kind {
+            MsgKind::MFlush { r, w, band } => {
+                self.flush_driver(w, band);
+                Ok(flush_back(m, r, band))
+            }
+            MsgKind::MIoctl { id, .. } => Ok(refused(m, id)),
+            MsgKind::MData | MsgKind::MProto | MsgKind::MPcproto => {
+                put_in_list(&mut self.drv, m)?;
+                Ok(DriverSends::Nothing)
+            }
+            _ => Ok(DriverSends::Nothing),
+        }
+    }
+
     /// What a driver does with a message from above, and what it sends up. Refused for want of
     /// memory alone: then nothing is changed.
     pub fn driver_does(&mut self, driver: Driver, m: BoxedMessage) -> Result<DriverSends, NoMem>
@@ -129,6 +151,7 @@ impl<M: ModuleOf> StreamEnd<M> {
             Driver::Line => Ok(self.line_does(m)),
             Driver::Echo => self.echo_does(m),
             Driver::Loop => self.loop_does(m),
+            Driver::Wire => self.wire_does(m),
         }
     }
 

@@ -4,8 +4,12 @@ use Rattle.strm_ends.specs.Held.{DiffersIn}
 use Rattle.strm_ends.proofs.NextLemmas.{ways_of_same}
 use Rattle.strm_chain.proofs.CaseLemmas.{on_result}
 use Rattle.strm_chain.proofs.EnablingLemmas.{places_same}
-use Rattle.strm_ends.proofs.FrameLemmas.{driver_differs, same_differs}
-use Rattle.std.proofs.Common.{◌+◌, ◌≤◌, length, arith}
+use Rattle.strm_ends.proofs.FrameLemmas.{driver_differs, driven_one, same_differs}
+use Rattle.std.proofs.Common.{◌≡◌, ◌&&◌, ◌+◌, ◌≤◌, ◌∙◌, false, inl, length, sym, ap, arith}
+use Rattle.strm_module.specs.Driver.{is_wire}
+use Rattle.strm_ends.specs.Held.{is_flush}
+use Rattle.strm_ends.proofs.CalmLemmas.{no_flush}
+use Rattle.strm_chain.proofs.CaseLemmas.{either_not}
 use Rattle.strm_module.specs.Calm.{options_of}
 use Rattle.strm_ends.specs.Count.{answers_options, options_driven}
 use Rattle.strm_ends.specs.Held.{held_by}
@@ -13,13 +17,15 @@ use Rattle.strm_chain.proofs.CaseLemmas.{if_ok}
 use Rattle.strm_chain.proofs.CountLemmas.{driver_grows, driver_sets_less, count_put}
 use Rattle.strm_chain.proofs.chain.Chain.driver_does.Goals as goal
 
-pub invariant_of-self : goal.invariant_of-self
-invariant_of-self g c =
+pub invariant_of-self-2 : goal.invariant_of-self-2
+invariant_of-self-2 g c =
     let old = c.self.inside.ends.image in
     let new = c.driver_does-answer.new.self.image in
+    let apart : (is_wire old.driver && is_flush c.args.m.kind) ≡ false = rw (← c.driver.ensures, ← c.deref.ensures, ← c.behind-m.view_is) (sym c.flushes_both-flushes.ensures ∙ c.if-flushes.false) in
+    let one = either_not (is_wire old.driver) (is_flush c.args.m.kind) apart in
     let differs : DiffersIn old new (Of (Places.Drv c.args.end)) =
     on_result c.driver_does-answer.result _ _ _ c.driver_does-answer.ensures.state c.driver_does-answer.ensures.err
-    (λ e. driver_differs old c.args.end new c.args.m c.driver_does-answer.ensures.same e)
+    (λ e. driver_differs old c.args.end new c.args.m one c.driver_does-answer.ensures.same e)
     (λ e. same_differs old new (Of (Places.Drv c.args.end)) e) in (
       c.wake.ensures.ready old c.len-before.ensures c.self.invariant.0 differs,
       c.wake.ensures.places (places_same old new c.self.inside.enabling.run.items (ways_of_same old new differs.same) c.self.invariant.1),
@@ -35,11 +41,13 @@ returns-clause-grows g c =
     (if_ok c.driver_does-answer.result _ _ _ c.driver_does-answer.ensures.state c.driver_does-answer.ensures.sends
     (λ sends e sent calm.
     let b = answers_options old.driver in
-    let grow = driver_grows old new c.args.end c.args.m calm e in
+    let one = no_flush c.args.m.kind calm in
+    let alone = e ∙ driven_one old c.args.end c.args.m (inl one) in
+    let grow = driver_grows old new c.args.end c.args.m calm alone in
     let was = c.len-before.ensures in
     let put = c.wake.ensures.put (omega (arith, was, grow)) in
     let less : length c.wake.new.self.run.items + length (held_by old queue) ≤ length c.self.inside.enabling.run.items + length (held_by new queue) = omega (arith, put, was) in
-    count_put old new queue (length c.self.inside.enabling.run.items) (length c.wake.new.self.run.items) (options_of b c.args.m) (options_driven b sends) (driver_differs old c.args.end new c.args.m c.driver_does-answer.ensures.same e) less (driver_sets_less old new c.args.end c.args.m sends calm e sent)))
+    count_put old new queue (length c.self.inside.enabling.run.items) (length c.wake.new.self.run.items) (options_of b c.args.m) (options_driven b sends) (driver_differs old c.args.end new c.args.m (inl one) c.driver_does-answer.ensures.same e) less (driver_sets_less old new c.args.end c.args.m sends calm alone sent)))
 
 pub returns-clause-state : goal.returns-clause-state
 returns-clause-state g c = rw (← c.self.view_is) c.driver_does-answer.ensures.state
@@ -55,3 +63,18 @@ returns-clause-same g c = rw (← c.self.view_is) c.driver_does-answer.ensures.s
 
 pub returns-clause-given : goal.returns-clause-given
 returns-clause-given g c = rw (← c.self.view_is) c.wake.ensures.given
+
+pub returns-then-flushes-clause-state : goal.returns-then-flushes-clause-state
+returns-then-flushes-clause-state g c = rw (← c.self.view_is) c.driver_does-answer.ensures.state
+
+pub returns-then-flushes-clause-sends : goal.returns-then-flushes-clause-sends
+returns-then-flushes-clause-sends g c = rw (← c.self.view_is) c.driver_does-answer.ensures.sends
+
+pub returns-then-flushes-clause-err : goal.returns-then-flushes-clause-err
+returns-then-flushes-clause-err g c = rw (← c.self.view_is) c.driver_does-answer.ensures.err
+
+pub returns-then-flushes-clause-same : goal.returns-then-flushes-clause-same
+returns-then-flushes-clause-same g c = rw (← c.self.view_is) c.driver_does-answer.ensures.same
+
+pub returns-then-flushes-clause-given : goal.returns-then-flushes-clause-given
+returns-then-flushes-clause-given g c = rw (← c.self.view_is) c.wake_all.ensures.given

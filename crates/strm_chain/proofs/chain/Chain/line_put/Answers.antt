@@ -1,10 +1,11 @@
+use Rattle.std.proofs.Common.{◌≡◌, ◌∙◌, ap}
 use Rattle.strm_ends.specs.declared.place.NextQueue.TheVariants.{Of}
 use Rattle.strm_ends.specs.declared.place.Place.TheVariants as Places
 use Rattle.strm_ends.specs.Held.{DiffersIn}
 use Rattle.strm_ends.proofs.NextLemmas.{ways_of_same}
 use Rattle.strm_chain.proofs.CaseLemmas.{on_result}
 use Rattle.strm_chain.proofs.EnablingLemmas.{places_same}
-use Rattle.strm_msg.specs.declared.words.End.TheVariants.{A}
+use Rattle.strm_module.specs.Driver.{input_end}
 use Rattle.strm_ends.proofs.FrameLemmas.{line_put_differs, same_differs}
 use Rattle.strm_chain.proofs.chain.Chain.line_put.Goals as goal
 
@@ -12,10 +13,13 @@ pub invariant_of-self : goal.invariant_of-self
 invariant_of-self g c =
     let old = c.self.inside.ends.image in
     let new = c.line_put-answer.new.self.image in
-    let differs : DiffersIn old new (Of (Places.Drv A)) =
-    on_result c.line_put-answer.result _ _ _ c.line_put-answer.ensures.ok c.line_put-answer.ensures.err
-    (λ e. line_put_differs old new c.args.m e)
-    (λ e. same_differs old new (Of (Places.Drv A)) e) in (
+    let at = input_end old.driver in
+    let is : c.input_end.result ≡ at = c.input_end.ensures ∙ ap input_end c.driver.ensures in
+    let differs : DiffersIn old new (Of (Places.Drv c.input_end.result)) =
+    rw is
+    (on_result c.line_put-answer.result _ _ _ c.line_put-answer.ensures.ok c.line_put-answer.ensures.err
+    (λ e. line_put_differs old new at c.args.m e)
+    (λ e. same_differs old new (Of (Places.Drv at)) e)) in (
       c.wake.ensures.ready old c.len-before.ensures c.self.invariant.0 differs,
       c.wake.ensures.places (places_same old new c.self.inside.enabling.run.items (ways_of_same old new differs.same) c.self.invariant.1),
       c.self.invariant.2,

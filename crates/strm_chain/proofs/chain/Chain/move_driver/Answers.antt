@@ -5,8 +5,7 @@ use Rattle.strm_ends.specs.Image.{Image, end_of}
 use Rattle.strm_chain.specs.Service.{move}
 use Rattle.strm_ends.specs.declared.place.Place.TheVariants as Place
 use Rattle.strm_chain.proofs.HopLemmas.{carries_up, driver_moves, driver_stays}
-use Rattle.strm_module.proofs.CalmLemmas.{ordinary_calm}
-use Rattle.strm_qpair.proofs.NextLemmas.{drv_ordinary}
+use Rattle.strm_qpair.proofs.NextLemmas.{drv_calm}
 use Rattle.strm_ends.specs.Count.{answers_options}
 use Rattle.strm_chain.specs.Count.{options_carried, are_calm_hops}
 use Rattle.strm_chain.proofs.CaseLemmas.{on_ok}
@@ -39,7 +38,7 @@ returns-in-Some-clause-moves g c =
     let old = c.args.self.now.image in
     let m = c.in-Some.m in
     let first : slice_get (end_of old c.args.end).drv 0 ≡ Some m = ap (λ q. slice_get q 0) c.in-Some.ensures.some.0 in
-    let calm : is_calm m.kind ≡ true = ordinary_calm m.kind (drv_ordinary (end_of old c.args.end) m c.count.ensures.ordinary first) in
+    let calm : is_calm m.kind ≡ true = drv_calm (end_of old c.args.end) m c.count.ensures.ordinary first in
     let hops : are_calm_hops c.push_front_reserved.new.self.items ≡ true =
     rw (c.push_front_reserved.ensures.items, c.up.ensures, c.requires.empty) (one_calm (up_hop false c.partner_of-partner.result c.count-ahead.result m) [] calm refl) in
     let mid = c.take_driver.new.self.image in

@@ -3,7 +3,7 @@ use Rattle.strm_ends.proofs.NextLemmas.{ways_of_same}
 use Rattle.strm_ends.proofs.FrameLemmas.{serves_differs}
 use Rattle.strm_chain.proofs.EnablingLemmas.{places_same}
 use Rattle.std.proofs.Common.{◌≡◌, ◌∙◌, true, length}
-use Rattle.strm_qpair.specs.Modules.{HoldsOrdinary}
+use Rattle.strm_qpair.specs.Modules.{HoldsCalm}
 use Rattle.strm_ends.specs.Image.{end_of}
 use Rattle.strm_ends.specs.declared.place.NextQueue.TheVariants.{Of}
 use Rattle.strm_ends.specs.Held.{module_place}
@@ -33,7 +33,7 @@ returns-in-Ok-clause-moves g c =
     let new = c.serve_at.new.self.image in
     let queue = Of (module_place c.args.side c.args.end c.args.i) in
     let is = c.in-Some.ensures.some in
-    let ordinary : HoldsOrdinary (end_of old c.args.end) = rw (ap (λ (v : ChainValue _). end_of v.image c.args.end) c.self.view_is) c.in-Some.ensures.ordinary in
+    let ordinary : HoldsCalm (end_of old c.args.end) = rw (ap (λ (v : ChainValue _). end_of v.image c.args.end) c.self.view_is) c.in-Some.ensures.ordinary in
     λ kinds enabled.
     let was : is_enabled c.self.inside.enabling.run (module_place c.args.side c.args.end c.args.i) ≡ true = ap (λ (v : ChainValue _). is_enabled v.run (module_place c.args.side c.args.end c.args.i)) c.self.view_is ∙ enabled in
     let less = c.wake.ensures.taken (module_place c.args.side c.args.end c.args.i) is was in

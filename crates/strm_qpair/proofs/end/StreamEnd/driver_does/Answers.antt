@@ -35,3 +35,15 @@ returns-in-Loop-clause-err g c = c.loop_does.ensures.err
 
 pub returns-in-Loop-clause-same : goal.returns-in-Loop-clause-same
 returns-in-Loop-clause-same g c = c.loop_does.ensures.same
+
+pub returns-in-Wire-clause-state : goal.returns-in-Wire-clause-state
+returns-in-Wire-clause-state g c = rw c.in-Wire.is c.wire_does.ensures.state
+
+pub returns-in-Wire-clause-sends : goal.returns-in-Wire-clause-sends
+returns-in-Wire-clause-sends g c = rw c.in-Wire.is c.wire_does.ensures.sends
+
+pub returns-in-Wire-clause-err : goal.returns-in-Wire-clause-err
+returns-in-Wire-clause-err g c = c.wire_does.ensures.err
+
+pub returns-in-Wire-clause-same : goal.returns-in-Wire-clause-same
+returns-in-Wire-clause-same g c = c.wire_does.ensures.same

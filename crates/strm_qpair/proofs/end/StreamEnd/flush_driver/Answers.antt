@@ -1,4 +1,4 @@
-use Rattle.strm_qpair.proofs.WaitLemmas.{ordinary-flushed_if}
+use Rattle.strm_qpair.proofs.WaitLemmas.{calm-flushed_if}
 use Rattle.strm_qpair.proofs.end.StreamEnd.flush_driver.Goals as goal
 
 pub invariant_of-self : goal.invariant_of-self
@@ -11,5 +11,5 @@ invariant_of-self g c =
       drv_fit = rw c.flush_list.ensures.marks k.drv_fit;
       fit = k.fit;
       waits = k.waits;
-      ordinary = rw c.flush_list.ensures.messages (ordinary-flushed_if c.args.is_named c.args.band c.self.inside.drv.messages k.ordinary);
+      calm = rw c.flush_list.ensures.messages (calm-flushed_if c.args.is_named c.args.band c.self.inside.drv.messages k.calm);
     }

@@ -1,12 +1,12 @@
-use Rattle.std.proofs.Common.{◌≡◌, false, refl}
-use Rattle.strm_msg.specs.Kind.{is_high}
-use Rattle.strm_qpair.proofs.WaitLemmas.{ordinary-put, ordinary-kind}
+use Rattle.std.proofs.Common.{◌≡◌, true, refl}
+use Rattle.strm_module.specs.Calm.{is_calm}
+use Rattle.strm_qpair.proofs.WaitLemmas.{calm-put, calm-kind}
 use Rattle.strm_qpair.proofs.end.StreamEnd.loop_does.Goals as goal
 
 pub invariant_of-self-in-MData : goal.invariant_of-self-in-MData
 invariant_of-self-in-MData g c =
     let k = c.self.invariant in
-    let low : is_high c.args.m.kind ≡ false = rw (← c.deref.ensures, ← c.behind-m.view_is) (ordinary-kind c.behind-m.inside.kind c.in-MData.is) in
+    let calm : is_calm c.args.m.kind ≡ true = rw (← c.deref.ensures, ← c.behind-m.view_is) (calm-kind c.behind-m.inside.kind c.in-MData.is) in
     record {
       room = k.room;
       few = k.few;
@@ -14,7 +14,7 @@ invariant_of-self-in-MData g c =
       drv_fit = rw c.put_in_list.ensures.marks k.drv_fit;
       fit = k.fit;
       waits = k.waits;
-      ordinary = rw c.in_ok-put_in_list-in-MData.ensures.ok (ordinary-put c.self.inside.drv.messages c.args.m low k.ordinary);
+      calm = rw c.in_ok-put_in_list-in-MData.ensures.ok (calm-put c.self.inside.drv.messages c.args.m calm k.calm);
     }
 
 pub returns-in_ok-put_in_list-in-MData-clause-same : goal.returns-in_ok-put_in_list-in-MData-clause-same

@@ -1,4 +1,4 @@
-use Rattle.strm_qpair.proofs.WaitLemmas.{ordinary-tried}
+use Rattle.strm_qpair.proofs.WaitLemmas.{calm-tried}
 use Rattle.strm_qpair.proofs.end.StreamEnd.put_driver.Goals as goal
 
 pub invariant_of-self : goal.invariant_of-self
@@ -11,7 +11,7 @@ invariant_of-self g c =
       drv_fit = rw c.put.ensures.marks k.drv_fit;
       fit = k.fit;
       waits = k.waits;
-      ordinary = ordinary-tried c.put.result c.self.inside.drv.messages c.put.new.self.messages c.args.m c.put.ensures.ok c.put.ensures.err c.requires k.ordinary;
+      calm = calm-tried c.put.result c.self.inside.drv.messages c.put.new.self.messages c.args.m c.put.ensures.ok c.put.ensures.err c.requires k.calm;
     }
 
 pub returns-clause-spent : goal.returns-clause-spent

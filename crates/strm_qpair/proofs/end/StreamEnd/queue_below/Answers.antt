@@ -27,3 +27,9 @@ returns-in-Loop g c =
     let e = c.args.self.now.state in
     let list : Some (fill_of c.self.inside.drv) ≡ driver_fill c.args.driver e = rw (← c.self.view_is, c.in-Loop.is) refl in
     list ∙ ap (or_at (queue_at e Side.Wr) (driver_fill c.args.driver e)) c.in-None.ensures.value ∙ sym (below_is c.args.driver e c.args.i)
+
+pub returns-in-Wire : goal.returns-in-Wire
+returns-in-Wire g c =
+    let e = c.args.self.now.state in
+    let list : Some (fill_of c.self.inside.drv) ≡ driver_fill c.args.driver e = rw (← c.self.view_is, c.in-Wire.is) refl in
+    list ∙ ap (or_at (queue_at e Side.Wr) (driver_fill c.args.driver e)) c.in-None.ensures.value ∙ sym (below_is c.args.driver e c.args.i)

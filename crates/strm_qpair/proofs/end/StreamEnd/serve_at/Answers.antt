@@ -15,7 +15,7 @@ invariant_of-self g c =
       drv_fit = k.drv_fit;
       fit = fit-set c.self.inside.pairs.items (c.args.i - 1) c.serve.new.self c.index_mut.result.now c.index_mut.ensures.value c.serve.ensures.identity k.fit;
       waits = all-set waits_well c.self.inside.pairs.items (c.args.i - 1) c.serve.new.self c.index_mut.result.now c.index_mut.ensures.value (search rules) c.serve.ensures.waits k.waits;
-      ordinary = k.ordinary;
+      calm = k.calm;
     }
 
 pub returns-clause-outs : goal.returns-clause-outs

@@ -5,3 +5,4 @@ pub mod Reply
 pub mod Replied
 pub mod Begun
 pub mod Setup
+pub mod Polled

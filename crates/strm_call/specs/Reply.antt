@@ -1,12 +1,15 @@
 -- Replies (streamio(7), getmsg(2)).
-use Rattle.std.specs.Prelude.{Bool, true, false, Option, Some, None}
+use Rattle.std.specs.Prelude.{Bool, true, false, Option, Some, None, if◌then◌else◌}
+use Rattle.strm_msg.specs.Kind.{is_high}
 use Rattle.strm_msg.specs.Message.{Msg}
 use Rattle.strm_msg.specs.declared.kind.MsgKind.{MsgKind}
 use Rattle.strm_msg.specs.declared.kind.MsgKind.TheVariants.{MIocack, MIocnak}
 use Rattle.strm_call.specs.declared.answer.Acknowledged.{Acknowledged}
 use Rattle.strm_call.specs.declared.answer.Acknowledged.TheVariants.{Ack, Nak, Timeout}
+use Rattle.strm_call.specs.declared.answer.Received.{Received}
+use Rattle.strm_call.specs.declared.answer.Received.TheVariants as Received
 use Rattle.strm_call.specs.declared.answer.Reply.{Reply}
-use Rattle.strm_call.specs.declared.answer.Reply.TheVariants.{Getmsg, Getpmsg, Read, Peek, Str}
+use Rattle.strm_call.specs.declared.answer.Reply.TheVariants.{Getmsg, Getpmsg, Read, Peek, Str, Message}
 
 -- the replies that may have bytes of messages, a copy of which takes memory
 abbrev pub has_bytes : Reply → Bool
@@ -15,7 +18,12 @@ has_bytes (Getpmsg ctl dat flag more) = true
 has_bytes (Read dat) = true
 has_bytes (Peek (Some seen)) = true
 has_bytes (Str answer) = true
+has_bytes (Message m) = true
 has_bytes reply = false
+
+-- a message that is taken: an ordinary one of its band, or a high one
+abbrev pub received_of : Msg → Received
+received_of m = if is_high m.kind then Received.Hipri else Received.Band m.band
 
 -- what a message says of the ioctl that it answers (M_IOCACK, M_IOCNAK)
 abbrev pub acknowledged_by : MsgKind → Msg → Acknowledged

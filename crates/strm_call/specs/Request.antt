@@ -1,7 +1,7 @@
 -- What a request is by itself.
 use Rattle.std.specs.Prelude.{Bool, true, false}
 use Rattle.strm_call.specs.declared.request.Request.{Request}
-use Rattle.strm_call.specs.declared.request.Request.TheVariants.{Nread, Peek, SetRead, GetRead, Canput, Ckband, Getband, Look, Find}
+use Rattle.strm_call.specs.declared.request.Request.TheVariants.{Nread, Peek, SetRead, GetRead, Canput, Ckband, Getband, Look, Find, Poll}
 
 -- the calls that change no queue: no service follows them
 abbrev pub changes_no_queue : {P : Type 0} → Request P → Bool
@@ -12,6 +12,7 @@ changes_no_queue GetRead = true
 changes_no_queue (Canput band) = true
 changes_no_queue (Ckband band) = true
 changes_no_queue Getband = true
+changes_no_queue Poll = true
 changes_no_queue Look = true
 changes_no_queue Request.List = true
 changes_no_queue (Find name) = true

@@ -12,6 +12,6 @@ are_marks head drv = nat_lt head.1 head.0 && nat_lt drv.1 drv.0
 abbrev pub is_fit : Setup → Bool
 is_fit setup = are_marks setup.head setup.drv
 
--- a line is fed through a ring of 1 to `MOST_RING` messages; the other drivers have none
+-- a line and a wire are fed through a ring of 1 to `MOST_RING` messages; the other drivers have none
 abbrev pub is_ring : Setup → Bool
 is_ring setup = not (is_line setup.driver) || (nat_le 1 setup.ring && nat_le setup.ring MOST_RING)

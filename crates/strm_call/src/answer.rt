@@ -1,6 +1,7 @@
 //! What a call answers.
 ghost use Rattle.std.specs.Prelude.{◌≡◌, false, IfOk, IsOk, option_copied};
-ghost use Rattle.strm_call.specs.Reply.{has_bytes};
+ghost use Rattle.strm_call.specs.Polled.{is_in, is_rdnorm, is_rdband, is_pri};
+ghost use Rattle.strm_call.specs.Reply.{has_bytes, received_of};
 
 use crate::name::Name;
 use crate::name_list::NameList;
@@ -9,7 +10,7 @@ use crate::refusal::Refusal;
 use crate::request::Priority;
 use std::alloc::Global;
 use strm_module::Driver;
-use strm_msg::{Bytes, Errno, NoMem, Prot, ReadMode};
+use strm_msg::{BoxedMessage, Bytes, Errno, Message, NoMem, Prot, ReadMode};
 
 /// Which parts of a message stay at the stream head, whether or not they were asked for.
 #[derive(Clone, Copy, Debug, PartialEq, Eq)]
@@ -34,6 +35,67 @@ pub enum Received {
     },
     /// A high-priority message (MSG_HIPRI).
     Hipri,
+}
+
+impl Received {
+    /// What a message is taken as.
+    pub fn of(m: &Message) -> Received
+        ensures { result ≡ received_of m.now }
+    {
+        if m.is_high() {
+            Received::Hipri
+        } else {
+            Received::Band { band: m.band }
+        }
+    }
+}
+
+/// What poll(2) says of an end (Programmer's Guide: STREAMS, "Input and Output Polling").
+#[derive(Clone, Copy, Debug, PartialEq, Eq)]
+pub struct Polled {
+    /// What message is first, where one waits and no error of the read side came up: an ordinary one (POLLIN) of band 0
+    /// (POLLRDNORM) or of a band above 0 (POLLRDBAND), or one of high priority (POLLPRI).
+    pub first: Option<Received>,
+    /// A message of band 0 could be sent (POLLOUT, POLLWRNORM).
+    pub out: bool,
+    /// A message could be sent of a band above 0 that has a message in the first write queue (POLLWRBAND).
+    pub wrband: bool,
+    /// An error came up, or the stream is broken (POLLERR).
+    pub err: bool,
+    /// The end is hung up (POLLHUP).
+    pub hup: bool,
+    /// The end is closed (POLLNVAL).
+    pub nval: bool,
+}
+
+impl Polled {
+    /// Whether an ordinary message is first (POLLIN).
+    pub fn is_in(&self) -> bool
+        ensures { result ≡ is_in self.now.first }
+    {
+        matches!(self.first, Some(Received::Band { .. }))
+    }
+
+    /// Whether an ordinary message of band 0 is first (POLLRDNORM).
+    pub fn is_rdnorm(&self) -> bool
+        ensures { result ≡ is_rdnorm self.now.first }
+    {
+        matches!(self.first, Some(Received::Band { band: 0 }))
+    }
+
+    /// Whether an ordinary message of a band above 0 is first (POLLRDBAND).
+    pub fn is_rdband(&self) -> bool
+        ensures { result ≡ is_rdband self.now.first }
+    {
+        self.is_in() && !self.is_rdnorm()
+    }
+
+    /// Whether a message of high priority is first (POLLPRI).
+    pub fn is_pri(&self) -> bool
+        ensures { result ≡ is_pri self.now.first }
+    {
+        matches!(self.first, Some(Received::Hipri))
+    }
 }
 
 /// What a peek shows of a message.
@@ -182,6 +244,18 @@ pub enum Reply {
     },
     /// A message that came in from a line was taken.
     Line,
+    /// A message was taken that had been sent down to a wire.
+    Message {
+        /// The message: data, or a protocol message.
+        m: BoxedMessage,
+    },
+    /// A wire is closed, and all that had been sent down to it was taken.
+    Hangup,
+    /// What poll(2) says of an end.
+    Poll {
+        /// What holds.
+        told: Polled,
+    },
 }
 
 /// A copy of a part that may be missing. Refused for want of memory alone.
@@ -275,6 +349,7 @@ impl Reply {
             Reply::Str { answer } => Ok(Reply::Str {
                 answer: answer.copy(alloc)?,
             }),
+            Reply::Message { m } => Ok(Reply::Message { m: m.copy(alloc)? }),
             plain => Ok(plain.copy_plain()),
         }
     }
@@ -314,9 +389,14 @@ impl Reply {
                 names: names.copy(),
             },
             Reply::Line => Reply::Line,
+            Reply::Hangup => Reply::Hangup,
+            Reply::Poll { told } => Reply::Poll { told: *told },
             Reply::Peek { .. } => Reply::Peek { found: None },
-            Reply::Getmsg { .. } | Reply::Getpmsg { .. } | Reply::Read { .. } | Reply::Str { .. } =>
-                unreachable!(),
+            Reply::Getmsg { .. }
+            | Reply::Getpmsg { .. }
+            | Reply::Read { .. }
+            | Reply::Str { .. }
+            | Reply::Message { .. } => unreachable!(),
         }
     }
 }

@@ -104,5 +104,7 @@ fn plain_request<P: Drop, Q>(request: Request<P>) -> Request<Q>
         Request::Flush { r, w } => Request::Flush { r, w },
         Request::FlushBand { band, r, w } => Request::FlushBand { band, r, w },
         Request::Close => Request::Close,
+        Request::Take => Request::Take,
+        Request::Poll => Request::Poll,
     }
 }

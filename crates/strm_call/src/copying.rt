@@ -118,6 +118,8 @@ pub fn copy_request<M: ModuleOf>(
         Request::Canput { band } => Ok(Request::Canput { band: *band }),
         Request::Ckband { band } => Ok(Request::Ckband { band: *band }),
         Request::Getband => Ok(Request::Getband),
+        Request::Take => Ok(Request::Take),
+        Request::Poll => Ok(Request::Poll),
         Request::Pop => Ok(Request::Pop),
         Request::Look => Ok(Request::Look),
         Request::List => Ok(Request::List),

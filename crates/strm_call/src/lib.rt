@@ -20,7 +20,7 @@ mod same_request;
 mod setup;
 mod twins;
 
-pub use answer::{Acknowledged, Answer, More, Peeked, Received, Reply, copy_part};
+pub use answer::{Acknowledged, Answer, More, Peeked, Polled, Received, Reply, copy_part};
 pub use call::Call;
 pub use copying::copy_request;
 pub use event::Event;
@@ -31,7 +31,7 @@ pub use parts::{BoxedParts, Parts};
 pub use refusal::Refusal;
 pub use replied::Replied;
 pub use request::{GetFlag, MAX_CONTROL, MAX_DATA, Priority, PutFlag, Request, Wanted};
-pub use same::is_same_part;
+pub use same::{is_same_message, is_same_part};
 pub use same_request::{SameKind, is_same_request};
 pub use setup::{MOST_RING, Setup};
 pub use twins::Twins;

@@ -230,6 +230,16 @@ pub enum Request<P> {
     ///
     /// Refused where the end is closed, and for nothing else. On a broken stream no service follows.
     Close,
+    /// Takes the first message that was sent down to a wire, as the device outside of it does. Of a closed wire it still takes
+    /// what was sent down before, and then it tells of a hangup, as often as it is asked.
+    ///
+    /// Refused with EBADF (the driver is no wire, and the end is closed), ENOSR (the stream is broken), EINVAL (the driver is no
+    /// wire), EAGAIN (no message is there, and the end is open) and ENOSR (memory is wanting for a copy), in this order; and by
+    /// no error that came up.
+    Take,
+    /// Asks what poll(2) says of the end (Programmer's Guide: STREAMS, "Input and Output Polling"). Never refused, not even at a
+    /// closed end or on a broken stream, and takes no memory.
+    Poll,
 }
 
 impl<P> Request<P> {

@@ -1,10 +1,10 @@
 //! Whether two answers are the same, for who rests on that they are or are not.
 ghost use Rattle.std.specs.Prelude.{◌≡◌, ◌↔◌, true};
 
-use crate::answer::{Acknowledged, Answer, Peeked, Received, Reply};
+use crate::answer::{Acknowledged, Answer, Peeked, Polled, Received, Reply};
 use crate::name::Name;
 use crate::refusal::Refusal;
-use strm_msg::Bytes;
+use strm_msg::{Bytes, Message, MsgKind};
 
 /// Whether two parts that may be missing are the same.
 pub fn is_same_part(one: &Option<Bytes>, other: &Option<Bytes>) -> bool
@@ -89,6 +89,76 @@ impl Acknowledged {
             _ => false,
         }
     }
+}
+
+/// Whether two kinds of message are the same.
+fn is_same_kind(one: MsgKind, other: MsgKind) -> bool
+    ensures { result ≡ true ↔ one ≡ other }
+{
+    match (one, other) {
+        (MsgKind::MData, MsgKind::MData) => true,
+        (MsgKind::MProto, MsgKind::MProto) => true,
+        (MsgKind::MPcproto, MsgKind::MPcproto) => true,
+        (MsgKind::MIoctl { id, cmd }, MsgKind::MIoctl { id: i, cmd: c }) => id == i && cmd == c,
+        (
+            MsgKind::MSetopts { mode, prot, marks },
+            MsgKind::MSetopts {
+                mode: m,
+                prot: p,
+                marks: n,
+            },
+        ) => mode == m && prot == p && marks == n,
+        (MsgKind::MIocack { id, rval }, MsgKind::MIocack { id: i, rval: r }) => {
+            id == i && rval == r
+        }
+        (MsgKind::MIocnak { id, errno }, MsgKind::MIocnak { id: i, errno: e }) => {
+            id == i && errno == e
+        }
+        (
+            MsgKind::MFlush { r, w, band },
+            MsgKind::MFlush {
+                r: read,
+                w: write,
+                band: b,
+            },
+        ) => r == read && w == write && band == b,
+        (MsgKind::MHangup, MsgKind::MHangup) => true,
+        (MsgKind::MError { rd, wr }, MsgKind::MError { rd: r, wr: w }) => rd == r && wr == w,
+        _ => false,
+    }
+}
+
+/// Whether two messages are the same.
+pub fn is_same_message(one: &Message, other: &Message) -> bool
+    ensures { result ≡ true ↔ one.now ≡ other.now }
+{
+    is_same_kind(one.kind, other.kind)
+        && one.band == other.band
+        && is_same_part(&one.ctl, &other.ctl)
+        && is_same_part(&one.dat, &other.dat)
+}
+
+/// Whether the same message is first.
+fn is_same_first(one: Option<Received>, other: Option<Received>) -> bool
+    ensures { result ≡ true ↔ one ≡ other }
+{
+    match (one, other) {
+        (Some(one), Some(other)) => is_same_received(one, other),
+        (None, None) => true,
+        _ => false,
+    }
+}
+
+/// Whether poll(2) says the same.
+fn is_same_poll(one: Polled, other: Polled) -> bool
+    ensures { result ≡ true ↔ one ≡ other }
+{
+    is_same_first(one.first, other.first)
+        && one.out == other.out
+        && one.wrband == other.wrband
+        && one.err == other.err
+        && one.hup == other.hup
+        && one.nval == other.nval
 }
 
 impl Reply {
@@ -199,6 +269,15 @@ impl Reply {
                 _ => false,
             },
             Reply::Line => matches!(other, Reply::Line),
+            Reply::Message { m } => match other {
+                Reply::Message { m: n } => is_same_message(m, n),
+                _ => false,
+            },
+            Reply::Hangup => matches!(other, Reply::Hangup),
+            Reply::Poll { told } => match other {
+                Reply::Poll { told: t } => is_same_poll(*told, *t),
+                _ => false,
+            },
         }
     }
 }

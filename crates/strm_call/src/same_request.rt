@@ -203,6 +203,7 @@ fn is_same_question<K: SameKind + Drop>(
             _ => false,
         },
         Request::Getband => matches!(other, Request::Getband),
+        Request::Poll => matches!(other, Request::Poll),
         Request::Look => matches!(other, Request::Look),
         Request::List => matches!(other, Request::List),
         Request::Find { name } => match other {
@@ -251,6 +252,7 @@ pub fn is_same_request<K: SameKind + Drop>(
         Request::Flush { r, w } => is_flush(other, *r, *w),
         Request::FlushBand { band, r, w } => is_flush_band(other, *band, *r, *w),
         Request::Close => matches!(other, Request::Close),
+        Request::Take => matches!(other, Request::Take),
         Request::Nread
         | Request::Peek { .. }
         | Request::SetRead { .. }
@@ -258,6 +260,7 @@ pub fn is_same_request<K: SameKind + Drop>(
         | Request::Canput { .. }
         | Request::Ckband { .. }
         | Request::Getband
+        | Request::Poll
         | Request::Look
         | Request::List
         | Request::Find { .. } => is_same_question(one, other),

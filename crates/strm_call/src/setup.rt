@@ -37,7 +37,7 @@ impl Setup {
         self.head.1 < self.head.0 && self.drv.1 < self.drv.0
     }
 
-    /// Whether the ring can be made: the stream is no line, or the ring holds 1 to `MOST_RING` messages.
+    /// Whether the ring can be made: no messages come to the stream from a line, or the ring holds 1 to `MOST_RING` messages.
     pub fn is_ring(&self) -> bool
         ensures { result ≡ is_ring self.now }
     {

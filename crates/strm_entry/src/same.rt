@@ -2,57 +2,9 @@
 ghost use Rattle.std.specs.Prelude.{◌≡◌, ◌↔◌, true};
 
 use crate::entry::Entry;
-use strm_call::{Event, SameKind, is_same_part, is_same_request};
+use strm_call::{Event, SameKind, is_same_message, is_same_request};
 use strm_ends::Place;
 use strm_module::BoxedShape;
-use strm_msg::{Message, MsgKind};
-
-/// Whether two kinds of message are the same.
-fn is_same_kind(one: MsgKind, other: MsgKind) -> bool
-    ensures { result ≡ true ↔ one ≡ other }
-{
-    match (one, other) {
-        (MsgKind::MData, MsgKind::MData) => true,
-        (MsgKind::MProto, MsgKind::MProto) => true,
-        (MsgKind::MPcproto, MsgKind::MPcproto) => true,
-        (MsgKind::MIoctl { id, cmd }, MsgKind::MIoctl { id: i, cmd: c }) => id == i && cmd == c,
-        (
-            MsgKind::MSetopts { mode, prot, marks },
-            MsgKind::MSetopts {
-                mode: m,
-                prot: p,
-                marks: n,
-            },
-        ) => mode == m && prot == p && marks == n,
-        (MsgKind::MIocack { id, rval }, MsgKind::MIocack { id: i, rval: r }) => {
-            id == i && rval == r
-        }
-        (MsgKind::MIocnak { id, errno }, MsgKind::MIocnak { id: i, errno: e }) => {
-            id == i && errno == e
-        }
-        (
-            MsgKind::MFlush { r, w, band },
-            MsgKind::MFlush {
-                r: read,
-                w: write,
-                band: b,
-            },
-        ) => r == read && w == write && band == b,
-        (MsgKind::MHangup, MsgKind::MHangup) => true,
-        (MsgKind::MError { rd, wr }, MsgKind::MError { rd: r, wr: w }) => rd == r && wr == w,
-        _ => false,
-    }
-}
-
-/// Whether two messages are the same.
-fn is_same_message(one: &Message, other: &Message) -> bool
-    ensures { result ≡ true ↔ one.now ≡ other.now }
-{
-    is_same_kind(one.kind, other.kind)
-        && one.band == other.band
-        && is_same_part(&one.ctl, &other.ctl)
-        && is_same_part(&one.dat, &other.dat)
-}
 
 /// Whether the same happened twice.
 fn is_same_event<K: SameKind + Drop>(

@@ -9,12 +9,12 @@ use Rattle.strm_ends.specs.Image.{Image, end_of}
 use Rattle.strm_chain.specs.Deliver.{is_there}
 use Rattle.strm_chain.specs.declared.spot.Spot.TheVariants.{Down}
 use Rattle.strm_call.specs.declared.request.Request.{Request}
-use Rattle.strm_call.specs.declared.request.Request.TheVariants.{Close}
+use Rattle.strm_call.specs.declared.request.Request.TheVariants.{Close, Take, Poll}
 use Rattle.strm_call.specs.declared.refusal.Refusal.{Refusal}
 use Rattle.strm_call.specs.declared.refusal.Refusal.TheVariants.{Closed, Broken}
 use Rattle.strm_call.specs.Refusal.{first_that_holds}
 use Rattle.strm_call.specs.Request.{changes_no_queue}
-use Rattle.strm_head.specs.Begin.{refusal_of, begun_of, errors_at, common_refusals, own_refusals, takes_no_memory_at, sends_nothing, can_lack_memory}
+use Rattle.strm_head.specs.Begin.{refusal_of, begun_of, errors_at, common_refusals, own_refusals, is_common, finds_whole, takes_no_memory_at, sends_nothing, can_lack_memory}
 use Rattle.strm_chain.specs.declared.fault.ChainFault.{ChainFault}
 use Rattle.strm_call.specs.declared.answer.Reply.{Reply}
 use Rattle.strm_chain.specs.Fault.{Fails}
@@ -38,9 +38,9 @@ there_of : {K : Type 0} (image : Image K) (e : End) → has_end image.driver e �
 there_of image e h = rw h (search rules)
 
 -- none of those that all calls but a close share, and none of its own
-ready_of : {K : Type 0} (image : Image K) (e : End) (request : Request (Shape K)) → IsKept image → refusal_of image e request ≡ None → (request ≡ Close → ⊥) → IsReady image e
-ready_of image e request kept h other =
-    let whole = whole_of image e request h other in
+ready_of : {K : Type 0} (image : Image K) (e : End) (request : Request (Shape K)) → IsKept image → refusal_of image e request ≡ None → is_common request ≡ true → finds_whole request ≡ true → IsReady image e
+ready_of image e request kept h other finds =
+    let whole = whole_of image e request h finds in
     let common = none_before (first_that_holds (common_refusals image e request)) (first_that_holds (own_refusals image e request)) (sym (first_of_all image e request other) ∙ h) in
     record {
       there = there_of image e (kept.ends e (open_if (end_of image e).is_open image.broken (errors_at image e request) common));
@@ -48,17 +48,21 @@ ready_of image e request kept h other =
       idle = kept.idle whole e;
     }
 
-own_of : {K : Type 0} (image : Image K) (e : End) (request : Request (Shape K)) → refusal_of image e request ≡ None → (request ≡ Close → ⊥) → first_that_holds (own_refusals image e request) ≡ None
+own_of : {K : Type 0} (image : Image K) (e : End) (request : Request (Shape K)) → refusal_of image e request ≡ None → is_common request ≡ true → first_that_holds (own_refusals image e request) ≡ None
 own_of image e request h other =
     none_behind (first_that_holds (common_refusals image e request)) (first_that_holds (own_refusals image e request)) (sym (first_of_all image e request other) ∙ h)
 
 pub may_begin : {K : Type 0} (image : Image K) (e : End) (request : Request (Shape K)) → IsKept image → refusal_of image e request ≡ None → MayBegin image e request
 may_begin image e Close kept h = kept.ends
-may_begin image e request kept h = ready_of image e request kept h (λ same. cc)
+may_begin image e Take kept h = tt
+may_begin image e Poll kept h = tt
+may_begin image e request kept h = ready_of image e request kept h refl refl
 
 pub own_none : {K : Type 0} (image : Image K) (e : End) (request : Request (Shape K)) → refusal_of image e request ≡ None → first_that_holds (own_refusals image e request) ≡ None
 own_none image e Close h = refl
-own_none image e request h = own_of image e request h (λ same. cc)
+own_none image e Take h = h
+own_none image e Poll h = refl
+own_none image e request h = own_of image e request h refl
 
 -- what is promised where something is none, and was not met
 is_given : (none : Bool) → (none ≡ true → false ≡ true) → none ≡ false

@@ -11,7 +11,7 @@ use Rattle.strm_ends.specs.Image.{Image, end_of}
 use Rattle.strm_ends.specs.Flow.{NoneMay}
 use Rattle.strm_chain.specs.Fault.{Breaks}
 use Rattle.strm_call.specs.declared.request.Request.{Request}
-use Rattle.strm_call.specs.declared.request.Request.TheVariants.{Putmsg, Putpmsg, Getmsg, Getpmsg, Read, Write, Push, Nread, Peek, SetRead, GetRead, Canput, Ckband, Getband, Pop, Look, Find, Str, Flush, FlushBand, Close}
+use Rattle.strm_call.specs.declared.request.Request.TheVariants.{Putmsg, Putpmsg, Getmsg, Getpmsg, Read, Write, Push, Nread, Peek, SetRead, GetRead, Canput, Ckband, Getband, Pop, Look, Find, Str, Flush, FlushBand, Close, Take, Poll}
 use Rattle.strm_call.specs.declared.request.Request.TheVariants as Requests
 use Rattle.strm_call.specs.declared.refusal.Refusal.{Refusal}
 use Rattle.strm_call.specs.Refusal.{first_that_holds}
@@ -22,13 +22,15 @@ use Rattle.strm_msg.specs.declared.errno.Errno.{Errno}
 use Rattle.strm_msg.specs.Message.{Msg}
 use Rattle.strm_call.specs.Begun.{Begun, begun, begun_ioctl, reply_after}
 use Rattle.strm_call.specs.Request.{changes_no_queue}
-use Rattle.strm_head.specs.Begin.{begun_of, refusal_of, awaits_answer, takes_no_memory_at, can_lack_memory, pushed_of, errors_looked_at, error_refusals, closed_refusals, common_refusals, own_refusals, handed_out, back_of, out_of, serials_of, is_no_memory, wants_memory, BreaksNone}
+use Rattle.strm_head.specs.Begin.{begun_of, refusal_of, awaits_answer, takes_no_memory_at, can_lack_memory, pushed_of, errors_looked_at, error_refusals, closed_refusals, common_refusals, own_refusals, finds_whole, handed_out, back_of, out_of, serials_of, is_no_memory, wants_memory, BreaksNone}
 use Rattle.strm_head.specs.Begins.{needs_no_service}
+use Rattle.strm_ioctl.specs.Outside.{take_refusals}
+use Rattle.strm_ioctl.proofs.OutsideLemmas.{taken_none, taken_plain}
 use Rattle.strm_head.specs.Inside.{IsKept}
 use Rattle.strm_head.specs.Step.{Answers, Finishes, SettlesUnless, answered_if}
 use Rattle.strm_head.proofs.RefusalLemmas.{first_of_both, first_of_all}
 use Rattle.strm_head.proofs.KeptLemmas.{whole_of, begun_opens}
-use Rattle.strm_head.proofs.NothingLemmas.{unserved_whole, served_takes, ioctl_sends, unserved_begun}
+use Rattle.strm_head.proofs.NothingLemmas.{served_takes, ioctl_sends, unserved_begun}
 
 -- for kinds of any meaning
 module _ {K : Type 0} (means : Meaning K) where
@@ -57,6 +59,8 @@ module _ {K : Type 0} (means : Meaning K) where
   none_out image e (Flush r w) can = refl
   none_out image e (FlushBand band r w) can = refl
   none_out image e Close can = cc
+  none_out image e Take can = taken_none image e (end_of image e).drv
+  none_out image e Poll can = cc
 
   none_pushed : (image : Image K) (e : End) (request : Request (Shape K)) → can_lack_memory request ≡ true → pushed_of request ≡ []
   none_pushed image e (Putmsg flag parts) can = refl
@@ -82,6 +86,8 @@ module _ {K : Type 0} (means : Meaning K) where
   none_pushed image e (Flush r w) can = refl
   none_pushed image e (FlushBand band r w) can = refl
   none_pushed image e Close can = refl
+  none_pushed image e Take can = refl
+  none_pushed image e Poll can = refl
 
   -- the calls that await an answer are those that say so
   awaits_of : (image : Image K) (e : End) (request : Request (Shape K)) → (begun_of means image e request).awaits ≡ awaits_answer request
@@ -108,6 +114,8 @@ module _ {K : Type 0} (means : Meaning K) where
   awaits_of image e (Flush r w) = refl
   awaits_of image e (FlushBand band r w) = refl
   awaits_of image e Close = refl
+  awaits_of image e Take = taken_plain image e (end_of image e).drv
+  awaits_of image e Poll = refl
 
   ioctl_of : (image : Image K) (e : End) (request : Request (Shape K)) → awaits_answer request ≡ true → begun_of means image e request ≡ begun_ioctl (begun_of means image e request).image
   ioctl_of image e (Putmsg flag parts) awaits = cc
@@ -133,11 +141,17 @@ module _ {K : Type 0} (means : Meaning K) where
   ioctl_of image e (Flush r w) awaits = cc
   ioctl_of image e (FlushBand band r w) awaits = cc
   ioctl_of image e Close awaits = cc
+  ioctl_of image e Take awaits = cc
+  ioctl_of image e Poll awaits = cc
 
   -- a call that awaits an answer finds a stream that is not broken
+  awaits_finds : (request : Request (Shape K)) → awaits_answer request ≡ true → finds_whole request ≡ true
+  awaits_finds (Str cmd dat) awaits = refl
+  awaits_finds request awaits = cc
+
   pub ioctl_whole : (image : Image K) (e : End) (request : Request (Shape K)) (new : Image K) → refusal_of image e request ≡ None → awaits_answer request ≡ true → new ≡ (begun_of means image e request).image → new.broken ≡ false
   ioctl_whole image e request new unrefused awaits is =
-      ap (λ (i : Image K). i.broken) is ∙ (begun_opens means image e request).broken ∙ whole_of image e request unrefused (λ same. let no : false ≡ true = sym (ap (λ r. awaits_answer r) same) ∙ awaits in cc)
+      ap (λ (i : Image K). i.broken) is ∙ (begun_opens means image e request).broken ∙ whole_of image e request unrefused (awaits_finds request awaits)
 
   plain_reply : (b : Begun (Image K) K) (kept : Option Msg) → b.awaits ≡ false → reply_after b kept ≡ b.reply
   plain_reply b kept h = rw h refl
@@ -181,18 +195,28 @@ module _ {K : Type 0} (means : Meaning K) where
   pub ioctl_answers : (image : Image K) (e : End) (request : Request (Shape K)) (new : Image K) (answer : Answer) (moves : List Place) (after : Image K) → refusal_of image e request ≡ None → changes_no_queue request ≡ false → awaits_answer request ≡ true → new ≡ (begun_of means image e request).image → Finishes means e (begun_ioctl new) answer moves [] after → Answers means image e request answer moves (out_of means image e request answer) after
   ioctl_answers image e request new answer moves after unrefused changes awaits i finishes =
       from_begun image e request answer moves after unrefused changes
-      (λ broke. whole_of image e request unrefused (λ same. let no : false ≡ true = sym (ap (λ r. awaits_answer r) same) ∙ awaits in cc))
+      (λ broke. whole_of image e request unrefused (awaits_finds request awaits))
       (ioctl_out e (begun_of means image e request) new answer moves after i (ioctl_of image e request awaits) finishes)
+
+  -- a stream where nothing happens is quiet, or broken as it was
+  still_if : (image : Image K) (broken : Bool) → image.broken ≡ broken → IsKept image → SettlesUnless means broken image [] image
+  still_if image true is kept = record { stays = refl; unchanged = refl }
+  still_if image false is kept = record { leads = refl; quiet = kept.quiet is }
 
   -- a call that no service follows is finished when it was begun
   pub quiet_answers : (image : Image K) (e : End) (request : Request (Shape K)) (reply : Reply) (answer : Answer) (moves : List Place) (after : Image K) → IsKept image → refusal_of image e request ≡ None → needs_no_service image e request ≡ true → after ≡ (begun_of means image e request).image → reply ≡ (begun_of means image e request).reply → answer ≡ Done reply → moves ≡ [] → Answers means image e request answer moves (out_of means image e request answer) after
+  quiet_answers image e Close reply answer moves after kept unrefused is i r a m = cc
+  quiet_answers image e Poll reply answer moves after kept unrefused is i r a m =
+      let settles : SettlesUnless means image.broken image [] image = still_if image image.broken refl kept in
+      rw (a, m, i)
+      (unrefused, (λ quiet. refl), record { settled = image; settles = settles; replies = r; leaves = refl; takes = refl })
   quiet_answers image e request reply answer moves after kept unrefused is i r a m =
-      let whole = unserved_whole image e request unrefused is in
+      let whole = whole_of image e request unrefused refl in
       let b = begun_of means image e request in
       let quiet = unserved_begun means image e request is (kept.quiet whole) in
       let settles : SettlesUnless means b.image.broken b.image [] b.image = subst (λ (x : Bool). SettlesUnless means x b.image [] b.image) (sym (quiet.broken ∙ whole)) (record { leads = refl; quiet = quiet.quiet }) in
       rw (a, m, i)
-      (unrefused, (λ quiet. refl), record { settled = b.image; settles = settles; replies = r ∙ sym (plain_reply b _ quiet.awaits); leaves = ap (λ x. answered_if x e b.image) (sym quiet.awaits); takes = refl })
+      (unrefused, (λ quiet. refl), record { settled = b.image; settles = settles; replies = r ∙ sym (plain_reply b (end_of b.image e).state.kept quiet.awaits); leaves = ap (λ x. answered_if x e b.image) (sym quiet.awaits); takes = refl })
 
   -- what comes back of a call that was finished
   pub finished_back : (image : Image K) (e : End) (request : Request (Shape K)) (back : List (Option (Shape K))) (b : Begun (Image K) K) (answer : Answer) (moves : List Place) (out : List ℕ) (after : Image K) → back ≡ handed_out (begun_of means image e request).out → Finishes means e b answer moves out after → back ≡ back_of means image e request answer
@@ -258,6 +282,8 @@ own_are_other image e request = refl
 -- the first refusal that holds of a call is not want of memory
 pub refused_memory : {K : Type 0} (image : Image K) (e : End) (request : Request (Shape K)) (refusal : Refusal) → refusal_of image e request ≡ Some refusal → wants_memory (Refused refusal) ≡ false
 refused_memory image e Close refusal is = rows_not_memory (closed_refusals image e) refl refusal is
+refused_memory image e Take refusal is = rows_not_memory (take_refusals image e) refl refusal is
+refused_memory image e Poll refusal is = cc
 refused_memory image e request refusal is =
     let state = (end_of image e).state in
-    or_not_memory (first_that_holds (common_refusals image e request)) (first_that_holds (own_refusals image e request)) (rows_not_memory (common_refusals image e request) (error_are_other (errors_looked_at request) state.rd_errno state.wr_errno)) (rows_not_memory (own_refusals image e request) (own_are_other image e request)) refusal (sym (first_of_all image e request (λ same. cc)) ∙ is)
+    or_not_memory (first_that_holds (common_refusals image e request)) (first_that_holds (own_refusals image e request)) (rows_not_memory (common_refusals image e request) (error_are_other (errors_looked_at request) state.rd_errno state.wr_errno)) (rows_not_memory (own_refusals image e request) (own_are_other image e request)) refusal (sym (first_of_all image e request refl) ∙ is)

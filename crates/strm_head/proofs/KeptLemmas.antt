@@ -1,5 +1,5 @@
 -- What a stream keeps from call to call: which ends are open, and that no place must move.
-use Rattle.std.proofs.Common.{◌≡◌, ℕ, ◌+◌, ◌||◌, not, true, false, Bool, Option, Some, None, List, ◌∷◌, suc, zero, refl, sym, ◌∙◌, ap, subst, if◌then◌else◌}
+use Rattle.std.proofs.Common.{◌≡◌, ℕ, ◌+◌, ◌||◌, not, true, false, Bool, Option, Some, None, List, ◌∷◌, suc, zero, refl, sym, ◌∙◌, ap, subst, if◌then◌else◌, [], ◌&&◌}
 use Rattle.std.specs.Option.{option_or}
 use Rattle.strm_msg.specs.Message.{Msg, Part}
 use Rattle.strm_msg.specs.Kind.{is_high}
@@ -8,7 +8,9 @@ use Rattle.strm_msg.specs.declared.words.End.TheVariants.{A, B}
 use Rattle.strm_module.specs.Kinds.{Meaning}
 use Rattle.strm_module.specs.declared.shape.Shape.{Shape}
 use Rattle.strm_queue.specs.Queue.{put_in}
-use Rattle.strm_module.specs.Driver.{partner, has_end}
+use Rattle.strm_module.specs.Driver.{partner, has_end, input_end}
+use Rattle.strm_ioctl.specs.Outside.{has_output, take_refusals, taken_out}
+use Rattle.strm_ioctl.specs.Ask.{is_empty}
 use Rattle.strm_qpair.specs.End.{EndState, in_drv}
 use Rattle.strm_qpair.specs.Modules.{SameEnd}
 use Rattle.strm_qpair.specs.Canput.{above, slack_in}
@@ -26,10 +28,10 @@ use Rattle.strm_chain.specs.Deliver.{deliver}
 use Rattle.strm_chain.proofs.QuietLemmas.{same_end}
 use Rattle.strm_chain.proofs.SameLemmas.{deliver_keeps, leads_keeps, with_end_keeps}
 use Rattle.strm_call.specs.declared.request.Request.{Request}
-use Rattle.strm_call.specs.declared.request.Request.TheVariants.{Putmsg, Putpmsg, Getmsg, Getpmsg, Read, Write, Push, Nread, Peek, SetRead, GetRead, Canput, Ckband, Getband, Pop, Look, Find, Str, Flush, FlushBand, Close}
+use Rattle.strm_call.specs.declared.request.Request.TheVariants.{Putmsg, Putpmsg, Getmsg, Getpmsg, Read, Write, Push, Nread, Peek, SetRead, GetRead, Canput, Ckband, Getband, Pop, Look, Find, Str, Flush, FlushBand, Close, Take, Poll}
 use Rattle.strm_call.specs.declared.request.Request.TheVariants as Requests
 use Rattle.strm_call.specs.declared.refusal.Refusal.{Refusal}
-use Rattle.strm_call.specs.declared.refusal.Refusal.TheVariants.{Closed, Broken}
+use Rattle.strm_call.specs.declared.refusal.Refusal.TheVariants.{Closed, Broken, Invalid, WouldWait}
 use Rattle.strm_call.specs.declared.answer.Reply.{Reply}
 use Rattle.strm_call.specs.declared.answer.Answer.{Answer}
 use Rattle.strm_call.specs.declared.answer.Answer.TheVariants.{Done, Refused, Broke}
@@ -40,7 +42,7 @@ use Rattle.strm_ioctl.specs.Ioctl.{asked_of}
 use Rattle.strm_ioctl.specs.Close.{closed_image, after_close}
 use Rattle.strm_ioctl.proofs.CloseLemmas.{hung_up_keeps}
 use Rattle.strm_call.specs.Request.{changes_no_queue}
-use Rattle.strm_head.specs.Begin.{begun_of, refusal_of, errors_at, common_refusals, own_refusals}
+use Rattle.strm_head.specs.Begin.{begun_of, refusal_of, errors_at, finds_whole, common_refusals, own_refusals}
 use Rattle.strm_head.proofs.RefusalLemmas.{first_of_all}
 use Rattle.strm_head.specs.Inside.{HasItsEnds, IsIdle, AreIdle, IsKept, OpensNone}
 use Rattle.strm_head.specs.Step.{Answers, IsDone, IsBroken, SettlesUnless, Lands, arrival, arrived_of, answered_if}
@@ -84,10 +86,24 @@ pub none_before : (first later : Option Refusal) → option_or first later ≡ N
 none_before None later h = refl
 none_before (Some refusal) later h = cc
 
-pub whole_of : {K : Type 0} (image : Image K) (e : End) (request : Request (Shape K)) → refusal_of image e request ≡ None → (request ≡ Close → ⊥) → image.broken ≡ false
-whole_of image e request h other =
+-- nor is what would be refused by a second row
+pub second_false : (one two : Bool) (r s : Refusal) (rows : List (Bool × Refusal)) → first_that_holds ((one, r) ∷ (two, s) ∷ rows) ≡ None → two ≡ false
+second_false false false r s rows h = refl
+second_false false true r s rows h = cc
+second_false true two r s rows h = cc
+
+pub take_whole : {K : Type 0} (image : Image K) (e : End) → first_that_holds (take_refusals image e) ≡ None → image.broken ≡ false
+take_whole image e h =
+    second_false (not (has_output image e) && not (end_of image e).is_open) image.broken Closed Broken
+    ((not (has_output image e), Invalid) ∷ ((is_empty (end_of image e).drv && (end_of image e).is_open, WouldWait) ∷ [])) h
+
+pub whole_of : {K : Type 0} (image : Image K) (e : End) (request : Request (Shape K)) → refusal_of image e request ≡ None → finds_whole request ≡ true → image.broken ≡ false
+whole_of image e Close h finds = cc
+whole_of image e Poll h finds = cc
+whole_of image e Take h finds = take_whole image e h
+whole_of image e request h finds =
     whole_if (end_of image e).is_open image.broken (errors_at image e request)
-    (none_before (first_that_holds (common_refusals image e request)) (first_that_holds (own_refusals image e request)) (sym (first_of_all image e request other) ∙ h))
+    (none_before (first_that_holds (common_refusals image e request)) (first_that_holds (own_refusals image e request)) (sym (first_of_all image e request refl) ∙ h))
 
 -- the record of a head is no part of what moves
 same_above : {K : Type 0} (image : Image K) (e : End) (r : Record) (p : End) → above (end_of (with_state image e r) p) (count_of (with_state image e r) p + 1) ≡ above (end_of image p) (count_of image p + 1)
@@ -224,6 +240,10 @@ module _ {K : Type 0} (means : Meaning K) where
   after_keeps true image e = same_image image
   after_keeps false image e = hung_up_keeps means image (partner image.driver e)
 
+  taken_opens : (image : Image K) (e : End) (q : List Msg) → OpensNone image (taken_out image e q).image
+  taken_opens image e [] = none_opens image
+  taken_opens image e (m ∷ q) = end_opens image e (in_drv (end_of image e) q) refl
+
   -- no call opens an end
   pub begun_opens : (image : Image K) (e : End) (request : Request (Shape K)) → OpensNone image (begun_of means image e request).image
   begun_opens image e (Putmsg flag parts) = sent_opens image e (putmsg_message parts.ctl parts.dat flag)
@@ -249,6 +269,8 @@ module _ {K : Type 0} (means : Meaning K) where
   begun_opens image e (Str cmd dat) = asked_opens image e cmd dat (end_of image e).state.next
   begun_opens image e (Flush r w) = same_opens image _ (deliver_keeps means image (Down e 1) _)
   begun_opens image e (FlushBand band r w) = same_opens image _ (deliver_keeps means image (Down e 1) _)
+  begun_opens image e Take = taken_opens image e (end_of image e).drv
+  begun_opens image e Poll = none_opens image
   begun_opens image e Close =
       opens_trans image (closed_image image e) _ (closed_opens image e) (same_opens (closed_image image e) _ (after_keeps image.broken (closed_image image e) e))
 
@@ -278,6 +300,8 @@ module _ {K : Type 0} (means : Meaning K) where
   quiet_begun image e (Flush r w) is quiet = cc
   quiet_begun image e (FlushBand band r w) is quiet = cc
   quiet_begun image e Close is quiet = cc
+  quiet_begun image e Take is quiet = cc
+  quiet_begun image e Poll is quiet = record { quiet = quiet; broken = refl; awaits = refl }
 
   sent_idle : (image : Image K) (e : End) (m : Option Msg) → AreIdle image → AreIdle (sent_of means image e m)
   sent_idle image e None idle = idle
@@ -289,6 +313,10 @@ module _ {K : Type 0} (means : Meaning K) where
   asked_idle image e cmd dat (Some id) idle =
       let r = begun_with (end_of image e).state (Some id) in
       idle_ended image e r _ (deliver_keeps means (with_state image e r) (Down e 1) _) idle
+
+  taken_idle : (image : Image K) (e : End) (q : List Msg) → AreIdle image → AreIdle (answered_if (taken_out image e q).awaits e (taken_out image e q).image)
+  taken_idle image e [] idle = idle
+  taken_idle image e (m ∷ q) idle = idle_with image e (in_drv (end_of image e) q) (idle e) idle
 
   -- a call awaits no answer once it has it
   begun_idle : (image : Image K) (e : End) (request : Request (Shape K)) → AreIdle image → AreIdle (answered_if (begun_of means image e request).awaits e (begun_of means image e request).image)
@@ -315,6 +343,8 @@ module _ {K : Type 0} (means : Meaning K) where
   begun_idle image e (Str cmd dat) idle = asked_idle image e cmd dat (end_of image e).state.next idle
   begun_idle image e (Flush r w) idle = idle_same image _ (deliver_keeps means image (Down e 1) _) idle
   begun_idle image e (FlushBand band r w) idle = idle_same image _ (deliver_keeps means image (Down e 1) _) idle
+  begun_idle image e Take idle = taken_idle image e (end_of image e).drv idle
+  begun_idle image e Poll idle = idle
   begun_idle image e Close idle =
       idle_same (closed_image image e) _ (after_keeps image.broken (closed_image image e) e) (idle_with image e (closed (end_of image e)) (idle e) idle)
 
@@ -368,14 +398,14 @@ module _ {K : Type 0} (means : Meaning K) where
   answered_kept image e request Broke moves out after kept answers =
       broken_kept (begun_of means image e request) moves out after (begun_ends image e request kept) answers.3
 
-  arrived_if : (high : Bool) (image : Image K) (e : End) (m : Msg) → SameModules image (if high then deliver means image (Up e (count_of image e)) m else with_end image e (in_drv (end_of image e) (put_in (end_of image e).drv m)))
-  arrived_if true image e m = deliver_keeps means image (Up e (count_of image e)) m
-  arrived_if false image e m =
-      with_end_keeps image e (in_drv (end_of image e) (put_in (end_of image e).drv m)) (same_but_drv (end_of image e) (put_in (end_of image e).drv m))
+  arrived_if : (high : Bool) (image : Image K) (e at : End) (m : Msg) → SameModules image (if high then deliver means image (Up e (count_of image e)) m else with_end image at (in_drv (end_of image at) (put_in (end_of image at).drv m)))
+  arrived_if true image e at m = deliver_keeps means image (Up e (count_of image e)) m
+  arrived_if false image e at m =
+      with_end_keeps image at (in_drv (end_of image at) (put_in (end_of image at).drv m)) (same_but_drv (end_of image at) (put_in (end_of image at).drv m))
 
   -- a message that comes in keeps what no message changes
   pub arrived_keeps : (image : Image K) (e : End) (m : Msg) → SameModules image (arrived_of means image e m)
-  arrived_keeps image e m = arrived_if (is_high m.kind) image e m
+  arrived_keeps image e m = arrived_if (is_high m.kind) image e (input_end image.driver) m
 
   -- and so what a stream keeps
   pub landed_kept : (image : Image K) (e : End) (m : Msg) (answer : Answer) (moves : List Place) (out : List ℕ) (after : Image K) → IsKept image → Lands means image e m answer moves out after → IsKept after

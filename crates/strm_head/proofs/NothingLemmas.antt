@@ -11,7 +11,7 @@ use Rattle.strm_module.specs.declared.shape.Shape.{Shape}
 use Rattle.strm_ends.specs.Image.{Image, end_of, with_head}
 use Rattle.strm_ends.specs.Flow.{IsQuiet}
 use Rattle.strm_call.specs.declared.request.Request.{Request}
-use Rattle.strm_call.specs.declared.request.Request.TheVariants.{Putmsg, Putpmsg, Getmsg, Getpmsg, Read, Peek, Str}
+use Rattle.strm_call.specs.declared.request.Request.TheVariants.{Putmsg, Putpmsg, Getmsg, Getpmsg, Read, Peek, Str, Take}
 use Rattle.strm_call.specs.declared.request.Priority.{Priority}
 use Rattle.strm_call.specs.declared.request.Priority.TheVariants as Priorities
 use Rattle.strm_call.specs.declared.request.PutFlag.{PutFlag}
@@ -28,9 +28,10 @@ use Rattle.strm_msgio.specs.Send.{sent_of, putmsg_message, putpmsg_message}
 use Rattle.strm_msgio.specs.Take.{taken_from, peeked_of, peek_begun, shows_nothing}
 use Rattle.strm_read.specs.Read.{read_of}
 use Rattle.strm_ioctl.specs.Ask.{is_empty}
+use Rattle.strm_ioctl.specs.Outside.{taken_out}
 use Rattle.strm_head.specs.Begin.{begun_of, refusal_of, has_nothing_to_do, takes_no_memory_at, sends_nothing, awaits_answer}
 use Rattle.strm_head.specs.Begins.{needs_no_service}
-use Rattle.strm_head.proofs.KeptLemmas.{IsQuietly, quiet_begun, whole_of}
+use Rattle.strm_head.proofs.KeptLemmas.{IsQuietly, quiet_begun}
 
 -- no message waits
 empty_of : {X : Type 0} (q : List X) → is_empty q ≡ true → q ≡ []
@@ -109,11 +110,6 @@ left_quiet {K} image after reply same quiet =
       awaits = refl;
     }
 
--- a call that no service follows is no close
-pub unserved_whole : {K : Type 0} (image : Image K) (e : End) (request : Request (Shape K)) → refusal_of image e request ≡ None → needs_no_service image e request ≡ true → image.broken ≡ false
-unserved_whole image e request unrefused needs =
-    whole_of image e request unrefused (λ is. let no : false ≡ true = sym (ap (λ r. needs_no_service image e r) is) ∙ needs in cc)
-
 -- what takes no memory is followed by no service
 pub served_takes : {K : Type 0} (image : Image K) (e : End) (request : Request (Shape K)) → needs_no_service image e request ≡ false → takes_no_memory_at image e request ≡ false
 served_takes image e (Peek maxctl maxdat flag) needs = absurd cc
@@ -133,6 +129,10 @@ module _ {K : Type 0} (means : Meaning K) where
   unsent : (image : Image K) (e : End) (m : Option Msg) → m ≡ None → sent_of means image e m ≡ image
   unsent image e m none = ap (λ found. sent_of means image e found) none
 
+  untaken : (image : Image K) (e : End) (q : List Msg) → is_empty q ≡ true → IsQuiet image → IsQuietly image (taken_out image e q)
+  untaken image e [] none quiet = left_quiet image image Replies.Hangup refl quiet
+  untaken image e (m ∷ q) none quiet = absurd cc
+
   -- a call that has nothing to do leaves a quiet stream as it was
   nothing_begun : (image : Image K) (e : End) (request : Request (Shape K)) → has_nothing_to_do image e request ≡ true → IsQuiet image → IsQuietly image (begun_of means image e request)
   nothing_begun image e (Putmsg flag parts) none quiet =
@@ -149,6 +149,7 @@ module _ {K : Type 0} (means : Meaning K) where
   nothing_begun image e (Read (suc n)) none quiet =
       let end = end_of image e in
       left_quiet image _ _ (stayed image e (read_of end.state.mode end.state.prot (suc n) end.head).stays (none_read end.state.mode end.state.prot (suc n) end.head none)) quiet
+  nothing_begun image e Take none quiet = untaken image e (end_of image e).drv none quiet
   nothing_begun image e request none quiet = absurd cc
 
   unserved_by : (image : Image K) (e : End) (request : Request (Shape K)) (quietly nothing : Bool) → changes_no_queue request ≡ quietly → has_nothing_to_do image e request ≡ nothing → (quietly || nothing) ≡ true → IsQuiet image → IsQuietly image (begun_of means image e request)

@@ -5,7 +5,7 @@ use Rattle.strm_msg.specs.declared.words.End.{End}
 use Rattle.strm_module.specs.declared.shape.Shape.{Shape}
 use Rattle.strm_ends.specs.Image.{Image, end_of}
 use Rattle.strm_call.specs.declared.request.Request.{Request}
-use Rattle.strm_call.specs.declared.request.Request.TheVariants.{Putmsg, Putpmsg, Getmsg, Getpmsg, Read, Write, Push, Nread, Peek, SetRead, GetRead, Canput, Ckband, Getband, Pop, Look, Find, Str, Flush, FlushBand, Close}
+use Rattle.strm_call.specs.declared.request.Request.TheVariants.{Putmsg, Putpmsg, Getmsg, Getpmsg, Read, Write, Push, Nread, Peek, SetRead, GetRead, Canput, Ckband, Getband, Pop, Look, Find, Str, Flush, FlushBand, Close, Take, Poll}
 use Rattle.strm_call.specs.declared.request.Request.TheVariants as Requests
 use Rattle.strm_call.specs.declared.refusal.Refusal.{Refusal}
 use Rattle.strm_call.specs.declared.refusal.Refusal.TheVariants.{Closed, Broken}
@@ -57,3 +57,5 @@ in_order image e (Str cmd dat) = ordered image e (true, true) (str_refusals imag
 in_order image e (Flush r w) = ordered image e (true, true) (flush_refusals image e r w) refl (λ x. refl) (λ y. refl) (λ x y. refl)
 in_order image e (FlushBand band r w) = ordered image e (true, true) (flush_refusals image e r w) refl (λ x. refl) (λ y. refl) (λ x y. refl)
 in_order image e Close = refl
+in_order image e Take = refl
+in_order image e Poll = refl

@@ -5,10 +5,10 @@ use Rattle.strm_msg.specs.declared.words.End.{End}
 use Rattle.strm_module.specs.declared.shape.Shape.{Shape}
 use Rattle.strm_ends.specs.Image.{Image}
 use Rattle.strm_call.specs.declared.request.Request.{Request}
-use Rattle.strm_call.specs.declared.request.Request.TheVariants.{Close}
+use Rattle.strm_call.specs.declared.request.Request.TheVariants.{Close, Take, Poll}
 use Rattle.strm_call.specs.declared.refusal.Refusal.{Refusal}
 use Rattle.strm_call.specs.Refusal.{first_that_holds}
-use Rattle.strm_head.specs.Begin.{common_refusals, own_refusals, refusal_of}
+use Rattle.strm_head.specs.Begin.{common_refusals, own_refusals, is_common, refusal_of}
 
 -- of two lists, one behind the other
 pub first_of_both : (first later : List (Bool × Refusal)) → first_that_holds (first ++ later) ≡ option_or (first_that_holds first) (first_that_holds later)
@@ -16,7 +16,15 @@ first_of_both [] later = refl
 first_of_both ((true, refusal) ∷ first) later = refl
 first_of_both ((false, refusal) ∷ first) later = first_of_both first later
 
--- of all that may refuse a call that is no close
-pub first_of_all : {K : Type 0} (image : Image K) (e : End) (request : Request (Shape K)) → (request ≡ Close → ⊥) → refusal_of image e request ≡ option_or (first_that_holds (common_refusals image e request)) (first_that_holds (own_refusals image e request))
-first_of_all image e Close other = absurd (other refl)
+-- of all that may refuse a call that is refused by what refuses most
+pub first_of_all : {K : Type 0} (image : Image K) (e : End) (request : Request (Shape K)) → is_common request ≡ true → refusal_of image e request ≡ option_or (first_that_holds (common_refusals image e request)) (first_that_holds (own_refusals image e request))
+first_of_all image e Close other = cc
+first_of_all image e Take other = cc
+first_of_all image e Poll other = cc
 first_of_all image e request other = first_of_both (common_refusals image e request) (own_refusals image e request)
+
+pub common_of : {P : Type 0} (request : Request P) → (request ≡ Close → ⊥) → (request ≡ Take → ⊥) → (request ≡ Poll → ⊥) → is_common request ≡ true
+common_of Close c t p = absurd (c refl)
+common_of Take c t p = absurd (t refl)
+common_of Poll c t p = absurd (p refl)
+common_of request c t p = refl

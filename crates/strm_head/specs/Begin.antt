@@ -8,7 +8,7 @@ use Rattle.strm_module.specs.declared.shape.Shape.{Shape}
 use Rattle.strm_ends.specs.Image.{Image, end_of}
 use Rattle.strm_ends.specs.Flow.{NoneMay}
 use Rattle.strm_call.specs.declared.request.Request.{Request}
-use Rattle.strm_call.specs.declared.request.Request.TheVariants.{Putmsg, Putpmsg, Getmsg, Getpmsg, Read, Write, Push, Nread, Peek, SetRead, GetRead, Canput, Ckband, Getband, Pop, Look, Find, Str, Flush, FlushBand, Close}
+use Rattle.strm_call.specs.declared.request.Request.TheVariants.{Putmsg, Putpmsg, Getmsg, Getpmsg, Read, Write, Push, Nread, Peek, SetRead, GetRead, Canput, Ckband, Getband, Pop, Look, Find, Str, Flush, FlushBand, Close, Take, Poll}
 use Rattle.strm_call.specs.declared.refusal.Refusal.{Refusal}
 use Rattle.strm_call.specs.declared.refusal.Refusal.TheVariants.{Closed, Broken, ReadError, WriteError, NoMemory}
 use Rattle.strm_call.specs.declared.answer.Answer.{Answer}
@@ -26,6 +26,8 @@ use Rattle.strm_ioctl.specs.Names.{find_refusals, list_begun, find_begun}
 use Rattle.strm_ioctl.specs.Ioctl.{str_refusals, str_begun}
 use Rattle.strm_ioctl.specs.Flush.{flush_refusals, flush_begun, flush_band_begun}
 use Rattle.strm_ioctl.specs.Close.{hangs_up, close_begun}
+use Rattle.strm_ioctl.specs.Outside.{take_refusals, take_begun}
+use Rattle.strm_ioctl.specs.Poll.{poll_begun}
 
 -- what may refuse a call of its kind alone, in the order in which it is looked for: whether it holds, and the refusal
 abbrev pub own_refusals : {K : Type 0} → Image K → End → Request (Shape K) → List (Bool × Refusal)
@@ -43,10 +45,11 @@ own_refusals image e (Find name) = find_refusals name
 own_refusals image e (Str cmd dat) = str_refusals image e dat
 own_refusals image e (Flush r w) = flush_refusals image e r w
 own_refusals image e (FlushBand band r w) = flush_refusals image e r w
+own_refusals image e Take = take_refusals image e
 own_refusals image e request = []
 
 -- which errors a call looks at, that of the read side and that of the write side: calls that receive look at the first, calls
--- that send at the second, a close at neither, and all others at both
+-- that send at the second, a close, a take and a poll at neither, and all others at both
 abbrev pub errors_looked_at : {P : Type 0} → Request P → Bool × Bool
 errors_looked_at (Getmsg maxctl maxdat flag) = (true, false)
 errors_looked_at (Getpmsg maxctl maxdat band flag) = (true, false)
@@ -60,6 +63,8 @@ errors_looked_at (Putpmsg band flag parts) = (false, true)
 errors_looked_at (Write dat) = (false, true)
 errors_looked_at (Canput band) = (false, true)
 errors_looked_at Close = (false, false)
+errors_looked_at Take = (false, false)
+errors_looked_at Poll = (false, false)
 errors_looked_at request = (true, true)
 
 -- an error that came up refuses the calls that look at it
@@ -80,15 +85,31 @@ errors_at image e request =
 abbrev pub closed_refusals : {K : Type 0} → Image K → End → List (Bool × Refusal)
 closed_refusals image e = (not (end_of image e).is_open, Closed) ∷ []
 
--- what refuses every call but a close, in this order: a closed end, a broken stream, the errors that came up and that it looks at
+-- what refuses every call but a close, a take and a poll, in this order: a closed end, a broken stream, the errors that came up and that it looks at
 abbrev pub common_refusals : {K : Type 0} → Image K → End → Request (Shape K) → List (Bool × Refusal)
 common_refusals image e request =
     (not (end_of image e).is_open, Closed) ∷ (image.broken, Broken) ∷ errors_at image e request
 
--- all that may refuse a call, in the order in which it is looked for. An end is closed also after an error, and on a broken stream
+-- all that may refuse a call, in the order in which it is looked for. An end is closed also after an error, and on a broken stream;
+-- a take is made outside of the stream, and a poll tells what would refuse the others
 abbrev pub refusals : {K : Type 0} → Image K → End → Request (Shape K) → List (Bool × Refusal)
 refusals image e Close = closed_refusals image e
+refusals image e Take = take_refusals image e
+refusals image e Poll = []
 refusals image e request = common_refusals image e request ++ own_refusals image e request
+
+-- the calls that are refused by what refuses most: all but a close, a take and a poll
+abbrev pub is_common : {P : Type 0} → Request P → Bool
+is_common Close = false
+is_common Take = false
+is_common Poll = false
+is_common request = true
+
+-- the calls that are refused on a broken stream: all but a close and a poll
+abbrev pub finds_whole : {P : Type 0} → Request P → Bool
+finds_whole Close = false
+finds_whole Poll = false
+finds_whole request = true
 
 -- the refusal of a call: the first that holds
 abbrev pub refusal_of : {K : Type 0} → Image K → End → Request (Shape K) → Option Refusal
@@ -123,6 +144,8 @@ begun_of means image e (Str cmd dat) = str_begun means image e cmd dat
 begun_of means image e (Flush r w) = flush_begun means image e r w
 begun_of means image e (FlushBand band r w) = flush_band_begun means image e band r w
 begun_of means image e Close = close_begun means image e
+begun_of means image e Take = take_begun image e
+begun_of means image e Poll = poll_begun image e
 
 -- the calls that never want for memory
 abbrev pub takes_no_memory : {P : Type 0} → Request P → Bool
@@ -132,13 +155,15 @@ takes_no_memory GetRead = true
 takes_no_memory (Canput band) = true
 takes_no_memory (Ckband band) = true
 takes_no_memory Getband = true
+takes_no_memory Poll = true
 takes_no_memory Look = true
 takes_no_memory Request.List = true
 takes_no_memory (Find name) = true
 takes_no_memory request = false
 
 -- a call that has nothing to send, or finds nothing to take: a putmsg and a putpmsg without parts, a read of no
--- bytes, and where no message waits a getmsg, a getpmsg and a read, which a hung up end does not refuse
+-- bytes, where no message waits a getmsg, a getpmsg and a read, which a hung up end does not refuse, and of a closed
+-- wire that holds no output a take
 abbrev pub has_nothing_to_do : {K : Type 0} → Image K → End → Request (Shape K) → Bool
 has_nothing_to_do image e (Putmsg flag parts) = is_none parts.ctl && is_none parts.dat
 has_nothing_to_do image e (Putpmsg band flag parts) = is_none parts.ctl && is_none parts.dat
@@ -146,6 +171,7 @@ has_nothing_to_do image e (Getmsg maxctl maxdat flag) = is_empty (end_of image e
 has_nothing_to_do image e (Getpmsg maxctl maxdat band flag) = is_empty (end_of image e).head
 has_nothing_to_do image e (Read zero) = true
 has_nothing_to_do image e (Read (suc n)) = is_empty (end_of image e).head
+has_nothing_to_do image e Take = is_empty (end_of image e).drv
 has_nothing_to_do image e request = false
 
 -- the calls that never want for memory on a stream as it is: those that only tell or set something, those that

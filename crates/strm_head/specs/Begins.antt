@@ -9,7 +9,7 @@ use Rattle.strm_chain.specs.declared.spot.Spot.TheVariants.{Down}
 use Rattle.strm_chain.specs.declared.fault.ChainFault.{ChainFault}
 use Rattle.strm_chain.specs.declared.fault.ChainFault.TheVariants.{NoMem, Broken}
 use Rattle.strm_call.specs.declared.request.Request.{Request}
-use Rattle.strm_call.specs.declared.request.Request.TheVariants.{Close}
+use Rattle.strm_call.specs.declared.request.Request.TheVariants.{Close, Take, Poll}
 use Rattle.strm_call.specs.declared.answer.Reply.{Reply}
 use Rattle.strm_chain.specs.Fault.{Fails}
 use Rattle.strm_call.specs.Request.{changes_no_queue}
@@ -26,6 +26,8 @@ pub record IsReady {K : Type 0} (image : Image K) (e : End) : Type 0 where
 -- call that a message can be sent
 abbrev pub MayBegin : {K : Type 0} → Image K → End → Request (Shape K) → Type 0
 MayBegin image e Close = HasItsEnds image
+MayBegin image e Take = Unit {0}
+MayBegin image e Poll = Unit {0}
 MayBegin image e request = IsReady image e
 
 -- the calls that no service follows: those that change no queue, and those that have nothing to do

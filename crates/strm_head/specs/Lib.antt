@@ -5,3 +5,4 @@ pub mod Inside
 pub mod Step
 pub mod Arrive
 pub mod Begins
+pub mod Polls

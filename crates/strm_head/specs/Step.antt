@@ -6,8 +6,9 @@ use Rattle.strm_msg.specs.declared.words.End.{End}
 use Rattle.strm_queue.specs.Queue.{is_full, put_in}
 use Rattle.strm_module.specs.Kinds.{Meaning}
 use Rattle.strm_module.specs.declared.shape.Shape.{Shape}
-use Rattle.strm_module.specs.Driver.{is_line}
+use Rattle.strm_module.specs.Driver.{is_line, input_end}
 use Rattle.strm_qpair.specs.Change.{ended}
+use Rattle.strm_qpair.specs.End.{EndState}
 use Rattle.strm_ends.specs.declared.place.Place.{Place}
 use Rattle.strm_chain.specs.declared.spot.Spot.TheVariants.{Up}
 use Rattle.strm_ends.specs.Image.{Image, end_of, with_drv, with_state, count_of}
@@ -45,11 +46,15 @@ pub record IsBroken {K : Type 0} (begun : Begun (Image K) K) (moves : List Place
   pub stays : moves ≡ []
   pub takes : out ≡ serials_of begun.out
 
+-- the end in whose driver's list what came in waits
+abbrev pub input : {K : Type 0} → Image K → EndState K
+input image = end_of image (input_end image.driver)
+
 -- a message can come in: from a line, of a kind that comes from there, at an open end of a stream that is not broken, and an
--- ordinary one unless its band is full in the line's list
+-- ordinary one unless its band is full in the list of what came in
 abbrev pub can_arrive : {K : Type 0} → Image K → End → Msg → Bool
 can_arrive image e m =
-    is_line image.driver && is_from_line m.kind && (end_of image e).is_open && not image.broken && (is_high m.kind || not (is_full (end_of image e).drv_marks (end_of image e).drv m.band))
+    is_line image.driver && is_from_line m.kind && (end_of image e).is_open && not image.broken && (is_high m.kind || not (is_full (input image).drv_marks (input image).drv m.band))
 
 -- what an arrival has done before any queue moves
 abbrev pub arrival : {K : Type 0} → Image K → Begun (Image K) K
@@ -102,10 +107,10 @@ module _ {K : Type 0} (means : Meaning K) where
   Answers image e request Broke moves out after =
       (refusal_of image e request ≡ None) × (changes_no_queue request ≡ false) × (image.broken ≡ false) × Finishes e (begun_of means image e request) Broke moves out after
 
-  -- an ordinary message that came in from a line waits in the line's list, a high one goes up at once
+  -- an ordinary message that came in from a line waits in the list of what came in, a high one goes up at once
   abbrev pub arrived_of : Image K → End → Msg → Image K
   arrived_of image e m =
-      if is_high m.kind then deliver means image (Up e (count_of image e)) m else with_drv image e (put_in (end_of image e).drv m)
+      if is_high m.kind then deliver means image (Up e (count_of image e)) m else with_drv image (input_end image.driver) (put_in (input image).drv m)
 
   -- a message comes in from a line, after which what must move has moved
   abbrev pub Lands : Image K → End → Msg → Answer → List Place → List ℕ → Image K → Type 0

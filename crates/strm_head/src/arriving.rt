@@ -7,7 +7,7 @@ ghost use Rattle.strm_head.specs.Arrive.{Arrives, HasGiven, NotIn};
 ghost use Rattle.strm_head.specs.Inside.{IsKept};
 
 use crate::outcome::Arrived;
-use strm_chain::{Chain, ChainFault, Driver, Spot, deliver};
+use strm_chain::{Chain, ChainFault, Spot, deliver};
 use strm_module::ModuleOf;
 use strm_msg::{BoxedMessage, End, Message};
 
@@ -15,7 +15,7 @@ use strm_msg::{BoxedMessage, End, Message};
 pub(crate) fn can_arrive<M: ModuleOf>(chain: &Chain<M>, m: &Message) -> bool
     ensures { result ≡ can_arrive chain.now.image Ends.A m.now }
 {
-    if chain.driver() != Driver::Line || !m.from_line() {
+    if !chain.driver().is_line() || !m.from_line() {
         return false;
     }
     if !chain.is_open(End::A) || chain.is_broken() {
@@ -49,7 +49,7 @@ fn send_up<M: ModuleOf>(chain: &mut Chain<M>, m: Message) -> Result<(), Arrived>
     }
 }
 
-/// An ordinary message waits in the line's list. It comes back for want of memory alone.
+/// An ordinary message waits in the list of what came in. It comes back for want of memory alone.
 fn wait_below<M: ModuleOf>(chain: &mut Chain<M>, m: Message) -> Result<(), Arrived>
     requires can { can_arrive chain.old.image Ends.A m ≡ true }
     requires ordinary { is_high m.kind ≡ false }
@@ -66,7 +66,7 @@ fn wait_below<M: ModuleOf>(chain: &mut Chain<M>, m: Message) -> Result<(), Arriv
     }
 }
 
-/// A message that can come in does so: an ordinary one waits in the line's list, a high one goes up.
+/// A message that can come in does so: an ordinary one waits in the list of what came in, a high one goes up.
 fn take_in<M: ModuleOf>(chain: &mut Chain<M>, m: Message) -> Result<(), Arrived>
     requires can { can_arrive chain.old.image Ends.A m ≡ true }
     ensures image { OnOk result (chain.new.image ≡ arrived_of M.Kind.means chain.old.image Ends.A m) }

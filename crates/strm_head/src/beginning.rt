@@ -21,8 +21,8 @@ use strm_call::{
 };
 use strm_chain::{Chain, ChainFault};
 use strm_ioctl::{
-    canput, ckband, close, find, flush, get_read, getband, list, look, nread, pop, push,
-    send_ioctl, set_read,
+    canput, ckband, close, find, flush, get_read, getband, list, look, nread, poll, pop, push,
+    send_ioctl, set_read, take,
 };
 use strm_module::{Boxed, ModuleOf};
 use strm_msg::{Bytes, End, NoMem};
@@ -223,6 +223,15 @@ fn begin_peek<M: ModuleOf, A: Replied>(
     taken(seen(alloc, peek(chain, end, maxctl, maxdat, flag)))
 }
 
+/// Begins a take.
+#[inline(never)]
+fn begin_take<M: ModuleOf, A: Replied>(chain: &mut Chain<M>, end: End) -> Result<A, ChainFault>
+    requires { first_that_holds (own_refusals chain.old.image end Requests.Take) ≡ None }
+    ensures { Begins M.Kind.means chain.old.image end Requests.Take (said A.says result) chain.new.image }
+{
+    taken(take(chain, end))
+}
+
 /// Begins an ioctl.
 #[inline(never)]
 fn begin_str<M: ModuleOf, A: Replied>(
@@ -286,6 +295,7 @@ fn told<M: ModuleOf>(chain: &mut Chain<M>, end: End, request: &Request<Boxed<M>>
         Request::Canput { band } => canput(chain, end, *band),
         Request::Ckband { band } => ckband(chain, end, *band),
         Request::Getband => getband(chain, end),
+        Request::Poll => poll(chain, end),
         Request::Look => look(chain, end),
         Request::List => list(chain, end),
         Request::Find { name } => find(chain, end, name),
@@ -350,6 +360,7 @@ pub(crate) fn begin<M: ModuleOf, A: Replied>(
         Request::Flush { r, w } => begin_flush(chain, end, r, w),
         Request::FlushBand { band, r, w } => begin_flush_band(chain, end, band, r, w),
         Request::Close => begin_close(chain, end, back),
+        Request::Take => begin_take(chain, end),
         other => begin_telling(chain, end, other),
     }
 }

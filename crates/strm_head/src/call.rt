@@ -8,6 +8,7 @@ ghost use Rattle.strm_call.specs.Request.{changes_no_queue};
 ghost use Rattle.strm_ends.specs.Flow.{NoneMay};
 ghost use Rattle.strm_head.specs.Begin.{AreRefusalsInOrder, own_refusals, closed_refusals, errors_looked_at, error_refusals, common_refusals, refusal_of, begun_of, awaits_answer, has_nothing_to_do, takes_no_memory_at, back_of, out_of, wants_memory, BreaksNone};
 ghost use Rattle.strm_head.specs.Begins.{needs_no_service};
+ghost use Rattle.strm_head.specs.Polls.{PollTells};
 ghost use Rattle.strm_module.specs.Calm.{IsCalm};
 ghost use Rattle.strm_head.specs.Answered.{AreGiven, IsLooked, IsBounded};
 ghost use Rattle.strm_head.specs.Inside.{IsKept};
@@ -22,7 +23,7 @@ use strm_call::{Acknowledged, Refusal, Replied, Reply, Request};
 use strm_chain::{Chain, ChainFault, MOST_MODULES, Settled};
 use strm_ioctl::{
     acknowledged, find_refusal, flush_refusal, getband_refusal, look_refusal, pop_refusal,
-    push_refusal, str_refusal,
+    push_refusal, str_refusal, take_refusal,
 };
 use strm_module::{Boxed, ModuleOf};
 use strm_msg::{BoxedMessage, End, Errno, Message, NoMem};
@@ -32,6 +33,12 @@ use strm_read::read_refusal;
 /// A law, which nothing is done for: what may refuse a call is looked for in the order of the refusals.
 pub fn refusals_are_in_order<M: ModuleOf>()
     ensures { AreRefusalsInOrder M.Kind }
+{}
+
+/// A law, which nothing is done for: of an end of which a poll tells neither that it is closed nor an error, what it tells and
+/// what would refuse calls there are one thing.
+pub fn poll_tells<M: ModuleOf>()
+    ensures { PollTells M.Kind }
 {}
 
 /// The modules that come back of a call, each as `Some`, topmost first.
@@ -63,7 +70,7 @@ fn errors_looked_at<P>(request: &Request<P>) -> (bool, bool)
         | Request::Putpmsg { .. }
         | Request::Write { .. }
         | Request::Canput { .. } => (false, true),
-        Request::Close => (false, false),
+        Request::Close | Request::Take | Request::Poll => (false, false),
         _ => (true, true),
     }
 }
@@ -119,6 +126,7 @@ fn own_refusal<M: ModuleOf>(
         Request::Push { .. } => push_refusal(chain, end),
         Request::Getband => getband_refusal(chain, end),
         Request::Pop => pop_refusal(chain, end),
+        Request::Take => take_refusal(chain, end),
         Request::Look => look_refusal(chain, end),
         Request::Find { name } => find_refusal(name),
         Request::Str { dat, .. } => str_refusal(chain, end, dat),
@@ -139,6 +147,8 @@ pub(crate) fn first_refusal<M: ModuleOf>(
 {
     match request {
         Request::Close => closed_refusal(chain, end),
+        Request::Take => take_refusal(chain, end),
+        Request::Poll => None,
         _ => match common_refusal(chain, end, request) {
             Some(refusal) => Some(refusal),
             None => own_refusal(chain, end, request),
@@ -159,6 +169,7 @@ fn changes_no_queue<P>(request: &Request<P>) -> bool
             | Request::Canput { .. }
             | Request::Ckband { .. }
             | Request::Getband
+            | Request::Poll
             | Request::Look
             | Request::List
             | Request::Find { .. }
@@ -175,6 +186,7 @@ fn has_nothing_to_do<M: ModuleOf>(chain: &Chain<M>, end: End, request: &Request<
         }
         Request::Getmsg { .. } | Request::Getpmsg { .. } => chain.head(end).is_empty(),
         Request::Read { max } => *max == 0 || chain.head(end).is_empty(),
+        Request::Take => chain.driver_list(end).is_empty(),
         _ => false,
     }
 }

@@ -14,12 +14,12 @@ mod outcome;
 mod stream;
 
 pub use answered::Answered;
-pub use call::refusals_are_in_order;
+pub use call::{poll_tells, refusals_are_in_order};
 pub use fault::NewFault;
 pub use outcome::{Arrived, Outcome};
 pub use stream::Stream;
 pub use strm_call::{
     Acknowledged, Answer, Event, GetFlag, MAX_CONTROL, MAX_DATA, More, Name, NameList, Peeked,
-    Priority, PutFlag, Received, Refusal, Replied, Reply, Request, Twins, Wanted,
+    Polled, Priority, PutFlag, Received, Refusal, Replied, Reply, Request, Twins, Wanted,
 };
 pub use strm_chain::{Driver, MOST_MODULES, Moves, Place};

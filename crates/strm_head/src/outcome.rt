@@ -35,8 +35,8 @@ pub enum Arrived {
         /// How many places service looked at.
         looks: Looks,
     },
-    /// It was not taken, and nothing was changed: the stream is no line, the end is closed, the stream
-    /// is broken, or the line's list is full in the band of an ordinary message. Here it is again.
+    /// It was not taken, and nothing was changed: the driver is neither line nor wire, the end is closed, the
+    /// stream is broken, or the list of what came in is full in the band of an ordinary message. Here it is again.
     Full(Message),
     /// It was not taken for want of memory, and nothing was changed. Here it is again.
     NoMem(Message),

@@ -6,6 +6,7 @@ ghost use Rattle.strm_qpair.specs.End.{pair_at};
 ghost use Rattle.strm_ends.specs.Image.{end_of, fresh};
 ghost use Rattle.strm_call.specs.Setup.{are_marks};
 ghost use Rattle.strm_ioctl.specs.Names.{names_of};
+ghost use Rattle.strm_ioctl.specs.Outside.{first_output};
 ghost use Rattle.strm_module.specs.declared.shape.Shape.{Shape};
 ghost use Rattle.strm_call.specs.declared.request.Request.TheVariants as Requests;
 ghost use Rattle.strm_call.specs.declared.event.Event.TheVariants as Events;
@@ -26,7 +27,7 @@ use std::alloc::Global;
 use std::marker::Model;
 use strm_call::{Name, Parts, Priority, PutFlag, Refusal, Replied, Request};
 use strm_chain::{Chain, Driver, MOST_MODULES};
-use strm_ioctl::names_of;
+use strm_ioctl::{first_output, names_of};
 use strm_module::{Boxed, ModuleOf, Shape};
 use strm_msg::{End, Marks, Message};
 
@@ -111,6 +112,13 @@ impl<M: ModuleOf> Stream<M> {
         ensures { result ≡ self.now.driver }
     {
         self.chain.driver()
+    }
+
+    /// The first message that was sent down to a wire, which the next take gives. None where the driver is no wire.
+    pub fn first_output(&self, end: End) -> Option<&Message>
+        ensures { option_copied result ≡ first_output self.now end }
+    {
+        first_output(&self.chain, end)
     }
 
     /// What would refuse a call if it were made now: the first refusal that holds, but for want of
@@ -207,7 +215,7 @@ impl<M: ModuleOf> Stream<M> {
     }
 
     /// Whether a message can come in from a line now, at end A: the driver is a line, the end is open, the stream is not broken, and
-    /// an ordinary message finds its band not full in the line's list.
+    /// an ordinary message finds its band not full in the list of what came in.
     pub fn can_arrive(&self, m: &Message) -> bool
         ensures { result ≡ can_arrive self.now Ends.A m.now }
     {
@@ -215,7 +223,7 @@ impl<M: ModuleOf> Stream<M> {
     }
 
     /// A message comes in from a line, at end A: a step of the stream, unless it comes back. An ordinary
-    /// message waits in the line's list, a high one goes up at once. To be called with a message of a
+    /// message waits in the list of what came in, a high one goes up at once. To be called with a message of a
     /// kind that comes from a line (`Message::from_line`).
     pub fn arrive(&mut self, m: Message) -> Arrived
         requires { is_from_line m.kind ≡ true }

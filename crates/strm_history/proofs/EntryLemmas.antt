@@ -8,9 +8,10 @@ use Rattle.strm_module.specs.Kinds.{Meaning}
 use Rattle.strm_module.specs.Calm.{IsCalm}
 use Rattle.strm_module.specs.declared.shape.Shape.{Shape}
 use Rattle.strm_ends.specs.declared.place.Place.{Place}
-use Rattle.strm_ends.specs.Image.{Image}
+use Rattle.strm_ends.specs.Image.{Image, end_of}
+use Rattle.strm_ioctl.proofs.OutsideLemmas.{taken_none}
 use Rattle.strm_call.specs.declared.request.Request.{Request}
-use Rattle.strm_call.specs.declared.request.Request.TheVariants.{Putmsg, Putpmsg, Getmsg, Getpmsg, Read, Write, Push, Nread, Peek, SetRead, GetRead, Canput, Ckband, Getband, Pop, Look, Find, Str, Flush, FlushBand, Close}
+use Rattle.strm_call.specs.declared.request.Request.TheVariants.{Putmsg, Putpmsg, Getmsg, Getpmsg, Read, Write, Push, Nread, Peek, SetRead, GetRead, Canput, Ckband, Getband, Pop, Look, Find, Str, Flush, FlushBand, Close, Take, Poll}
 use Rattle.strm_call.specs.declared.answer.Answer.{Answer}
 use Rattle.strm_call.specs.declared.answer.Answer.TheVariants.{Done, Refused, Broke}
 use Rattle.strm_call.specs.declared.event.Event.{Event}
@@ -66,6 +67,8 @@ module _ {K : Type 0} (means : Meaning K) where
   nothing_out image e (Flush r w) same = refl
   nothing_out image e (FlushBand band r w) same = refl
   nothing_out image e Close same = cc
+  nothing_out image e Take same = taken_none image e (end_of image e).drv
+  nothing_out image e Poll same = refl
 
   out_back : (image : Image K) (e : End) (request : Request (Shape K)) (answer : Answer) → out_in answer (back_of means image e request answer) ≡ out_of means image e request answer
   out_back image e request (Refused refusal) = refl

@@ -6,7 +6,7 @@ use Rattle.strm_msg.specs.declared.words.End.TheVariants.{A, B}
 use Rattle.strm_module.specs.Kinds.{Meaning}
 use Rattle.strm_module.specs.declared.shape.Shape.{Shape}
 use Rattle.strm_qpair.specs.Pair.{QueuePair}
-use Rattle.strm_qpair.specs.End.{EndState, shapes_of}
+use Rattle.strm_qpair.specs.End.{EndState, in_drv, shapes_of}
 use Rattle.strm_qpair.specs.Modules.{SameEnd, Identity, identities_of}
 use Rattle.strm_qpair.specs.Change.{with_mode, inserted, removed, begun_with, ended}
 use Rattle.strm_ends.specs.declared.place.Place.{Place}
@@ -16,7 +16,7 @@ use Rattle.strm_ends.specs.Same.{SameModules}
 use Rattle.strm_chain.specs.Fault.{Breaks}
 use Rattle.strm_chain.proofs.SameLemmas.{deliver_keeps, leads_keeps}
 use Rattle.strm_call.specs.declared.request.Request.{Request}
-use Rattle.strm_call.specs.declared.request.Request.TheVariants.{Putmsg, Putpmsg, Getmsg, Getpmsg, Read, Write, Push, Nread, Peek, SetRead, GetRead, Canput, Ckband, Getband, Pop, Look, Find, Str, Flush, FlushBand, Close}
+use Rattle.strm_call.specs.declared.request.Request.TheVariants.{Putmsg, Putpmsg, Getmsg, Getpmsg, Read, Write, Push, Nread, Peek, SetRead, GetRead, Canput, Ckband, Getband, Pop, Look, Find, Str, Flush, FlushBand, Close, Take, Poll}
 use Rattle.strm_call.specs.declared.request.Request.TheVariants as Requests
 use Rattle.strm_call.specs.declared.refusal.Refusal.{Refusal}
 use Rattle.strm_call.specs.declared.answer.Reply.{Reply}
@@ -26,6 +26,8 @@ use Rattle.strm_call.specs.Begun.{Begun}
 use Rattle.strm_msgio.specs.Send.{sent_of, putmsg_message, putpmsg_message, ordinary_message}
 use Rattle.strm_ioctl.specs.Ioctl.{asked_of}
 use Rattle.strm_ioctl.specs.Close.{closed_image}
+use Rattle.strm_ioctl.specs.Outside.{taken_out}
+use Rattle.strm_ioctl.proofs.OutsideLemmas.{taken_none}
 use Rattle.strm_call.specs.declared.event.Event.{Event}
 use Rattle.strm_call.specs.declared.event.Event.TheVariants.{Asked, Arrived}
 use Rattle.strm_entry.specs.Entry.{Entry}
@@ -119,6 +121,10 @@ module _ {K : Type 0} (means : Meaning K) where
       let asked = with_state image e r in
       standing_same asked _ (deliver_keeps means asked (Down e 1) _) ∙ end_standing image e (record (end_of image e) { state = r }) refl
 
+  taken_standing : (image : Image K) (e : End) (q : List Msg) → standing (taken_out image e q).image ≡ standing image
+  taken_standing image e [] = refl
+  taken_standing image e (m ∷ q) = end_standing image e (in_drv (end_of image e) q) refl
+
   -- a call that changes no modules
   plain_standing : (image : Image K) (e : End) (request : Request (Shape K)) → changes_modules request ≡ false → standing (begun_of means image e request).image ≡ standing image
   plain_standing image e (Putmsg flag parts) plain = sent_standing image e (putmsg_message parts.ctl parts.dat flag)
@@ -144,6 +150,8 @@ module _ {K : Type 0} (means : Meaning K) where
   plain_standing image e (Flush r w) plain = standing_same image _ (deliver_keeps means image (Down e 1) _)
   plain_standing image e (FlushBand band r w) plain = standing_same image _ (deliver_keeps means image (Down e 1) _)
   plain_standing image e Close plain = cc
+  plain_standing image e Take plain = taken_standing image e (end_of image e).drv
+  plain_standing image e Poll plain = refl
 
   plain_out : (image : Image K) (e : End) (request : Request (Shape K)) → changes_modules request ≡ false → (begun_of means image e request).out ≡ []
   plain_out image e (Putmsg flag parts) plain = refl
@@ -169,6 +177,8 @@ module _ {K : Type 0} (means : Meaning K) where
   plain_out image e (Flush r w) plain = refl
   plain_out image e (FlushBand band r w) plain = refl
   plain_out image e Close plain = cc
+  plain_out image e Take plain = taken_none image e (end_of image e).drv
+  plain_out image e Poll plain = refl
 
   -- the module that a call has put in
   abbrev pushed : Request (Shape K) → List ℕ
@@ -203,6 +213,8 @@ module _ {K : Type 0} (means : Meaning K) where
   begun_times image e (Str cmd dat) serial = plain_times image e (Str cmd dat) serial refl
   begun_times image e (Flush r w) serial = plain_times image e (Flush r w) serial refl
   begun_times image e (FlushBand band r w) serial = plain_times image e (FlushBand band r w) serial refl
+  begun_times image e Take serial = plain_times image e Take serial refl
+  begun_times image e Poll serial = plain_times image e Poll serial refl
   begun_times image e Close serial =
       rw (standing_same (closed_image image e) _ (after_keeps means image.broken (closed_image image e) e)) (closed_times image e serial)
 
@@ -239,6 +251,8 @@ module _ {K : Type 0} (means : Meaning K) where
   pushed_done (Flush r w) reply = refl
   pushed_done (FlushBand band r w) reply = refl
   pushed_done Close reply = refl
+  pushed_done Take reply = refl
+  pushed_done Poll reply = refl
 
   pushed_broke : (request : Request (Shape K)) → pushed_by (Asked request) Broke ≡ pushed request
   pushed_broke (Putmsg flag parts) = refl
@@ -263,6 +277,8 @@ module _ {K : Type 0} (means : Meaning K) where
   pushed_broke (Flush r w) = refl
   pushed_broke (FlushBand band r w) = refl
   pushed_broke Close = refl
+  pushed_broke Take = refl
+  pushed_broke Poll = refl
 
   pushed_none : (request : Request (Shape K)) (refusal : Refusal) → pushed_by (Asked request) (Refused refusal) ≡ []
   pushed_none (Putmsg flag parts) refusal = refl
@@ -287,6 +303,8 @@ module _ {K : Type 0} (means : Meaning K) where
   pushed_none (Flush r w) refusal = refl
   pushed_none (FlushBand band r w) refusal = refl
   pushed_none Close refusal = refl
+  pushed_none Take refusal = refl
+  pushed_none Poll refusal = refl
 
   -- a call
   answered_times : (image : Image K) (e : End) (request : Request (Shape K)) (answer : Answer) (moves : List Place) (out : List ℕ) (after : Image K) (serial : ℕ) → Answers means image e request answer moves out after → times_in serial (standing image) + times_in serial (pushed_by (Asked request) answer) ≡ times_in serial out + times_in serial (standing after)

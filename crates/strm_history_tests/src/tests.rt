@@ -5,16 +5,17 @@ use arrayvec::ArrayVec;
 use std::alloc::Global;
 use std::process::Abort;
 use strm_head::{
-    Answer, Driver, GetFlag, MOST_MODULES, More, Name, NameList, Outcome, Priority, Received,
-    Refusal, Reply, Request, Stream, Wanted,
+    Acknowledged, Answer, Driver, GetFlag, MOST_MODULES, More, Name, NameList, Outcome, Polled,
+    Priority, PutFlag, Received, Refusal, Reply, Request, Stream, Wanted,
 };
 use strm_module::{Boxed, Instance, Kind, Module, ModuleOf, Plain, Shape};
-use strm_msg::{Bytes, End, Errno, Message, NoMem};
+use strm_msg::{BoxedMessage, Bytes, End, Errno, Message, NoMem};
 
 mod histories;
 mod owners;
 mod tables;
 mod wants;
+mod wires;
 
 /// Names of modules, topmost first.
 type Names = &'static [&'static [u8]];
@@ -37,6 +38,8 @@ enum Comes {
     High(&'static [u8]),
     Hangup,
     Error(Errno),
+    /// An error of the write side alone.
+    WriteError(Errno),
 }
 
 /// A call.
@@ -48,12 +51,24 @@ enum Call {
     GetOf,
     Read(u16),
     Write(&'static [u8]),
+    /// Sends data of a band.
+    Send(u8, &'static [u8]),
+    /// Sends control of high priority.
+    SendHigh(&'static [u8]),
+    /// Sends an ioctl without data.
+    Str(u32),
     Nread,
     /// A module of this kind and name.
     Push(Pushes, &'static [u8]),
     Pop,
     Look,
     List,
+    /// A flush of all bands of the read side, of the write side, or of both.
+    Flush(bool, bool),
+    /// A flush of one band of both sides.
+    FlushBand(u8),
+    Take,
+    Poll,
     Close,
 }
 
@@ -65,12 +80,24 @@ enum Want {
     /// Data of a band was taken.
     DataOf(u8, &'static [u8]),
     Bytes(&'static [u8]),
+    Written(u64),
+    Sent,
+    HighSent,
+    /// An ioctl was refused.
+    Nak(Errno),
     Waiting(u64, u64),
     Pushed,
     Popped(&'static [u8]),
     Listed(Names, Driver),
     /// A close took out the modules of these names.
     Closed(Names),
+    Flushed,
+    BandFlushed,
+    /// A message was taken that had been sent down to a wire.
+    Message(Comes),
+    /// A wire is closed and empty.
+    Hangup,
+    Told(Polled),
     Refused(Refusal),
 }
 
@@ -146,6 +173,7 @@ fn made(alloc: Global, comes: Comes) -> Result<Message, NoMem> {
         Comes::High(ctl) => Message::of_pcproto(alloc, ctl, None),
         Comes::Hangup => Ok(Message::of_hangup()),
         Comes::Error(errno) => Ok(Message::of_error(errno)),
+        Comes::WriteError(errno) => Ok(Message::of_error2(None, Some(errno))),
     }
 }
 
@@ -160,6 +188,18 @@ fn kind_of(pushes: Pushes) -> Kind {
         Pushes::Tee => Kind::Tee,
         Pushes::Mute => Kind::Mute,
     }
+}
+
+/// A request that sends data of a band.
+fn sent(rt: &impl Abort, alloc: Global, band: u8, dat: &[u8]) -> Request<Boxed<Plain>> {
+    let dat = Some(bytes(rt, alloc, dat));
+    Request::putpmsg(alloc, None, dat, band, PutFlag::Band).expect(rt, "no memory")
+}
+
+/// A request that sends control of high priority.
+fn sent_high(rt: &impl Abort, alloc: Global, ctl: &[u8]) -> Request<Boxed<Plain>> {
+    let ctl = Some(bytes(rt, alloc, ctl));
+    Request::putmsg(alloc, ctl, None, Priority::Hipri).expect(rt, "no memory")
 }
 
 /// The request of a call. A push carries a module of this serial.
@@ -180,6 +220,9 @@ fn request_of(rt: &impl Abort, alloc: Global, serial: u64, call: Call) -> Reques
         Call::Write(dat) => Request::Write {
             dat: bytes(rt, alloc, dat),
         },
+        Call::Send(band, dat) => sent(rt, alloc, band, dat),
+        Call::SendHigh(ctl) => sent_high(rt, alloc, ctl),
+        Call::Str(cmd) => Request::str(alloc, cmd, None).expect(rt, "no memory"),
         Call::Nread => Request::Nread,
         Call::Push(pushes, name) => Request::Push {
             instance: boxed(rt, alloc, (serial, name, kind_of(pushes)), Plain),
@@ -187,6 +230,14 @@ fn request_of(rt: &impl Abort, alloc: Global, serial: u64, call: Call) -> Reques
         Call::Pop => Request::Pop,
         Call::Look => Request::Look,
         Call::List => Request::List,
+        Call::Flush(r, w) => Request::Flush { r, w },
+        Call::FlushBand(band) => Request::FlushBand {
+            band,
+            r: true,
+            w: true,
+        },
+        Call::Take => Request::Take,
+        Call::Poll => Request::Poll,
         Call::Close => Request::Close,
     }
 }
@@ -250,6 +301,12 @@ fn closed(rt: &impl Abort, names: Names) -> Reply {
     }
 }
 
+/// A reply with a message that was taken.
+fn taken(rt: &impl Abort, alloc: Global, comes: Comes) -> Reply {
+    let m = BoxedMessage::new(alloc, message(rt, alloc, comes)).expect(rt, "no memory");
+    Reply::Message { m }
+}
+
 fn answer_of(rt: &impl Abort, alloc: Global, want: Want) -> Answer {
     match want {
         Want::Refused(refusal) => Answer::Refused(refusal),
@@ -261,5 +318,16 @@ fn answer_of(rt: &impl Abort, alloc: Global, want: Want) -> Answer {
         Want::Popped(name) => Answer::Done(popped(rt, name)),
         Want::Listed(names, driver) => Answer::Done(listed(rt, names, driver)),
         Want::Closed(names) => Answer::Done(closed(rt, names)),
+        Want::Written(len) => Answer::Done(Reply::Write { len }),
+        Want::Sent => Answer::Done(Reply::Putpmsg),
+        Want::HighSent => Answer::Done(Reply::Putmsg),
+        Want::Nak(errno) => Answer::Done(Reply::Str {
+            answer: Acknowledged::Nak { errno },
+        }),
+        Want::Flushed => Answer::Done(Reply::Flush),
+        Want::BandFlushed => Answer::Done(Reply::FlushBand),
+        Want::Message(comes) => Answer::Done(taken(rt, alloc, comes)),
+        Want::Hangup => Answer::Done(Reply::Hangup),
+        Want::Told(told) => Answer::Done(Reply::Poll { told }),
     }
 }

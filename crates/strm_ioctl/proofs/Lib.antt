@@ -1,2 +1,3 @@
 pub mod NameLemmas
 pub mod CloseLemmas
+pub mod OutsideLemmas

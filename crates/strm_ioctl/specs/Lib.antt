@@ -5,3 +5,5 @@ pub mod Names
 pub mod Flush
 pub mod Ioctl
 pub mod Close
+pub mod Outside
+pub mod Poll

@@ -13,6 +13,8 @@ mod ioctl;
 mod modules;
 mod names;
 mod options;
+mod outside;
+mod polling;
 
 pub use ask::{canput, ckband, getband, getband_refusal, nread};
 pub use closing::close;
@@ -21,3 +23,5 @@ pub use ioctl::{acknowledged, send_ioctl, str_refusal};
 pub use modules::{pop, pop_refusal, push, push_refusal};
 pub use names::{find, find_refusal, list, look, look_refusal, names_of};
 pub use options::{get_read, set_read};
+pub use outside::{first_output, take, take_refusal};
+pub use polling::poll;

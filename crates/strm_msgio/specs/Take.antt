@@ -14,6 +14,7 @@ use Rattle.strm_call.specs.declared.answer.More.TheVariants.{Nothing}
 use Rattle.strm_call.specs.declared.answer.Received.{Received}
 use Rattle.strm_call.specs.declared.answer.Peeked.{Peeked}
 use Rattle.strm_call.specs.declared.answer.Reply.{Reply}
+use Rattle.strm_call.specs.Reply.{received_of}
 use Rattle.strm_call.specs.Begun.{Begun, begun}
 use Rattle.strm_cut.specs.Cut.{Most, cut_of}
 use Rattle.strm_cut.specs.First.{first_of, lacks_message, put_back_if}
@@ -50,9 +51,6 @@ taken_from (m ∷ q) maxctl maxdat = put_back_if q (cut_of m maxctl maxdat).rest
 
 abbrev pub priority_of : Msg → Priority
 priority_of m = if is_high m.kind then Hipri else Norm
-
-abbrev pub received_of : Msg → Received
-received_of m = if is_high m.kind then Received.Hipri else Received.Band m.band
 
 -- what is given of the first message; at a hung up end without messages both parts have length 0
 abbrev pub getmsg_reply : Option Msg → Most → Most → Reply

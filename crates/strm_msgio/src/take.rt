@@ -8,7 +8,7 @@ ghost use Rattle.strm_call.specs.declared.request.Priority.TheVariants as Priori
 ghost use Rattle.strm_call.specs.Refusal.{first_that_holds};
 ghost use Rattle.strm_cut.specs.Cut.{cut_of};
 ghost use Rattle.strm_cut.specs.First.{put_back_if};
-ghost use Rattle.strm_msgio.specs.Take.{shows_nothing, is_wanted, is_wanted_in, getmsg_refusals, getpmsg_refusals, priority_of, received_of, getmsg_reply, getpmsg_reply, getmsg_begun, getpmsg_begun, peek_begun};
+ghost use Rattle.strm_msgio.specs.Take.{shows_nothing, is_wanted, is_wanted_in, getmsg_refusals, getpmsg_refusals, priority_of, getmsg_reply, getpmsg_reply, getmsg_begun, getpmsg_begun, peek_begun};
 
 use std::alloc::Global;
 use strm_call::{GetFlag, More, Part, Peeked, Priority, Received, Refusal, Replied, Reply, Wanted};
@@ -53,16 +53,6 @@ fn priority_of(m: &Message) -> Priority
         Priority::Hipri
     } else {
         Priority::Norm
-    }
-}
-
-fn received_of(m: &Message) -> Received
-    ensures { result ≡ received_of m.now }
-{
-    if m.is_high() {
-        Received::Hipri
-    } else {
-        Received::Band { band: m.band }
     }
 }
 
@@ -134,7 +124,7 @@ fn taken_with_band<A: Replied>(
     ensures reply { IfOk result (λ taken. A.says taken.reply ≡ getpmsg_reply (Some first.now) maxctl maxdat) }
     ensures rest { IfOk result (λ taken. taken.rest ≡ (cut_of first.now maxctl maxdat).rest) }
 {
-    let flag = received_of(first);
+    let flag = Received::of(first);
     let Cut {
         ctl,
         dat,

@@ -1,5 +1,5 @@
 -- What callers of a shared stream find of its history.
-use Rattle.std.proofs.Common.{◌≡◌, ℕ, ◌+◌, zero, suc, Bool, List, [], ◌∷◌, Option, Some, None, map, take, ap, sym, ◌∙◌, subst}
+use Rattle.std.proofs.Common.{◌≡◌, ℕ, ◌+◌, zero, suc, Bool, List, [], ◌∷◌, Option, Some, None, map, take, ap, refl, sym, ◌∙◌, subst}
 use Rattle.std.specs.Prelude.{flat_map}
 use Rattle.std.specs.Option.{option_or}
 use Rattle.std.proofs.lemmas.Simd.{map-map}
@@ -23,6 +23,7 @@ use Rattle.strm_call.specs.declared.call.Call.{Call}
 use Rattle.strm_call.specs.Begun.{reply_after}
 use Rattle.strm_ioctl.specs.Ask.{is_empty}
 use Rattle.strm_ioctl.specs.Modules.{pop_refusals, first_name}
+use Rattle.strm_ioctl.proofs.OutsideLemmas.{taken_none}
 use Rattle.strm_call.specs.declared.event.Event.{Event}
 use Rattle.strm_call.specs.declared.event.Event.TheVariants.{Asked}
 use Rattle.strm_head.specs.Begin.{back_of, begun_of, common_refusals, handed_out, refusal_of}
@@ -61,7 +62,7 @@ module _ {K : Type 0} (means : Meaning K) where
   -- what a call that is not refused takes out, by the call
   hands_out : (image : Image K) (e : End) (request : Request (Shape K)) (answer : Answer) (back : List (Option (Shape K))) (kept : Option Msg) → refusal_of image e request ≡ None → Replies answer (reply_after (begun_of means image e request) kept) → back ≡ handed_out (begun_of means image e request).out → HandsOut request answer back
   hands_out image e Requests.Pop answer back kept none replies comes = pop_out (end_of image e).modules (end_of image e).state.hung answer back
-      (second_none (first_that_holds (common_refusals image e Requests.Pop)) (first_that_holds (pop_refusals image e)) (sym (first_of_all image e Requests.Pop (λ same. cc)) ∙ none))
+      (second_none (first_that_holds (common_refusals image e Requests.Pop)) (first_that_holds (pop_refusals image e)) (sym (first_of_all image e Requests.Pop refl) ∙ none))
       replies comes
   hands_out image e Requests.Close answer back kept none replies comes = close_out (end_of image e).modules answer back replies comes
   hands_out image e (Requests.Putmsg flag parts) answer back kept none replies comes = comes
@@ -85,6 +86,8 @@ module _ {K : Type 0} (means : Meaning K) where
   hands_out image e (Requests.Str cmd dat) answer back kept none replies comes = comes
   hands_out image e (Requests.Flush r w) answer back kept none replies comes = comes
   hands_out image e (Requests.FlushBand band r w) answer back kept none replies comes = comes
+  hands_out image e Requests.Take answer back kept none replies comes = comes ∙ ap (λ out. handed_out out) (taken_none image e (end_of image e).drv)
+  hands_out image e Requests.Poll answer back kept none replies comes = comes
 
   -- of a step that a call has made
   made_back : (image : Image K) (call : Call (Shape K)) (answer : Answer) (moves : List Place) (out : List ℕ) (after : Image K) (back : List (Option (Shape K))) → Step means image call.end (Asked call.request) answer moves out after → back ≡ back_of means image call.end call.request answer → HandsBackMade call answer back

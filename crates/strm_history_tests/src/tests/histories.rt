@@ -1,5 +1,6 @@
 //! Streams are made, and what happens to one makes a history.
 use super::tables::{ECHOES, LINES, MIXED};
+use super::wires::WIRES;
 use super::{Call, Comes, Happens, Row, Want, answer_of, came_back, check, message, request_of};
 use std::alloc::Global;
 use std::process::Abort;
@@ -287,4 +288,11 @@ fn calls_and_messages_make_a_history(rt: HostRuntime) {
         play(&rt, rt.alloc(), Driver::Echo, rows);
     }
     assert!(rt; !play(&rt, rt.alloc(), Driver::Line, MIXED));
+}
+
+#[test]
+fn what_is_written_to_a_wire_waits_until_it_is_taken(rt: HostRuntime) {
+    for rows in WIRES {
+        play(&rt, rt.alloc(), Driver::Wire, rows);
+    }
 }

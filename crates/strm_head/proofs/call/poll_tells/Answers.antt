@@ -1,0 +1,5 @@
+use Rattle.strm_head.proofs.PollLemmas.{tells}
+use Rattle.strm_head.proofs.call.poll_tells.Goals as goal
+
+pub returns : goal.returns
+returns g c = λ image e nval err. tells image e nval err

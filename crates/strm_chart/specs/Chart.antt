@@ -1,9 +1,9 @@
 -- The chart of a history: its steps one below the other, each once and in order.
-use Rattle.std.specs.Prelude.{ℕ, ◌+◌, List, [], ◌∷◌, ◌++◌, length, slice_get, Option, Some, None, codes}
+use Rattle.std.specs.Prelude.{ℕ, ◌+◌, List, [], ◌∷◌, ◌++◌, length, slice_get, Option, Some, None, codes, if◌then◌else◌}
 use Rattle.std.specs.List.{flat_map, enumerate_from, zip}
 use Rattle.strm_msg.specs.declared.words.End.TheVariants.{A}
 use Rattle.strm_module.specs.declared.driver.Driver.{Driver}
-use Rattle.strm_module.specs.declared.driver.Driver.TheVariants.{Line}
+use Rattle.strm_module.specs.Driver.{is_line}
 use Rattle.strm_call.specs.declared.setup.Setup.{Setup}
 use Rattle.strm_entry.specs.Entry.{Entry}
 use Rattle.strm_entry.specs.declared.transcript.StreamLog.{StreamLog}
@@ -40,10 +40,9 @@ process_row column = name_row column.0 column.1
 abbrev pub process_names : List (List ℕ) → List ℕ
 process_names processes = flat_map process_row (enumerate_from 0 processes)
 
--- the name of the line's column
+-- the name of the line's column, which a line or a wire has
 abbrev pub line_name : ℕ → Driver → List ℕ
-line_name left Line = name_row left (codes "line")
-line_name left driver = []
+line_name left driver = if is_line driver then name_row left (codes "line") else []
 
 -- the names of all columns, and a row of bars
 unfoldable pub names_text : List (List ℕ) → List ℕ → Driver → List ℕ

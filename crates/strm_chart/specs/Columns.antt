@@ -1,11 +1,11 @@
 -- The columns of a chart, each four characters wide: those of the processes, by number and from the left, then the stream's, and the
 -- line's where the stream has one.
-use Rattle.std.specs.Prelude.{ℕ, ◌+◌, ◌-◌, List, [], ◌∷◌, ◌++◌, codes}
+use Rattle.std.specs.Prelude.{ℕ, ◌+◌, ◌-◌, List, [], ◌∷◌, ◌++◌, codes, if◌then◌else◌}
 use Rattle.std.specs.List.{flat_map, repeat}
 use Rattle.std.specs.Fmt.{decimal}
 use Rattle.strm_msg.specs.declared.words.End.{End}
 use Rattle.strm_module.specs.declared.driver.Driver.{Driver}
-use Rattle.strm_module.specs.declared.driver.Driver.TheVariants as drivers
+use Rattle.strm_module.specs.Driver.{is_line}
 use Rattle.strm_ends.specs.declared.place.Place.{Place}
 use Rattle.strm_ends.specs.declared.place.Place.TheVariants.{Wr, Drv, Rd}
 use Rattle.strm_entry.specs.declared.entry.Who.{Who}
@@ -18,8 +18,7 @@ bars n = repeat n (codes "|   ")
 
 -- the bar of the line's column
 abbrev pub line_bar : Driver → List ℕ
-line_bar drivers.Line = codes "   |"
-line_bar driver = []
+line_bar driver = if is_line driver then codes "   |" else []
 
 -- the bars of all columns: those of n processes, the stream's, and the line's
 unfoldable pub all_bars : ℕ → Driver → List ℕ

@@ -26,14 +26,14 @@ fn put_bars<W: Write>(w: &mut W, n: usize) -> io::Result<()>
     put_times(w, n, b"|   ")
 }
 
-/// Writes the bar of the line's column, which a line alone has.
+/// Writes the bar of the line's column, which a line or a wire has.
 fn put_line_bar<W: Write>(w: &mut W, driver: Driver) -> io::Result<()>
     ensures { OnOk result (Appends (W.contents w.old) (W.contents w.new) (text.line_bar driver)) }
 {
-    match driver {
-        Driver::Line => w.write_all(b"   |"),
-        Driver::Echo | Driver::Loop => Ok(()),
+    if driver.is_line() {
+        return w.write_all(b"   |");
     }
+    Ok(())
 }
 
 /// Writes the bars of all columns: those of so many processes, the stream's, and the line's.

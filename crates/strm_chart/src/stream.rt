@@ -23,14 +23,14 @@ fn put_processes<W: Write>(w: &mut W, processes: &[Name]) -> io::Result<()>
     Ok(())
 }
 
-/// Writes `line` above the column of the line, which a line alone has.
+/// Writes `line` above the column of the line, which a line or a wire has.
 fn put_line_name<W: Write>(w: &mut W, left: usize, driver: Driver) -> io::Result<()>
     ensures { OnOk result (Appends (W.contents w.old) (W.contents w.new) (text.line_name left driver)) }
 {
-    match driver {
-        Driver::Line => put_name(w, left, b"line"),
-        Driver::Echo | Driver::Loop => Ok(()),
+    if driver.is_line() {
+        return put_name(w, left, b"line");
     }
+    Ok(())
 }
 
 /// Writes the names of all columns, each above its own, and a row of their bars.

@@ -1,4 +1,4 @@
-//! What calls on an echo stream cost, with the service that follows them.
+//! What calls on an echo stream cost, with the service that follows them, and on a wire.
 ghost use Rattle.std.specs.Mem.{FitsInMemory};
 ghost use Rattle.strm_head.specs.contracts.outcome.Outcome as outcome_type;
 
@@ -40,6 +40,8 @@ enum Modules {
 enum Calls {
     /// A write, and a read that takes it.
     WriteRead,
+    /// A write, and a take of what it has sent down.
+    WriteTake,
     /// A getmsg, and a write.
     GetmsgWrite,
     /// A getread, which changes no queue.
@@ -51,6 +53,8 @@ enum Calls {
 struct Trial {
     /// What it is called.
     name: &'static str,
+    /// The driver of the stream.
+    driver: Driver,
     /// The marks of the head and of the driver.
     marks: (u32, u32),
     /// The modules that stand there.
@@ -61,16 +65,26 @@ struct Trial {
     calls: Calls,
 }
 
-const TRIALS: [Trial; 6] = [
+const TRIALS: [Trial; 7] = [
     Trial {
         name: "a write and a read, no modules",
+        driver: Driver::Echo,
         marks: WIDE,
         modules: Modules::None,
         written: 0,
         calls: Calls::WriteRead,
     },
     Trial {
+        name: "a write and a take, over a wire",
+        driver: Driver::Wire,
+        marks: WIDE,
+        modules: Modules::None,
+        written: 0,
+        calls: Calls::WriteTake,
+    },
+    Trial {
         name: "a write and a read, eight modules without queues",
+        driver: Driver::Echo,
         marks: WIDE,
         modules: Modules::Bare,
         written: 0,
@@ -78,6 +92,7 @@ const TRIALS: [Trial; 6] = [
     },
     Trial {
         name: "a write and a read, eight modules with queues",
+        driver: Driver::Echo,
         marks: WIDE,
         modules: Modules::Queued(NARROW),
         written: 0,
@@ -85,6 +100,7 @@ const TRIALS: [Trial; 6] = [
     },
     Trial {
         name: "a getmsg and a write, eight modules with queues, all full",
+        driver: Driver::Echo,
         marks: NARROW,
         modules: Modules::Queued(NARROW),
         written: 18,
@@ -92,6 +108,7 @@ const TRIALS: [Trial; 6] = [
     },
     Trial {
         name: "a getread, no modules",
+        driver: Driver::Echo,
         marks: WIDE,
         modules: Modules::None,
         written: 0,
@@ -99,6 +116,7 @@ const TRIALS: [Trial; 6] = [
     },
     Trial {
         name: "a getread, eight modules with queues",
+        driver: Driver::Echo,
         marks: WIDE,
         modules: Modules::Queued(WIDE),
         written: 0,
@@ -182,6 +200,11 @@ fn turn(
             let read = ask(stream, Request::Read { max: 5 });
             Ok(service.with(wrote).with(read))
         }
+        Calls::WriteTake => {
+            let wrote = write(alloc, stream)?;
+            let took = ask(stream, Request::Take);
+            Ok(service.with(wrote).with(took))
+        }
         Calls::GetmsgWrite => {
             let getmsg = Request::Getmsg {
                 maxctl: None,
@@ -223,7 +246,7 @@ fn timed(
 
 /// The service of a trial's calls, and how many nanoseconds they took.
 fn tried(rt: &impl Clock, alloc: Global, trial: &Trial) -> anyhow::Result<(Service, u128)> {
-    let mut stream = Stream::new(alloc, Driver::Echo, trial.marks, trial.marks)?;
+    let mut stream = Stream::new(alloc, trial.driver, trial.marks, trial.marks)?;
     timed(rt, alloc, &mut stream, trial)
 }
 

@@ -5,7 +5,7 @@ use Rattle.strm_msg.specs.Message.{Msg, bare, data_msg, proto_msg, pcproto_msg}
 use Rattle.strm_msg.specs.Kind.{is_from_line}
 use Rattle.strm_msg.specs.declared.kind.MsgKind.TheVariants.{MSetopts, MFlush, MHangup, MError}
 use Rattle.strm_module.specs.declared.driver.Driver.{Driver}
-use Rattle.strm_module.specs.declared.driver.Driver.TheVariants.{Echo, Loop, Line}
+use Rattle.strm_module.specs.declared.driver.Driver.TheVariants.{Echo, Loop, Line, Wire}
 use Rattle.strm_module.specs.Driver.{is_line}
 use Rattle.strm_call.specs.declared.request.TheConstants.{MAX_CONTROL, MAX_DATA}
 use Rattle.strm_text.specs.Text.{number_of, number_from, halves_of}
@@ -60,6 +60,9 @@ rings_within Loop texts ring is = refl
 rings_within Line [] ring is = absurd cc
 rings_within Line (text ∷ []) ring is = ring_within text ring is
 rings_within Line (text ∷ other ∷ texts) ring is = absurd cc
+rings_within Wire [] ring is = absurd cc
+rings_within Wire (text ∷ []) ring is = ring_within text ring is
+rings_within Wire (text ∷ other ∷ texts) ring is = absurd cc
 
 -- too few fields
 pub too_few : (driver : Driver) (texts : List (List ℕ)) → length texts < 2 → setup_at driver texts ≡ Err causes.Fields

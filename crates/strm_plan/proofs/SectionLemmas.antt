@@ -137,6 +137,8 @@ no_declaration Verb.Canput = (refl, refl, refl)
 no_declaration Verb.Ckband = (refl, refl, refl)
 no_declaration Verb.Getband = (refl, refl, refl)
 no_declaration Verb.Close = (refl, refl, refl)
+no_declaration Verb.Take = (refl, refl, refl)
+no_declaration Verb.Poll = (refl, refl, refl)
 
 verb_declares_nothing : (word : List ℕ) (verb : Verb) → verb_named word ≡ Some verb → IsNoDeclaration word
 verb_declares_nothing word verb is =

@@ -8,7 +8,7 @@ use Rattle.strm_msg.specs.declared.words.End.{End}
 use Rattle.strm_msg.specs.declared.words.End.TheVariants.{A}
 use Rattle.strm_text.specs.Text.{halves_of, name_of}
 use Rattle.strm_module.specs.declared.driver.Driver.{Driver}
-use Rattle.strm_module.specs.declared.driver.Driver.TheVariants.{Echo, Loop, Line}
+use Rattle.strm_module.specs.declared.driver.Driver.TheVariants.{Echo, Loop, Line, Wire}
 use Rattle.strm_module.specs.Driver.{has_end, is_line}
 use Rattle.strm_call.specs.declared.setup.Setup.{Setup}
 use Rattle.strm_verb.specs.Naming.{KindWords}
@@ -34,10 +34,12 @@ a_is_there driver text end is = under (bytes_eq text (codes "a")) (Some A) end i
     has_a Echo = refl
     has_a Loop = refl
     has_a Line = refl
+    has_a Wire = refl
 
 end_found : (driver : Driver) (text : List ℕ) (end : End) → end_of driver text ≡ Some end → has_end driver end ≡ true
 end_found Echo text end is = a_is_there Echo text end is
 end_found Line text end is = a_is_there Line text end is
+end_found Wire text end is = a_is_there Wire text end is
 end_found Loop text end is = refl
 
 -- the stream that a name has is there, and has this driver

@@ -7,7 +7,7 @@ use Rattle.strm_msg.specs.Message.{Msg}
 use Rattle.strm_text.specs.Bytes.{is_allowed}
 use Rattle.strm_text.specs.Text.{name_of, fields_of}
 use Rattle.strm_module.specs.declared.driver.Driver.{Driver}
-use Rattle.strm_module.specs.declared.driver.Driver.TheVariants.{Echo, Loop, Line}
+use Rattle.strm_module.specs.declared.driver.Driver.TheVariants.{Echo, Loop, Line, Wire}
 use Rattle.strm_module.specs.Driver.{is_line}
 use Rattle.strm_call.specs.declared.setup.Setup.{Setup}
 use Rattle.strm_call.specs.declared.setup.TheConstants.{MOST_RING}
@@ -42,13 +42,13 @@ ended_at d (In_feed feed) = record d { feeds = d.feeds ++ feed ∷ []; place = N
 abbrev pub ended : {K : Type 0} → Partial K → Partial K
 ended d = ended_at d d.place
 
--- ---- stream NAME DRIVER H D, and RING for a line
+-- ---- stream NAME DRIVER H D, and RING for a line or a wire
 
 -- the driver that a word names
 abbrev pub driver_at : List ℕ → Result Driver Cause
 driver_at text =
     if bytes_eq text (codes "echo") then Ok Echo
-    else (if bytes_eq text (codes "loop") then Ok Loop else (if bytes_eq text (codes "line") then Ok Line else Err causes.UnknownWord))
+    else (if bytes_eq text (codes "loop") then Ok Loop else (if bytes_eq text (codes "line") then Ok Line else (if bytes_eq text (codes "wire") then Ok Wire else Err causes.UnknownWord)))
 
 -- 1 to the greatest ring
 abbrev pub ring_at : List ℕ → Result ℕ Cause

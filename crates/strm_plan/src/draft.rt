@@ -188,7 +188,7 @@ where
         Ok(())
     }
 
-    /// NAME of a line, whose feed goes on from here. Takes no memory.
+    /// NAME of a line or a wire, whose feed goes on from here. Takes no memory.
     #[tactic(auto, unfolding(crate::specs::Reading::feed_onto))]
     fn feed_line(&mut self, alloc: Global, texts: &[&[u8]]) -> Result<(), ReadError>
         requires { length self.old.streams.map.entries ≤ MOST_STREAMS }
@@ -201,7 +201,7 @@ where
         let Some((stream, driver)) = stream_at(&self.streams.map, &mut None, name) else {
             return Err(ReadError::Fault(Cause::NoSuch));
         };
-        if driver != Driver::Line || has_feed(&self.feeds, stream) {
+        if !driver.is_line() || has_feed(&self.feeds, stream) {
             return Err(ReadError::Fault(Cause::OutOfPlace));
         }
         let messages = Vec::new(alloc);

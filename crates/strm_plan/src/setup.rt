@@ -15,6 +15,7 @@ pub(crate) fn driver_at(text: &[u8]) -> Result<Driver, Cause>
         b"echo" => Ok(Driver::Echo),
         b"loop" => Ok(Driver::Loop),
         b"line" => Ok(Driver::Line),
+        b"wire" => Ok(Driver::Wire),
         _ => Err(Cause::UnknownWord),
     }
 }
@@ -23,10 +24,7 @@ pub(crate) fn driver_at(text: &[u8]) -> Result<Driver, Cause>
 pub(crate) fn arity(driver: Driver) -> usize
     ensures { result ≡ reading.setup_arity driver }
 {
-    match driver {
-        Driver::Line => 3,
-        Driver::Echo | Driver::Loop => 2,
-    }
+    if driver.is_line() { 3 } else { 2 }
 }
 
 /// How many messages a ring holds: 1 to 4096.
@@ -40,13 +38,13 @@ fn ring_at(text: &[u8]) -> Result<u16, Cause>
     Ok(ring as u16)
 }
 
-/// The ring that a line has and the other drivers have not.
+/// The ring that a line and a wire have, and the other drivers have not.
 fn rings_at(driver: Driver, texts: &[&[u8]]) -> Result<u16, Cause>
     ensures { Tells (λ ring. ring) result (reading.rings_at driver (map (λ text. text.now) texts.now)) }
 {
-    match (driver, texts) {
-        (Driver::Line, [ring]) => ring_at(ring),
-        (Driver::Echo | Driver::Loop, []) => Ok(1),
+    match texts {
+        [ring] if driver.is_line() => ring_at(ring),
+        [] if !driver.is_line() => Ok(1),
         _ => Err(Cause::Fields),
     }
 }

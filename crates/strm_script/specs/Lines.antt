@@ -1,5 +1,5 @@
 -- The lines of a transcript.
-use Rattle.std.specs.Prelude.{ℕ, List, [], ◌∷◌, ◌++◌, slice_get, Option, Some, None, codes}
+use Rattle.std.specs.Prelude.{ℕ, List, [], ◌∷◌, ◌++◌, slice_get, Option, Some, None, codes, if◌then◌else◌}
 use Rattle.std.specs.Option.{unwrap_or}
 use Rattle.std.specs.List.{flat_map}
 use Rattle.arrayvec.specs.ArrayVec.{ArrayVec}
@@ -7,7 +7,8 @@ use Rattle.strm_msg.specs.declared.words.End.{End}
 use Rattle.strm_msg.specs.declared.words.End.TheVariants.{A, B}
 use Rattle.strm_module.specs.declared.shape.Shape.{Shape}
 use Rattle.strm_module.specs.declared.driver.Driver.{Driver}
-use Rattle.strm_module.specs.declared.driver.Driver.TheVariants.{Loop, Line}
+use Rattle.strm_module.specs.Driver.{is_line}
+use Rattle.strm_module.specs.declared.driver.Driver.TheVariants.{Loop}
 use Rattle.strm_call.specs.declared.request.Request.{Request}
 use Rattle.strm_call.specs.declared.answer.Answer.{Answer}
 use Rattle.strm_call.specs.declared.setup.Setup.{Setup}
@@ -76,10 +77,9 @@ count_fields log =
 unfoldable pub counts_text : {K : Type 0} → StreamLog K → List ℕ
 counts_text log = spaced (count_fields log)
 
--- what became of the messages of a feed, for a line
+-- what became of the messages of a feed, for a line or a wire
 unfoldable pub feed_text : {K : Type 0} → Driver → StreamLog K → List ℕ
-feed_text Line log = codes "feed" ++ counts_text log ++ 10 ∷ []
-feed_text driver log = []
+feed_text driver log = if is_line driver then codes "feed" ++ counts_text log ++ 10 ∷ [] else []
 
 -- the lines of a stream
 unfoldable pub stream_text : {K : Type 0} → KindSpelling K → List (List ℕ) → List ℕ → Setup → StreamLog K → List ℕ

@@ -10,6 +10,8 @@ use Rattle.strm_call.specs.declared.answer.More.TheVariants as mores
 use Rattle.strm_call.specs.declared.answer.Received.{Received}
 use Rattle.strm_call.specs.declared.answer.Received.TheVariants as received
 use Rattle.strm_call.specs.declared.answer.Peeked.{Peeked}
+use Rattle.strm_call.specs.declared.answer.Polled.{Polled}
+use Rattle.strm_call.specs.Polled.{is_in, is_rdnorm, is_rdband, is_pri}
 use Rattle.strm_call.specs.declared.answer.Acknowledged.{Acknowledged}
 use Rattle.strm_call.specs.declared.answer.Acknowledged.TheVariants.{Ack, Nak, Timeout}
 use Rattle.strm_call.specs.declared.answer.Reply.{Reply}
@@ -17,6 +19,9 @@ use Rattle.strm_call.specs.declared.answer.Answer.{Answer}
 use Rattle.strm_call.specs.declared.answer.Answer.TheVariants.{Done, Refused, Broke}
 use Rattle.strm_verb.specs.Words.{priority_word, mode_word, prot_word}
 use Rattle.strm_verb.specs.Field.{Field, Bytes, Number, Word, part_field}
+use Rattle.strm_verb.specs.Arrival.{message_word}
+use Rattle.strm_verb.specs.declared.arrival.MessageWord.{MessageWord}
+use Rattle.strm_script.specs.Fields.{message_fields}
 
 -- which parts stay
 abbrev pub more_word : More → List ℕ
@@ -51,6 +56,32 @@ acknowledged_fields Timeout = Word (codes "ETIME") ∷ []
 abbrev pub name_fields : List (ArrayVec ℕ) → List Field
 name_fields names = map (λ name. Word name.items) names
 
+-- ---- what poll(2) says: the words of the flags that hold, joined by `+`, and `0` where none holds
+
+-- a word behind those so far, where it holds
+abbrev pub with_word : Bool → List ℕ → List ℕ → List ℕ
+with_word false word so_far = so_far
+with_word true word [] = word
+with_word true word (c ∷ so_far) = (c ∷ so_far) ++ 43 ∷ word
+
+abbrev pub joined : List ℕ → List (Bool × List ℕ) → List ℕ
+joined so_far [] = so_far
+joined so_far (flag ∷ flags) = joined (with_word flag.0 flag.1 so_far) flags
+
+-- the flags in their order, each with whether it holds
+abbrev pub poll_flags : Polled → List (Bool × List ℕ)
+poll_flags told =
+    (is_in told.first, codes "in") ∷ (is_rdnorm told.first, codes "rdnorm") ∷ (is_rdband told.first, codes "rdband") ∷ (is_pri told.first, codes "pri") ∷ (told.out, codes "out") ∷ (told.wrband, codes "wrband") ∷ (told.err, codes "err") ∷ (told.hup, codes "hup") ∷ (told.nval, codes "nval") ∷ []
+
+abbrev pub or_zero : List ℕ → List ℕ
+or_zero [] = codes "0"
+or_zero (c ∷ word) = c ∷ word
+
+abbrev pub poll_word : Polled → List ℕ
+poll_word told = or_zero (joined [] (poll_flags told))
+
+-- ----
+
 -- the driver's name is the last
 abbrev pub list_fields : List (ArrayVec ℕ) → Driver → List Field
 list_fields names driver = name_fields names ++ Word (driver_name driver) ∷ []
@@ -79,6 +110,9 @@ reply_fields Reply.Flush = done_fields
 reply_fields Reply.FlushBand = done_fields
 reply_fields (Reply.Close names) = Word (codes "closed") ∷ name_fields names.items
 reply_fields Reply.Line = done_fields
+reply_fields (Reply.Message m) = message_fields m
+reply_fields Reply.Hangup = Word (message_word MessageWord.Hangup) ∷ []
+reply_fields (Reply.Poll told) = Word (poll_word told) ∷ []
 
 -- a refusal is the name of its errno alone
 abbrev pub answer_fields : Answer → List Field

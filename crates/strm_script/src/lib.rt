@@ -7,6 +7,7 @@ mod field;
 mod gathered;
 mod message;
 mod module;
+mod polled;
 mod printing;
 mod reply;
 mod request;

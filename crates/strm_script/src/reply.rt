@@ -11,11 +11,13 @@ use crate::field::{
     Field, add_all, add_names, add_number, add_part, add_word, boxed_field, part_field,
 };
 use crate::gathered::Gathered;
+use crate::message::add_message;
+use crate::polled::add_polled;
 use std::io::{self, Write};
 use strm_call::{Acknowledged, Answer, More, Name, Peeked, Received, Reply};
 use strm_module::Driver;
 use strm_msg::Bytes;
-use strm_verb::Worded;
+use strm_verb::{MessageWord, Worded};
 
 /// The word of which parts stay.
 fn more_word(more: More) -> &'static [u8]
@@ -142,6 +144,9 @@ fn add_listed<W: Write>(w: &mut W, out: &mut Gathered, reply: &Reply)
             add_word(w, out, b"closed");
             add_names(w, out, names.as_slice());
         }
+        Reply::Message { m } => add_message(w, out, m),
+        Reply::Hangup => add_word(w, out, MessageWord::Hangup.word()),
+        Reply::Poll { told } => add_polled(w, out, *told),
     }
 }
 

@@ -40,6 +40,8 @@ pub(crate) fn verb_of<K>(request: &Request<BoxedShape<K>>) -> Verb
         Request::Ckband { .. } => Verb::Ckband,
         Request::Getband => Verb::Getband,
         Request::Close => Verb::Close,
+        Request::Take => Verb::Take,
+        Request::Poll => Verb::Poll,
     }
 }
 
@@ -130,7 +132,9 @@ fn add_listed<W: Write, K: PrintKind + Drop>(
         | Request::Nread
         | Request::GetRead
         | Request::Getband
-        | Request::Close => {}
+        | Request::Close
+        | Request::Take
+        | Request::Poll => {}
     }
 }
 

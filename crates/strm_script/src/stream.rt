@@ -69,7 +69,7 @@ pub fn put_far_end<W: Write>(
 {
     match driver {
         Driver::Loop => put_end(w, End::B, names),
-        Driver::Echo | Driver::Line => Ok(()),
+        Driver::Echo | Driver::Line | Driver::Wire => Ok(()),
     }
 }
 
@@ -89,22 +89,19 @@ fn add_counts<W: Write, K>(w: &mut W, out: &mut Gathered, log: &StreamLog<K>)
     add_all(w, out, &fields);
 }
 
-/// Adds the line of what became of the messages of a feed, which a line alone has; nothing for the other drivers.
+/// Adds the line of what became of the messages of a feed, which a line or a wire has; nothing for the other drivers.
 #[tactic(auto, using(crate::proofs::GatheredLemmas::puts), unfolding(crate::specs::Lines::feed_text))]
 fn add_feed<W: Write, K>(w: &mut W, out: &mut Gathered, driver: Driver, log: &StreamLog<K>)
     ensures { Puts (W.contents w.old) (W.contents w.new) out.old out.new (text.feed_text driver log.now) }
 {
-    match driver {
-        Driver::Line => {
-            out.put(w, b"feed");
-            add_counts(w, out, log);
-            out.put(w, b"\n");
-        }
-        Driver::Echo | Driver::Loop => {}
+    if driver.is_line() {
+        out.put(w, b"feed");
+        add_counts(w, out, log);
+        out.put(w, b"\n");
     }
 }
 
-/// Writes the line of what became of the messages of a feed, which a line alone has; nothing for the other drivers.
+/// Writes the line of what became of the messages of a feed, which a line or a wire has; nothing for the other drivers.
 ///
 /// Refused where the writer is, and with its error.
 pub fn put_feed<W: Write, K>(w: &mut W, driver: Driver, log: &StreamLog<K>) -> io::Result<()>

@@ -35,9 +35,11 @@ word_of Verb.Canput = codes "canput"
 word_of Verb.Ckband = codes "ckband"
 word_of Verb.Getband = codes "getband"
 word_of Verb.Close = codes "close"
+word_of Verb.Take = codes "take"
+word_of Verb.Poll = codes "poll"
 
 abbrev pub all_verbs : List Verb
-all_verbs = Verb.Putmsg ∷ Verb.Putpmsg ∷ Verb.Getmsg ∷ Verb.Getpmsg ∷ Verb.Read ∷ Verb.Write ∷ Verb.Push ∷ Verb.Pop ∷ Verb.Look ∷ Verb.List ∷ Verb.Find ∷ Verb.Str ∷ Verb.Flush ∷ Verb.FlushBand ∷ Verb.Nread ∷ Verb.Peek ∷ Verb.SetRead ∷ Verb.GetRead ∷ Verb.Canput ∷ Verb.Ckband ∷ Verb.Getband ∷ Verb.Close ∷ []
+all_verbs = Verb.Putmsg ∷ Verb.Putpmsg ∷ Verb.Getmsg ∷ Verb.Getpmsg ∷ Verb.Read ∷ Verb.Write ∷ Verb.Push ∷ Verb.Pop ∷ Verb.Look ∷ Verb.List ∷ Verb.Find ∷ Verb.Str ∷ Verb.Flush ∷ Verb.FlushBand ∷ Verb.Nread ∷ Verb.Peek ∷ Verb.SetRead ∷ Verb.GetRead ∷ Verb.Canput ∷ Verb.Ckband ∷ Verb.Getband ∷ Verb.Close ∷ Verb.Take ∷ Verb.Poll ∷ []
 
 -- the call that a word names
 abbrev pub verb_named : List ℕ → Option Verb
@@ -97,6 +99,8 @@ asked_of (Request.Canput band) = Told Verb.Canput (Number band ∷ [])
 asked_of (Request.Ckband band) = Told Verb.Ckband (Number band ∷ [])
 asked_of Request.Getband = Told Verb.Getband []
 asked_of Request.Close = Told Verb.Close []
+asked_of Request.Take = Told Verb.Take []
+asked_of Request.Poll = Told Verb.Poll []
 
 -- what a call asks for that has no fields (no public clause cites it)
 abbrev pub plain_at : {K : Type 0} → Asked K → List (List ℕ) → Result (Asked K) Cause

@@ -245,6 +245,8 @@ fn bare_at<M: ModuleOf>(verb: Verb, texts: &[&[u8]]) -> Result<Request<Boxed<M>>
         Verb::Ckband => ckband(texts),
         Verb::Getband => plain(texts, Request::Getband),
         Verb::Close => plain(texts, Request::Close),
+        Verb::Take => plain(texts, Request::Take),
+        Verb::Poll => plain(texts, Request::Poll),
         _ => unreachable!(),
     }
 }

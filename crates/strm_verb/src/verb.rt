@@ -54,6 +54,10 @@ pub enum Verb {
     Getband,
     /// Closes the end (close(2)).
     Close,
+    /// Takes a message that was sent down to a wire.
+    Take,
+    /// Asks what poll(2) says of the end.
+    Poll,
 }
 
 impl Verb {
@@ -73,7 +77,9 @@ impl Verb {
             | Verb::Nread
             | Verb::GetRead
             | Verb::Getband
-            | Verb::Close => 0,
+            | Verb::Close
+            | Verb::Take
+            | Verb::Poll => 0,
         }
     }
 
@@ -120,6 +126,8 @@ impl Worded for Verb {
             Verb::Ckband => b"ckband",
             Verb::Getband => b"getband",
             Verb::Close => b"close",
+            Verb::Take => b"take",
+            Verb::Poll => b"poll",
         }
     }
 
@@ -147,6 +155,8 @@ impl Worded for Verb {
             Verb::Ckband,
             Verb::Getband,
             Verb::Close,
+            Verb::Take,
+            Verb::Poll,
         ]
     }
 }

@@ -1,0 +1,70 @@
+//! What poll(2) says of an end.
+ghost use Rattle.std.specs.Prelude.{◌≡◌, ◌∷◌, ◌++◌, [], ◌≤◌, ◌+◌, length};
+ghost use Rattle.strm_verb.specs.Field.{Word};
+ghost use Rattle.strm_script.specs.Fields.{spaced};
+ghost use Rattle.strm_script.specs.Gathered.{Puts};
+ghost use Rattle.strm_script.specs.Replies.{with_word, joined, poll_flags, poll_word};
+
+use crate::field::add_word;
+use crate::gathered::Gathered;
+use arrayvec::ArrayVec;
+use std::io::Write;
+use strm_call::Polled;
+
+/// More bytes than all words have together.
+const LONGEST: usize = 64;
+
+/// Puts bytes behind those that stand there, for which there is room.
+fn put(so_far: &mut ArrayVec<u8, LONGEST>, bytes: &[u8])
+    requires { length so_far.old.items + length bytes.now ≤ LONGEST }
+    ensures { so_far.new.items ≡ so_far.old.items ++ bytes.now }
+{
+    match so_far.try_extend_from_slice(bytes) {
+        Ok(()) => {}
+        Err(_) => unreachable!(),
+    }
+}
+
+/// Puts a word behind those so far, with a `+` between, where it holds.
+fn put_word(so_far: &mut ArrayVec<u8, LONGEST>, holds: bool, word: &[u8])
+    requires { length so_far.old.items + length word.now + 1 ≤ LONGEST }
+    ensures text { so_far.new.items ≡ with_word holds word.now so_far.old.items }
+    ensures len { length so_far.new.items ≤ length so_far.old.items + length word.now + 1 }
+{
+    if !holds {
+        return;
+    }
+    if !so_far.is_empty() {
+        put(so_far, b"+");
+    }
+    put(so_far, word);
+}
+
+/// The words of the flags that hold, joined.
+fn words_of(told: Polled) -> ArrayVec<u8, LONGEST>
+    ensures { result.items ≡ joined [] (poll_flags told) }
+{
+    let mut so_far = ArrayVec::new();
+    put_word(&mut so_far, told.is_in(), b"in");
+    put_word(&mut so_far, told.is_rdnorm(), b"rdnorm");
+    put_word(&mut so_far, told.is_rdband(), b"rdband");
+    put_word(&mut so_far, told.is_pri(), b"pri");
+    put_word(&mut so_far, told.out, b"out");
+    put_word(&mut so_far, told.wrband, b"wrband");
+    put_word(&mut so_far, told.err, b"err");
+    put_word(&mut so_far, told.hup, b"hup");
+    put_word(&mut so_far, told.nval, b"nval");
+    so_far
+}
+
+/// Adds the words of the flags that hold, joined, and `0` where none does.
+pub(crate) fn add_polled<W: Write>(w: &mut W, out: &mut Gathered, told: Polled)
+    ensures { Puts (W.contents w.old) (W.contents w.new) out.old out.new (spaced (Word (poll_word told) ∷ [])) }
+{
+    let words = words_of(told);
+    if words.is_empty() {
+        add_word(w, out, b"0");
+    } else {
+        add_word(w, out, words.as_slice());
+    }
+}

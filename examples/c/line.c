@@ -58,6 +58,7 @@ static void read_some(struct strm *s, size_t most)
 
 int main(void)
 {
+    int opened;
     struct strm s = STRM_CLOSED;
     char room[8];
     struct strbuf ctl = { 8, 0, room };
@@ -65,7 +66,10 @@ int main(void)
     int32_t mode = 0;
     size_t written = 0;
 
-    printf("open %s\n", said(strm_open(&s, STRM_LINE, 16, 4, 8, 2)));
+    opened = strm_open(&s, STRM_LINE, 16, 4, 8, 2);
+    printf("open %s\n", said(opened));
+    if (opened)
+        return 1;
     printf("arrive %s\n", said(arrive(&s, M_DATA, "12345678")));
     printf("arrive %s\n", said(arrive(&s, M_DATA, "abcdefgh")));
     printf("arrive %s\n", said(arrive(&s, M_DATA, "ijklmnop")));
@@ -98,7 +102,10 @@ int main(void)
     printf("arrive %s\n", said(arrive(&s, M_DATA, "s")));
     strm_free(&s);
 
-    printf("open %s\n", said(strm_open(&s, STRM_ECHO, 16, 4, 8, 2)));
+    opened = strm_open(&s, STRM_ECHO, 16, 4, 8, 2);
+    printf("open %s\n", said(opened));
+    if (opened)
+        return 1;
     printf("no line %s\n", said(arrive(&s, M_DATA, "t")));
     strm_free(&s);
     return 0;

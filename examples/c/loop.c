@@ -43,6 +43,7 @@ static void list(struct strm *s, uint8_t end)
 
 int main(void)
 {
+    int opened;
     struct strm s = STRM_CLOSED;
     struct strm_module term = { "term", STRM_CRNL, 64, 16, 64, 16, 0, NULL, 0 };
     struct strm_module tally = { "tally", STRM_COUNT, 0, 0, 0, 0, 0, NULL, 0 };
@@ -53,7 +54,10 @@ int main(void)
     uint64_t count = 0;
     int found = 0, answer = STRM_REFUSED;
 
-    printf("open %s\n", said(strm_open(&s, STRM_LOOP, 64, 16, 64, 16)));
+    opened = strm_open(&s, STRM_LOOP, 64, 16, 64, 16);
+    printf("open %s\n", said(opened));
+    if (opened)
+        return 1;
     printf("push %s", said(strm_push(&s, STRM_A, &term)));
     printf(" %s", said(strm_push(&s, STRM_A, &tally)));
     printf(" %s\n", said(strm_push(&s, STRM_A, &wrong)));

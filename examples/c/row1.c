@@ -6,13 +6,17 @@
 
 int main(void)
 {
+    int opened;
     struct strm s = STRM_CLOSED;
     char control[] = "c", data[] = "hello", ctl_room[64], dat_room[64];
     struct strbuf ctl = { 0, 1, control }, dat = { 0, 5, data };
     struct strbuf taken_ctl = { 64, 0, ctl_room }, taken_dat = { 64, 0, dat_room };
     int flags = 0, more = 0;
 
-    printf("open %s\n", said(strm_open(&s, STRM_ECHO, 16, 4, 16, 4)));
+    opened = strm_open(&s, STRM_ECHO, 16, 4, 16, 4);
+    printf("open %s\n", said(opened));
+    if (opened)
+        return 1;
     printf("putmsg %s\n", said(strm_putmsg(&s, STRM_A, &ctl, &dat, 0)));
     printf("getmsg %s", said(strm_getmsg(&s, STRM_A, &taken_ctl, &taken_dat, &flags, &more)));
     printf(" control %.*s", taken_ctl.len, ctl_room);

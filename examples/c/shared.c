@@ -67,9 +67,13 @@ static void *read_all(void *arg)
 
 int main(void)
 {
+    int opened;
     pthread_t threads[WRITERS + 1];
     int disordered = 0, failed = 0;
-    printf("open %s\n", said(strm_open(&stream, STRM_ECHO, 64, 16, 64, 16)));
+    opened = strm_open(&stream, STRM_ECHO, 64, 16, 64, 16);
+    printf("open %s\n", said(opened));
+    if (opened)
+        return 1;
     pthread_create(&threads[WRITERS], NULL, read_all, &disordered);
     for (int i = 0; i < WRITERS; i++)
         pthread_create(&threads[i], NULL, write_all, &numbers[i]);

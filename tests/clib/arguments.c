@@ -3,7 +3,7 @@
  * and free wrapped. A call that is refused so takes no memory and writes nothing.
  *
  * Each row is a call and the errno that is wanted, first at an open end. An arrival has an order of its own, and a name that is looked for is
- * judged behind the stream. */
+ * judged behind the stream. A take, what would be taken and a poll are held to all that refuses them: none of them takes memory here. */
 #include <stdio.h>
 #include <stdlib.h>
 
@@ -168,6 +168,44 @@ static int arrive(int kind, int number)
     return strm_arrive(&s, kind, 0, NULL, NULL, number);
 }
 
+/* A take with so much room, -1 for none. */
+static int take(int ctl_room, int dat_room)
+{
+    char room[32] = "";
+    struct strbuf ctl = { ctl_room, -2, room }, dat = { dat_room, -2, room + 16 };
+    int kind = -2, band = -2;
+    int e = strm_take(&s, at, &kind, &band, &ctl, &dat);
+    hold_unwritten("take", kind == -2 && band == -2 && ctl.len == -2 && dat.len == -2 && room[0] == 0 && room[16] == 0);
+    return e;
+}
+
+/* The same with NULL in place of both parts. */
+static int take_bare(int unused, int unused_too)
+{
+    int kind = -2, band = -2;
+    (void)unused, (void)unused_too;
+    int e = strm_take(&s, at, &kind, &band, NULL, NULL);
+    hold_unwritten("take", kind == -2 && band == -2);
+    return e;
+}
+
+static int next(int unused, int unused_too)
+{
+    int kind = -2, band = -2, ctl_len = -2, dat_len = -2;
+    (void)unused, (void)unused_too;
+    int e = strm_next(&s, at, &kind, &band, &ctl_len, &dat_len);
+    hold_unwritten("next", kind == -2 && band == -2 && ctl_len == -2 && dat_len == -2);
+    return e;
+}
+
+/* A poll for some events, of which these are told. */
+static int poll(int events, int told_wanted)
+{
+    uint32_t told = 0xdead;
+    int e = strm_poll(&s, at, (uint32_t)events, &told);
+    return e ? e : told == (uint32_t)told_wanted ? 0 : ERANGE;
+}
+
 static int open_driver(int driver, int unused)
 {
     struct strm other = STRM_CLOSED;
@@ -244,7 +282,7 @@ enum { ROWS = sizeof rows / sizeof *rows };
 
 /* EINVAL by what is given alone, at no end. */
 static const struct row openings[] = {
-    { "open, driver 3", open_driver, STRM_LINE + 1, 0 },
+    { "open, driver 4", open_driver, STRM_WIRE + 1, 0 },
     { "open, driver -1", open_driver, -1, 0 },
     { "open, the head's marks 4 and 4", open_head, 4, 4 },
     { "open, the lists' marks 4 and 5", open_lists, 4, 5 },
@@ -265,6 +303,26 @@ static const struct row arrivals[] = {
     { "arrive, M_ERROR with 1", arrive, M_ERROR, 1 },
 };
 enum { ARRIVALS = sizeof arrivals / sizeof *arrivals };
+
+/* Each way to take what was sent down to a wire, and to ask for it. */
+static const struct row takes[] = {
+    { "take", take, 16, 16 },
+    { "take with no room", take, -1, -1 },
+    { "take with neither part", take_bare, 0, 0 },
+    { "next", next, 0, 0 },
+};
+enum { TAKES = sizeof takes / sizeof *takes };
+
+/* Too little room for control of 3 bytes and data of 4. */
+static const struct row short_rooms[] = {
+    { "take, control a byte short", take, 2, 16 },
+    { "take, data a byte short", take, 16, 3 },
+    { "take, room for no byte", take, 0, 0 },
+    { "take, no room for control", take, -1, 16 },
+    { "take, no room for data", take, 16, -1 },
+    { "take with neither part", take_bare, 0, 0 },
+};
+enum { SHORT_ROOMS = sizeof short_rooms / sizeof *short_rooms };
 
 /* Holds a call to an errno. It takes no memory. */
 static void hold(const struct row *row, int errno_wanted, const char *where)
@@ -361,11 +419,102 @@ static void hold_states(void)
     strm_free(&s);
 }
 
+/* Takes with the room that is needed and no more: what is given is whole, and next has told it. */
+static void take_whole(int ctl_wanted, int dat_wanted, int kind_wanted)
+{
+    char room[16];
+    struct strbuf ctl = { ctl_wanted, -2, room }, dat = { dat_wanted, -2, room + 8 };
+    int kind = -2, band = -2, ctl_len = -2, dat_len = -2;
+    int e = strm_next(&s, at, &kind, &band, &ctl_len, &dat_len);
+    int is_told = e == 0 && kind == kind_wanted && band == 0 && ctl_len == ctl_wanted && dat_len == dat_wanted;
+    kind = band = -2;
+    e = strm_take(&s, at, &kind, &band, &ctl, &dat);
+    int is_taken = e == 0 && kind == kind_wanted && band == 0 && ctl.len == ctl_wanted && dat.len == dat_wanted;
+    if (!is_told || !is_taken) {
+        printf("a take of %d and %d bytes: %s, kind %d\n", ctl_wanted, dat_wanted, said(e), kind);
+        failed++;
+    }
+}
+
+/* Sends control and data down, of lengths or -1. */
+static void send_down(int ctl_len, int dat_len)
+{
+    struct strbuf ctl = { 0, ctl_len, (char[]){ "ctl" } }, dat = { 0, dat_len, (char[]){ "data" } };
+    if (strm_putmsg(&s, STRM_A, &ctl, &dat, 0) != 0)
+        exit(2);
+}
+
+static void hold_poll(int told, const char *where)
+{
+    struct row row = { "poll for all", poll, 0x3ff, told };
+    hold_all(&row, 1, 0, where);
+    row = (struct row){ "poll for nothing", poll, 0, told & (STRM_POLLERR | STRM_POLLHUP | STRM_POLLNVAL) };
+    hold_all(&row, 1, 0, where);
+}
+
+/* What refuses a take of a wire, in its order, and a message that stays for want of room. */
+static void hold_wires(void)
+{
+    enum { OUT = STRM_POLLOUT | STRM_POLLWRNORM };
+    open_as(STRM_WIRE);
+    hold_all(takes, TAKES, EAGAIN, "at a wire of no output");
+    hold_poll(OUT, "at a wire of no output");
+    send_down(3, 4);
+    hold_all(short_rooms, SHORT_ROOMS, ERANGE, "with too little room");
+    at = STRM_B;
+    hold_all(takes, TAKES, EBADF, "at an end that the driver lacks");
+    hold_poll(STRM_POLLNVAL, "at an end that the driver lacks");
+    at = STRM_B + 1;
+    hold_all(takes, TAKES, EBADF, "at no end");
+    hold_poll(STRM_POLLNVAL, "at no end");
+    at = STRM_A;
+    send_down(-1, 0);
+    hold_poll(0, "at a wire that is full");
+    take_whole(3, 4, M_PROTO);
+    hold_all(takes + 1, 1, ERANGE, "with no room for a part of no byte");
+    take_whole(-1, 0, M_DATA);
+    strm_arrive(&s, M_ERROR, 0, NULL, NULL, EPROTO);
+    hold_all(takes, TAKES, EAGAIN, "behind an error");
+    hold_poll(STRM_POLLERR, "behind an error");
+    strm_close(&s, STRM_A);
+    take_whole(-1, -1, M_HANGUP);
+    take_whole(-1, -1, M_HANGUP);
+    hold_poll(STRM_POLLNVAL, "at a closed wire");
+    strm_free(&s);
+}
+
+/* A take where the driver is no wire: behind a closed end and a broken stream. */
+static void hold_no_wire(void)
+{
+    open_as(STRM_LOOP);
+    hold_all(takes, TAKES, EINVAL, "where there is no wire");
+    strm_close(&s, STRM_B);
+    hold_poll(STRM_POLLHUP, "at an end that is hung up");
+    is_refusing = 1;
+    strm_close(&s, STRM_A);
+    is_refusing = 0;
+    hold_all(takes, TAKES, EBADF, "at a closed end");
+    strm_free(&s);
+    open_as(STRM_LOOP);
+    is_refusing = 1;
+    strm_close(&s, STRM_A);
+    is_refusing = 0;
+    hold_all(takes, TAKES, EBADF, "at a closed end of a broken stream");
+    hold_poll(STRM_POLLNVAL, "at a closed end of a broken stream");
+    at = STRM_B;
+    hold_all(takes, TAKES, ENOSR, "on a broken stream");
+    hold_poll(STRM_POLLERR, "on a broken stream");
+    at = STRM_A;
+    strm_free(&s);
+}
+
 int main(void)
 {
     hold_all(openings, OPENINGS, EINVAL, "at no stream");
     hold_ends();
     hold_no_end();
     hold_states();
+    hold_wires();
+    hold_no_wire();
     return failed != 0;
 }

@@ -5,8 +5,8 @@
  *                     which none is refused. It is linked with malloc, realloc and free wrapped.
  *
  * A call that is refused with ENOSR is made again, once. Then it answers as it would have; or it is refused again, with ENOSR, or with EBADF
- * where it was a close. So the stream is broken: each later call but close is refused with ENOSR. At the end as many blocks are freed as were
- * given. */
+ * where it was a close. So the stream is broken: each later call but close and poll is refused with ENOSR. At the end as many blocks are
+ * freed as were given. */
 #include <stdio.h>
 #include <stdlib.h>
 
@@ -426,6 +426,61 @@ static int do_getband(void)
     return add_value(e, band);
 }
 
+/* The message that is taken, as a feed writes it. What strm_next told before is held to it. */
+static int do_take(void)
+{
+    struct strbuf ctl = { MOST, -2, ctl_room }, dat = { MOST, -2, dat_room };
+    int kind = -1, band = -1, next_kind = -1, next_band = -1, next_ctl = -2, next_dat = -2;
+    int told_before = strm_next(&stream, end, &next_kind, &next_band, &next_ctl, &next_dat);
+    int e = strm_take(&stream, end, &kind, &band, &ctl, &dat);
+    int is_told = e == told_before && kind == next_kind && band == next_band && ctl.len == next_ctl && dat.len == next_dat;
+    if (!is_told && !(e == ENOSR && told_before == 0))
+        add(&line, "not what strm_next told: ");
+    if (e)
+        return e;
+    if (kind == M_HANGUP) {
+        add(&line, "hangup");
+        return 0;
+    }
+    add(&line, kind == M_PCPROTO ? "pcproto " : kind == M_PROTO ? "proto " : "data ");
+    if (kind != M_PCPROTO) {
+        add_number(&line, (unsigned long)band);
+        add(&line, " ");
+    }
+    if (kind == M_DATA)
+        add_part(&line, dat.buf, dat.len);
+    else
+        add_parts(&ctl, &dat);
+    return 0;
+}
+
+static int do_poll(void)
+{
+    static const struct {
+        uint32_t flag;
+        const char *word;
+    } flags[] = {
+        { STRM_POLLIN, "in" },         { STRM_POLLRDNORM, "rdnorm" }, { STRM_POLLRDBAND, "rdband" },
+        { STRM_POLLPRI, "pri" },       { STRM_POLLOUT, "out" },       { STRM_POLLWRBAND, "wrband" },
+        { STRM_POLLERR, "err" },       { STRM_POLLHUP, "hup" },       { STRM_POLLNVAL, "nval" },
+    };
+    uint32_t told = 0, events = 0, words = 0;
+    for (size_t i = 0; i < sizeof flags / sizeof *flags; i++)
+        events |= flags[i].flag;
+    int e = strm_poll(&stream, end, events | STRM_POLLWRNORM, &told);
+    for (size_t i = 0; i < sizeof flags / sizeof *flags; i++) {
+        if (told & flags[i].flag) {
+            add(&line, words ? "+" : "");
+            add(&line, flags[i].word);
+            words |= flags[i].flag;
+        }
+    }
+    if (words & STRM_POLLOUT)
+        words |= STRM_POLLWRNORM;
+    add(&line, told != words ? " and another flag" : words ? "" : "0");
+    return e;
+}
+
 static int do_close(void)
 {
     struct text names = { "", 0 };
@@ -446,7 +501,7 @@ static const struct verb {
     { "read", do_read },       { "write", do_write },     { "push", do_push },     { "pop", do_pop },             { "look", do_look },
     { "list", do_list },       { "find", do_find },       { "str", do_str },       { "flush", do_flush },         { "flushband", do_flushband },
     { "nread", do_nread },     { "setread", do_setread }, { "getread", do_getread }, { "canput", do_canput },     { "ckband", do_ckband },
-    { "getband", do_getband }, { "close", do_close },
+    { "getband", do_getband }, { "close", do_close },     { "take", do_take },     { "poll", do_poll },
 };
 
 /* Makes the call of the line once: its code, with its reply at the end of `line`. */
@@ -487,7 +542,7 @@ static int declare(void)
     snprintf(driver_name, sizeof driver_name, "%s", fields[2]);
     if (sscanf(fields[3], "%u/%u", &hi, &lo) != 2 || sscanf(fields[4], "%u/%u", &drv_hi, &drv_lo) != 2)
         return EINVAL;
-    uint32_t driver = is(driver_name, "echo") ? STRM_ECHO : is(driver_name, "loop") ? STRM_LOOP : STRM_LINE;
+    uint32_t driver = is(driver_name, "echo") ? STRM_ECHO : is(driver_name, "loop") ? STRM_LOOP : is(driver_name, "wire") ? STRM_WIRE : STRM_LINE;
     int e = strm_open(&stream, driver, hi, lo, drv_hi, drv_lo);
     if (e == ENOSR)
         e = strm_open(&stream, driver, hi, lo, drv_hi, drv_lo);
@@ -563,7 +618,7 @@ static int play(const char *text)
         tell_end(STRM_A, "a");
         if (is(driver_name, "loop"))
             tell_end(STRM_B, "b");
-        if (is(driver_name, "line"))
+        if (is(driver_name, "line") || is(driver_name, "wire"))
             add(&told, "feed accepted 0 arrived 0 overrun 0\n");
     }
     strm_free(&stream);
@@ -581,7 +636,15 @@ static int has(const char *from, size_t len, const char *text)
     return 0;
 }
 
-/* Whether what was told is what was wanted, up to a call from which on each is refused with ENOSR, and only ends are closed. */
+/* Whether a line of so many bytes has what a call tells on a stream that is broken: it is refused, an end is closed, or a poll tells an error
+ * or a closed end. */
+static int is_of_broken(const char *from, size_t len)
+{
+    return has(from, len, " : ENOSR") || has(from, len, " : closed") || has(from, len, " : EBADF") || has(from, len, " : err") ||
+           has(from, len, " : nval");
+}
+
+/* Whether what was told is what was wanted, up to a call from which on each tells what it does on a broken stream. */
 static int is_broken_off(void)
 {
     const char *found = told.bytes, *as = wanted.bytes;
@@ -589,7 +652,7 @@ static int is_broken_off(void)
     while (*found) {
         size_t n = strcspn(found, "\n"), m = strcspn(as, "\n");
         same = same && n == m && memcmp(found, as, n) == 0;
-        if (!same && !has(found, n, " : ENOSR") && !has(found, n, " : closed") && !has(found, n, " : EBADF"))
+        if (!same && !is_of_broken(found, n))
             return 0;
         found += n + (found[n] == '\n');
         as += m + (as[m] == '\n');

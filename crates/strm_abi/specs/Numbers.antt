@@ -1,6 +1,8 @@
--- What errors, sides, modes and lengths are as numbers of C (errno(3), stropts.h of System V Release 4).
+-- What errors, kinds of message, sides, modes and lengths are as numbers of C (errno(3), stropts.h and sys/stream.h of System V Release 4).
 use Rattle.std.specs.Prelude.{ℕ, ◌+◌, nat_eq, min, Bool, true, false, Option, Some, None, length, if◌then◌else◌, ℤ, pos, negsuc}
 use Rattle.strm_msg.specs.Message.{Part}
+use Rattle.strm_msg.specs.declared.kind.MsgKind.{MsgKind}
+use Rattle.strm_msg.specs.declared.kind.MsgKind.TheVariants.{MData, MProto, MPcproto, MIoctl, MSetopts, MIocack, MIocnak, MFlush, MHangup, MError}
 use Rattle.strm_msg.specs.declared.errno.Errno.{Errno}
 use Rattle.strm_msg.specs.declared.errno.Errno.TheVariants.{EBADF, ENOSR, EINVAL, ERANGE, ENXIO, EBADMSG, ENODATA, EAGAIN, ETIME, EIO, EPROTO}
 use Rattle.strm_msg.specs.declared.words.End.{End}
@@ -23,6 +25,20 @@ number_of EAGAIN = 11
 number_of ETIME = 62
 number_of EIO = 5
 number_of EPROTO = 71
+
+-- the kinds of message by their numbers in sys/stream.h: M_DATA, M_PROTO, M_IOCTL, M_SETOPTS, M_IOCACK, M_IOCNAK, M_PCPROTO, M_FLUSH, M_HANGUP
+-- and M_ERROR
+abbrev pub kind_number : MsgKind → ℕ
+kind_number MData = 0
+kind_number MProto = 1
+kind_number (MIoctl id cmd) = 14
+kind_number (MSetopts mode prot marks) = 16
+kind_number (MIocack id rval) = 129
+kind_number (MIocnak id errno) = 130
+kind_number MPcproto = 131
+kind_number (MFlush r w flushed) = 134
+kind_number MHangup = 137
+kind_number (MError rd wr) = 138
 
 -- the end of a number
 abbrev pub end_of : ℕ → Option End

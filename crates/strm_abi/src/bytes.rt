@@ -1,4 +1,4 @@
-//! Bytes are written at the front of a buffer.
+//! The lengths of parts, and bytes that are written at the front of a buffer.
 ghost use Rattle.std.specs.Prelude.{◌≡◌, option_copied};
 ghost use Rattle.strm_abi.specs.Numbers as numbers;
 ghost use Rattle.strm_abi.specs.Bytes.{filled, filled_if};
@@ -12,6 +12,16 @@ pub fn fill(buffer: &mut [u8], bytes: &[u8])
 {
     let n = buffer.len().min(bytes.len());
     buffer[..n].copy_from_slice(&bytes[..n]);
+}
+
+/// The length of a part: -1 where there is none.
+pub fn length_of(part: Option<&Bytes>) -> i32
+    ensures { result ≡ numbers.length_of (option_copied part.entry) }
+{
+    match part {
+        Some(bytes) => int_of(bytes.len() as u64),
+        None => -1,
+    }
 }
 
 /// Puts a part at the front of a buffer, if there is one, and tells its length: -1 where there is none.

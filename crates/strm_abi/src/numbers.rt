@@ -1,9 +1,9 @@
-//! Errors, sides, modes and lengths as numbers of C.
+//! Errors, kinds of message, sides, modes and lengths as numbers of C.
 ghost use Rattle.std.specs.Prelude.{◌≡◌, ◌≤◌, pos};
 ghost use Rattle.strm_abi.specs.Numbers as numbers;
 ghost use Rattle.strm_abi.specs.Messages as messages;
 
-use strm_msg::{End, Errno, Prot, ReadMode};
+use strm_msg::{End, Errno, MsgKind, Prot, ReadMode};
 
 /// The number of an errno (errno.h on Linux).
 pub fn number_of(errno: Errno) -> i32
@@ -41,6 +41,24 @@ pub fn errno_of(number: u32) -> Option<Errno>
         5 => Some(Errno::EIO),
         71 => Some(Errno::EPROTO),
         _ => None,
+    }
+}
+
+/// The number of a kind of message (sys/stream.h).
+pub fn kind_number(kind: MsgKind) -> i32
+    ensures { result ≡ pos (numbers.kind_number kind) }
+{
+    match kind {
+        MsgKind::MData => 0,
+        MsgKind::MProto => 1,
+        MsgKind::MIoctl { .. } => 14,
+        MsgKind::MSetopts { .. } => 16,
+        MsgKind::MIocack { .. } => 129,
+        MsgKind::MIocnak { .. } => 130,
+        MsgKind::MPcproto => 131,
+        MsgKind::MFlush { .. } => 134,
+        MsgKind::MHangup => 137,
+        MsgKind::MError { .. } => 138,
     }
 }
 

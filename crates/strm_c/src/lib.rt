@@ -5,13 +5,16 @@
 //! room for it, and nothing beyond.
 #![tactic(auto)]
 
-ghost use Rattle.std.specs.Prelude.{◌≡◌, ◌||◌, true, false, [], Ok};
+ghost use Rattle.std.specs.Prelude.{◌≡◌, ◌||◌, pos, true, false, [], Ok};
 ghost use Rattle.strm_call.specs.declared.request.Request.TheVariants as Requests;
 ghost use Rattle.strm_call.specs.Refusal.{first_that_holds};
-ghost use Rattle.strm_handle.specs.Codes.{driver_of};
+ghost use Rattle.strm_abi.specs.Numbers.{end_of};
+ghost use Rattle.strm_handle.specs.Codes.{driver_of, told_flags};
 ghost use Rattle.strm_handle.specs.Asked as asks;
 ghost use Rattle.strm_handle.specs.Told.{HasTaken, IsValue, AreValues, IsNamed, Nothing};
 ghost use Rattle.strm_handle.specs.Call.{Calls, CopiesAndCalls, Opens};
+ghost use Rattle.strm_handle.specs.Outside as outside;
+ghost use Rattle.strm_handle.specs.Polls.{polled_at};
 ghost use Rattle.strm_abi.specs.Messages.{message_of};
 ghost use Rattle.strm_handle.specs.Arrival.{arrival_refusals, CopiesAndHandsIn};
 
@@ -20,8 +23,9 @@ use strm_call::Request;
 pub use strm_handle::{Got, Handle};
 use strm_handle::{
     arrive, call, call_for_name, call_for_value, call_for_values, call_taking, driver_of, find_of,
-    flush_of, flushband_of, free_stream, getmsg_of, getpmsg_of, kind_of, marks_of, open_stream,
-    peek_of, push_of, putmsg_of, putpmsg_of, read_of, setread_of, str_of, write_of,
+    flush_of, flushband_of, free_stream, getmsg_of, getpmsg_of, kind_of, marks_of, next,
+    open_stream, peek_of, poll, push_of, putmsg_of, putpmsg_of, read_of, setread_of, str_of,
+    take_whole, write_of,
 };
 
 /// Opens a stream into a closed handle.
@@ -421,6 +425,53 @@ pub extern "C" fn strm_arrive_parts(
     ensures lands { CopiesAndHandsIn (first_that_holds (arrival_refusals s.old.held.stream (asks.part_of has_ctl ctl.now) (asks.part_of has_dat dat.now))) (has_ctl || has_dat) s.old.held.stream (message_of kind band (asks.part_of has_ctl ctl.now) (asks.part_of has_dat dat.now) number) result s.new.held.stream }
 {
     arrive(alloc, s, kind, band, has_ctl, ctl, has_dat, dat, number)
+}
+
+/// Takes the first message that was sent down to a wire, whole or not at all; of a closed wire of which all was taken, a hangup.
+#[unsafe(no_mangle)]
+pub extern "C" fn strm_take_parts(
+    alloc: Global,
+    s: &mut Handle,
+    end: u8,
+    has_ctl: bool,
+    ctl: &mut [u8],
+    has_dat: bool,
+    dat: &mut [u8],
+    got: &mut Got,
+) -> i32
+    requires { s.old.is_open ≡ true }
+    ensures open { s.new.is_open ≡ true }
+    ensures takes { outside.TakesWhole (outside.stays_for_room s.old.held.stream (end_of end) (outside.room_of has_ctl ctl.old) (outside.room_of has_dat dat.old)) s.old.held.stream end (HasTaken ctl.old dat.old got.old ctl.new dat.new got.new) result s.new.held.stream }
+{
+    take_whole(alloc, s, end, has_ctl, ctl, has_dat, dat, got)
+}
+
+/// Tells what a take would give, and leaves it there.
+#[unsafe(no_mangle)]
+pub extern "C" fn strm_next_lengths(alloc: Global, s: &mut Handle, end: u8, got: &mut Got) -> i32
+    requires { s.old.is_open ≡ true }
+    ensures open { s.new.is_open ≡ true }
+    ensures next { outside.TellsNext s.old.held.stream (end_of end) got.old got.new result s.new.held.stream }
+{
+    next(alloc, s, end, got)
+}
+
+/// Tells what holds of an end: those of `events`, and POLLERR, POLLHUP and POLLNVAL (poll(2)).
+#[unsafe(no_mangle)]
+pub extern "C" fn strm_poll(
+    alloc: Global,
+    s: &mut Handle,
+    end: u8,
+    events: u32,
+    revents: &mut u32,
+) -> i32
+    requires { s.old.is_open ≡ true }
+    ensures open { s.new.is_open ≡ true }
+    ensures same { s.new.held.stream ≡ s.old.held.stream }
+    ensures done { result ≡ pos 0 }
+    ensures told { revents.new ≡ told_flags events (polled_at s.old.held.stream (end_of end)) }
+{
+    poll(alloc, s, end, events, revents)
 }
 
 /// Closes an end (close(2)). The handle stays open.

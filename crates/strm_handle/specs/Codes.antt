@@ -1,5 +1,5 @@
 -- What answers, drivers and flags are as numbers of C (stropts.h of System V Release 4).
-use Rattle.std.specs.Prelude.{ℕ, nat_eq, Bool, true, false, Option, Some, None, if◌then◌else◌}
+use Rattle.std.specs.Prelude.{ℕ, ◌+◌, nat_eq, bit_and, bit_or, Bool, true, false, Option, Some, None, if◌then◌else◌}
 use Rattle.strm_msg.specs.declared.errno.Errno.TheVariants.{ENOSR, ETIME}
 use Rattle.strm_module.specs.declared.driver.Driver.{Driver}
 use Rattle.strm_module.specs.declared.driver.Driver.TheVariants as Drivers
@@ -16,6 +16,8 @@ use Rattle.strm_call.specs.declared.answer.More.{More}
 use Rattle.strm_call.specs.declared.answer.More.TheVariants as Mores
 use Rattle.strm_call.specs.declared.answer.Acknowledged.{Acknowledged}
 use Rattle.strm_call.specs.declared.answer.Acknowledged.TheVariants.{Ack, Nak, Timeout}
+use Rattle.strm_call.specs.declared.answer.Polled.{Polled}
+use Rattle.strm_call.specs.Polled.{is_in, is_rdnorm, is_rdband, is_pri}
 use Rattle.strm_call.specs.declared.answer.Reply.{Reply}
 use Rattle.strm_call.specs.declared.answer.Reply.TheVariants.{Str}
 use Rattle.strm_call.specs.declared.answer.Answer.{Answer}
@@ -39,7 +41,9 @@ code_of (Refused refusal) = number_of (errno_of refusal)
 code_of Broke = number_of ENOSR
 
 abbrev pub driver_of : ℕ → Option Driver
-driver_of n = if nat_eq n 0 then Some Drivers.Echo else if nat_eq n 1 then Some Drivers.Loop else if nat_eq n 2 then Some Drivers.Line else None
+driver_of n =
+    if nat_eq n 0 then Some Drivers.Echo else if nat_eq n 1 then Some Drivers.Loop else if nat_eq n 2 then Some Drivers.Line
+    else if nat_eq n 3 then Some Drivers.Wire else None
 
 -- RS_HIPRI is 1
 abbrev pub priority_of : ℕ → Option Priority
@@ -72,3 +76,17 @@ more_number Mores.Both = 3
 abbrev pub bit_number : Bool → ℕ
 bit_number false = 0
 bit_number true = 1
+
+-- flags where something holds
+abbrev pub flags_if : Bool → ℕ → ℕ
+flags_if holds flags = if holds then flags else 0
+
+-- all that holds, by the numbers of poll.h on Linux: POLLIN is 1, POLLPRI 2, POLLOUT 4 with POLLWRNORM 256, POLLERR 8, POLLHUP 16, POLLNVAL 32,
+-- POLLRDNORM 64, POLLRDBAND 128 and POLLWRBAND 512
+abbrev pub poll_flags : Polled → ℕ
+poll_flags told =
+    flags_if (is_in told.first) 1 + flags_if (is_pri told.first) 2 + flags_if told.out 260 + flags_if told.err 8 + flags_if told.hup 16 + flags_if told.nval 32 + flags_if (is_rdnorm told.first) 64 + flags_if (is_rdband told.first) 128 + flags_if told.wrband 512
+
+-- what is told of it: what was asked for, and POLLERR, POLLHUP and POLLNVAL
+abbrev pub told_flags : ℕ → Polled → ℕ
+told_flags events told = bit_and (bit_or events 56) (poll_flags told)

@@ -6,3 +6,5 @@ pub mod Told
 pub mod Fits
 pub mod Call
 pub mod Arrival
+pub mod Outside
+pub mod Polls

@@ -1,7 +1,8 @@
 -- What an answer writes where its caller has room for it.
-use Rattle.std.specs.Prelude.{◌≡◌, ℕ, Some, None, List, [], ◌∷◌, ◌++◌, map, length, slice_get, option_map, ℤ, pos}
+use Rattle.std.specs.Prelude.{◌≡◌, ℕ, Option, Some, None, List, [], ◌∷◌, ◌++◌, map, length, slice_get, option_map, ℤ, pos}
 use Rattle.arrayvec.specs.ArrayVec.{ArrayVec}
-use Rattle.strm_msg.specs.Message.{Part}
+use Rattle.strm_msg.specs.Message.{Msg, Part}
+use Rattle.strm_msg.specs.declared.kind.MsgKind.TheVariants.{MHangup}
 use Rattle.strm_module.specs.declared.driver.Driver.{Driver}
 use Rattle.strm_module.specs.Driver.{driver_name}
 use Rattle.strm_call.specs.declared.answer.Acknowledged.{Acknowledged}
@@ -13,7 +14,7 @@ use Rattle.strm_call.specs.declared.answer.Reply.TheVariants as Replies
 use Rattle.strm_call.specs.declared.answer.Answer.{Answer}
 use Rattle.strm_call.specs.declared.answer.Answer.TheVariants.{Done}
 use Rattle.strm_handle.specs.declared.told.Got.{Got}
-use Rattle.strm_abi.specs.Numbers.{read_number, int_of, length_of}
+use Rattle.strm_abi.specs.Numbers.{read_number, int_of, kind_number, length_of}
 use Rattle.strm_abi.specs.Bytes.{filled, filled_if}
 use Rattle.strm_handle.specs.Codes.{priority_number, more_number, bit_number}
 
@@ -22,6 +23,7 @@ abbrev pub ctl_of : Reply → Part
 ctl_of (Replies.Getmsg ctl dat flag more) = ctl
 ctl_of (Replies.Getpmsg ctl dat flag more) = ctl
 ctl_of (Replies.Peek (Some seen)) = seen.ctl
+ctl_of (Replies.Message m) = m.ctl
 ctl_of reply = None
 
 -- its data
@@ -31,6 +33,7 @@ dat_of (Replies.Getpmsg ctl dat flag more) = dat
 dat_of (Replies.Peek (Some seen)) = seen.dat
 dat_of (Replies.Read dat) = Some dat
 dat_of (Replies.Str (Ack rval dat)) = dat
+dat_of (Replies.Message m) = m.dat
 dat_of reply = None
 
 abbrev pub received_flags : Received → ℕ
@@ -65,13 +68,24 @@ abbrev pub rval_of : Acknowledged → ℕ
 rval_of (Ack rval dat) = rval
 rval_of answer = 0
 
+-- what is told of a message that is taken whole from a wire: its kind and its band, and that it is there
+abbrev pub got_whole : Msg → Got
+got_whole m = got m.ctl m.dat 1 (kind_number m.kind) m.band 0 0
+
 abbrev pub got_of : Reply → Got
 got_of (Replies.Getmsg ctl dat flag more) = got ctl dat 1 (priority_number flag) 0 (more_number more) 0
 got_of (Replies.Getpmsg ctl dat flag more) = got ctl dat 1 (received_flags flag) (received_band flag) (more_number more) 0
 got_of (Replies.Peek (Some seen)) = got seen.ctl seen.dat 1 (priority_number seen.flag) 0 0 0
 got_of (Replies.Read dat) = got None (Some dat) 1 0 0 0 0
 got_of (Replies.Str answer) = got None (dat_of (Replies.Str answer)) (answer_number answer) 0 0 0 (rval_of answer)
+got_of (Replies.Message m) = got_whole m
+got_of Replies.Hangup = got None None 1 (kind_number MHangup) 0 0 0
 got_of reply = got None None 0 0 0 0 0
+
+-- the reply of a take: the message that is first, or a hangup where there is none
+abbrev pub reply_next : Option Msg → Reply
+reply_next None = Replies.Hangup
+reply_next (Some m) = Replies.Message m
 
 -- what is told of an answer, and what was told before where it is no reply
 abbrev pub got_after : Answer → Got → Got

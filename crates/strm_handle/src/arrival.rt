@@ -12,7 +12,7 @@ use crate::judged::are_too_long;
 use std::alloc::Global;
 use strm_abi::{message_of, number_of};
 use strm_call::Refusal;
-use strm_head::{Arrived, Driver, Stream};
+use strm_head::{Arrived, Stream};
 use strm_module::Plain;
 use strm_msg::{End, Message};
 
@@ -62,7 +62,7 @@ fn arrival_refusal(
     if stream.is_broken() {
         return Some(Refusal::Broken);
     }
-    if stream.driver() != Driver::Line {
+    if !stream.driver().is_line() {
         return Some(Refusal::Invalid);
     }
     if are_too_long(has_ctl, ctl, has_dat, dat) {

@@ -30,7 +30,7 @@ fn admitted(end: u8, asked: Asked) -> Result<(End, Request<Boxed<Plain>>), Refus
 }
 
 /// Makes a step of a stream, and gives its answer. What else became of it is dropped here, and so once for all calls.
-fn step(stream: &mut Stream<Plain>, end: End, request: Request<Boxed<Plain>>) -> Answer
+pub fn step(stream: &mut Stream<Plain>, end: End, request: Request<Boxed<Plain>>) -> Answer
     ensures { calls.IsStep stream.old end request result stream.new }
 {
     let outcome = stream.apply(end, request);

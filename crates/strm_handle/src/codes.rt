@@ -1,9 +1,9 @@
-//! Answers, drivers and flags as numbers of C.
-ghost use Rattle.std.specs.Prelude.{◌≡◌, pos};
+//! Answers, drivers, flags and what a poll says as numbers of C.
+ghost use Rattle.std.specs.Prelude.{◌≡◌, ◌≤◌, pos};
 ghost use Rattle.strm_handle.specs.Codes as codes;
 
 use strm_abi::number_of;
-use strm_call::{Acknowledged, Answer, GetFlag, More, Priority, PutFlag, Reply, Wanted};
+use strm_call::{Acknowledged, Answer, GetFlag, More, Polled, Priority, PutFlag, Reply, Wanted};
 use strm_head::Driver;
 
 /// The code of what a call that was done gives back: 0, or the errno of an ioctl that was not carried out.
@@ -39,6 +39,7 @@ pub fn driver_of(driver: u32) -> Option<Driver>
         0 => Some(Driver::Echo),
         1 => Some(Driver::Loop),
         2 => Some(Driver::Line),
+        3 => Some(Driver::Wire),
         _ => None,
     }
 }
@@ -110,4 +111,34 @@ pub fn more_number(more: More) -> i32
         More::Data => 2,
         More::Both => 3,
     }
+}
+
+/// Flags where something holds.
+fn flags_if(holds: bool, flags: u32) -> u32
+    ensures value { result ≡ codes.flags_if holds flags }
+    ensures most { result ≤ flags }
+{
+    if holds { flags } else { 0 }
+}
+
+/// All that holds of an end, as the flags of poll(2).
+fn poll_flags(told: &Polled) -> u32
+    ensures { result ≡ codes.poll_flags told.now }
+{
+    flags_if(told.is_in(), 1)
+        + flags_if(told.is_pri(), 2)
+        + flags_if(told.out, 260)
+        + flags_if(told.err, 8)
+        + flags_if(told.hup, 16)
+        + flags_if(told.nval, 32)
+        + flags_if(told.is_rdnorm(), 64)
+        + flags_if(told.is_rdband(), 128)
+        + flags_if(told.wrband, 512)
+}
+
+/// What is told of it: what was asked for, and POLLERR, POLLHUP and POLLNVAL.
+pub fn told_flags(events: u32, told: Polled) -> u32
+    ensures { result ≡ codes.told_flags events told }
+{
+    (events | 56) & poll_flags(&told)
 }

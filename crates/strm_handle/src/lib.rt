@@ -10,7 +10,9 @@ mod handle;
 mod held;
 mod judged;
 mod opening;
+mod outside;
 mod parts;
+mod polling;
 mod told;
 
 pub use arrival::arrive;
@@ -23,5 +25,7 @@ pub use codes::driver_of;
 pub use handle::Handle;
 pub use held::Held;
 pub use opening::{free_stream, open_stream};
+pub use outside::{next, next_foretells, take_whole};
 pub use parts::Parts;
+pub use polling::poll;
 pub use told::Got;

@@ -1,14 +1,15 @@
 //! What is written of an answer where its caller has room for it.
-ghost use Rattle.std.specs.Prelude.{◌≡◌, pos, negsuc};
+ghost use Rattle.std.specs.Prelude.{◌≡◌, pos, negsuc, option_copied};
 ghost use Rattle.strm_call.specs.declared.answer.Reply.TheVariants as Replies;
 ghost use Rattle.strm_abi.specs.Numbers as numbers;
 ghost use Rattle.strm_abi.specs.Bytes.{filled, filled_if};
 ghost use Rattle.strm_handle.specs.Codes as codes;
-ghost use Rattle.strm_handle.specs.Told.{ctl_of, dat_of, got_of, received_flags, received_band, value_of, bytes_of, name_field, name_of, count_of, HasTaken, IsValue, AreValues, IsNamed};
+ghost use Rattle.strm_handle.specs.Told.{ctl_of, dat_of, got_whole, got_of, reply_next, received_flags, received_band, value_of, bytes_of, name_field, name_of, count_of, HasTaken, IsValue, AreValues, IsNamed};
 
 use crate::codes::{more_number, priority_number};
-use strm_abi::{fill, fill_part, int_of, read_number};
+use strm_abi::{fill, fill_part, int_of, kind_number, length_of, read_number};
 use strm_call::{Acknowledged, Answer, Received, Reply};
+use strm_msg::{Message, MsgKind};
 
 /// What is told of a message or of an ioctl beside its bytes.
 #[repr(C)]
@@ -20,9 +21,9 @@ pub struct Got {
     pub dat_len: i32,
     /// 1, and 0 where nothing was found; of an ioctl what has answered it: STRM_ACK, STRM_NAK or STRM_TIMEOUT.
     pub found: i32,
-    /// RS_HIPRI or 0; of getpmsg MSG_HIPRI or MSG_BAND.
+    /// RS_HIPRI or 0; of getpmsg MSG_HIPRI or MSG_BAND; of what a wire gives, the number of its kind.
     pub flags: i32,
-    /// The band of what getpmsg took.
+    /// The band of what getpmsg took, or a wire gives.
     pub band: i32,
     /// MORECTL, MOREDATA, both or neither.
     pub more: i32,
@@ -80,6 +81,35 @@ fn tell_ack(answer: &Acknowledged, dat: &mut [u8]) -> Got
     }
 }
 
+/// What is told of a message that is taken whole from a wire.
+fn whole(m: &Message) -> Got
+    ensures { result ≡ got_whole m.now }
+{
+    let flags = kind_number(m.kind);
+    Got {
+        band: int_of(u64::from(m.band)),
+        ..lengths(length_of(m.ctl.as_ref()), length_of(m.dat.as_ref()), flags)
+    }
+}
+
+/// What is told of a closed wire of which all was taken.
+fn hangup() -> Got
+    ensures { result ≡ got_of Replies.Hangup }
+{
+    lengths(-1, -1, kind_number(MsgKind::MHangup))
+}
+
+/// Puts both parts of a message into buffers, and tells the rest.
+fn tell_whole(m: &Message, ctl: &mut [u8], dat: &mut [u8]) -> Got
+    ensures control { ctl.new ≡ filled_if (ctl_of (Replies.Message m.now)) ctl.old }
+    ensures bytes { dat.new ≡ filled_if (dat_of (Replies.Message m.now)) dat.old }
+    ensures told { result ≡ got_of (Replies.Message m.now) }
+{
+    fill_part(ctl, m.ctl.as_ref());
+    fill_part(dat, m.dat.as_ref());
+    whole(m)
+}
+
 /// Puts the parts of a reply into buffers, and tells the rest.
 fn tell(reply: &Reply, ctl: &mut [u8], dat: &mut [u8]) -> Got
     ensures control { ctl.new ≡ filled_if (ctl_of reply.now) ctl.old }
@@ -130,7 +160,19 @@ fn tell(reply: &Reply, ctl: &mut [u8], dat: &mut [u8]) -> Got
             lengths(-1, int_of(bytes.len() as u64), 0)
         }
         Reply::Str { answer } => tell_ack(answer, dat),
+        Reply::Message { m } => tell_whole(m, ctl, dat),
+        Reply::Hangup => hangup(),
         _ => nothing(0),
+    }
+}
+
+/// What is told of the message that a take would give, or of the hangup where there is none.
+pub fn tell_next(first: Option<&Message>) -> Got
+    ensures { result ≡ got_of (reply_next (option_copied first.entry)) }
+{
+    match first {
+        Some(m) => whole(m),
+        None => hangup(),
     }
 }
 

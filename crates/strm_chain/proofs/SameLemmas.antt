@@ -126,11 +126,8 @@ echo_keeps e (MIoctl id cmd) m =
 echo_keeps e kind m = loop_keeps e kind m
 
 wire_keeps : {K : Type 0} (e : EndState K) (kind : MsgKind) (m : Msg) → SameEnd e (wire_does e kind m).state
-wire_keeps e (MFlush r w band) m = in_drv_keeps e (flushed_if w band e.drv)
-wire_keeps e MData m = in_drv_keeps e (put_in e.drv m)
-wire_keeps e MProto m = in_drv_keeps e (put_in e.drv m)
 wire_keeps e MPcproto m = in_drv_keeps e (put_in e.drv m)
-wire_keeps e kind m = same_end e
+wire_keeps e kind m = loop_keeps e kind m
 
 driver_at_keeps : {K : Type 0} (d : Driver) (e : EndState K) (m : Msg) → SameEnd e (driver_at d e m).state
 driver_at_keeps Line e m = line_keeps e m.kind

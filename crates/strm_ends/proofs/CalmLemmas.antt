@@ -132,19 +132,15 @@ echo_calm : {K : Type 0} (e : EndState K) (kind : MsgKind) (m : Msg) → is_calm
 echo_calm e (MIoctl id cmd) m h k = asked_calm (cmd == SETOPTS) e id m.dat
 echo_calm e kind m h k = loop_calm e kind m h k
 
-wire_calm : {K : Type 0} (e : EndState K) (kind : MsgKind) (m : Msg) → is_calm kind ≡ true → (sends_calm (wire_does e kind m).sends ≡ true) × (length e.drv ≤ length (wire_does e kind m).state.drv)
-wire_calm e (MFlush r w band) m h = cc
-wire_calm e (MIoctl id cmd) m h = (refl, le_same (length e.drv))
-wire_calm e MData m h = (refl, longer e.drv m)
-wire_calm e MProto m h = (refl, longer e.drv m)
-wire_calm e MPcproto m h = (refl, longer e.drv m)
-wire_calm e kind m h = (refl, le_same (length e.drv))
+wire_calm : {K : Type 0} (e : EndState K) (kind : MsgKind) (m : Msg) → is_calm kind ≡ true → is_calm m.kind ≡ true → (sends_calm (wire_does e kind m).sends ≡ true) × (length e.drv ≤ length (wire_does e kind m).state.drv)
+wire_calm e MPcproto m h k = (refl, longer e.drv m)
+wire_calm e kind m h k = loop_calm e kind m h k
 
 at_calm : {K : Type 0} (d : Driver) (e : EndState K) (m : Msg) → is_calm m.kind ≡ true → (sends_calm (driver_at d e m).sends ≡ true) × (length e.drv ≤ length (driver_at d e m).state.drv)
 at_calm Line e m h = line_calm e m.kind h
 at_calm Echo e m h = echo_calm e m.kind m h h
 at_calm Loop e m h = loop_calm e m.kind m h h
-at_calm Wire e m h = wire_calm e m.kind m h
+at_calm Wire e m h = wire_calm e m.kind m h h
 
 -- a calm message makes a driver send a calm one, if any, and flushes no list
 pub driver_calm : {K : Type 0} (d : Driver) (end : End) (e : EndState K) (m : Msg) → is_calm m.kind ≡ true → (sends_calm (driver_does d end e m).sends ≡ true) × (length e.drv ≤ length (driver_does d end e m).state.drv)
@@ -171,12 +167,8 @@ loop_options b e MPcproto m h = le_same (options_held b e.drv + options_of b m)
 loop_options b e kind m h = omega arith
 
 wire_options : {K : Type 0} (b : Bool) (e : EndState K) (kind : MsgKind) (m : Msg) → is_calm kind ≡ true → options_held b (wire_does e kind m).state.drv + options_driven b (wire_does e kind m).sends ≤ options_held b e.drv + options_of b m
-wire_options b e (MFlush r w band) m h = cc
-wire_options b e (MIoctl id cmd) m h = omega arith
-wire_options b e MData m h = put_less b e.drv m
-wire_options b e MProto m h = put_less b e.drv m
 wire_options b e MPcproto m h = put_less b e.drv m
-wire_options b e kind m h = omega arith
+wire_options b e kind m h = loop_options b e kind m h
 
 up_options : (id : ℕ) (o : Option MsgKind) → options_driven true (options_up id o) ≤ cond (is_some o) 1 0
 up_options id (Some (MSetopts mode prot marks)) = le_same 1

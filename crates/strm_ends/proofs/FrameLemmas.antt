@@ -299,11 +299,8 @@ echo_alone e (MIoctl id cmd) m =
 echo_alone e kind m = loop_alone e kind m
 
 wire_alone : {K : Type 0} (e : EndState K) (kind : MsgKind) (m : Msg) → DrvAlone e (wire_does e kind m).state
-wire_alone e (MFlush r w band) m = drv_alone e (flushed_if w band e.drv) (shift_flush w band e.drv)
-wire_alone e MData m = drv_alone e (put_in e.drv m) (shift_put e.drv m)
-wire_alone e MProto m = drv_alone e (put_in e.drv m) (shift_put e.drv m)
 wire_alone e MPcproto m = drv_alone e (put_in e.drv m) (shift_put e.drv m)
-wire_alone e kind m = drv_stays e
+wire_alone e kind m = loop_alone e kind m
 
 driver_at_alone : {K : Type 0} (d : Driver) (e : EndState K) (m : Msg) → DrvAlone e (driver_at d e m).state
 driver_at_alone Line e m = line_alone e m.kind

@@ -20,7 +20,7 @@ use Rattle.strm_call.specs.declared.answer.Answer.{Answer}
 use Rattle.strm_call.specs.declared.answer.Answer.TheVariants.{Done, Refused, Broke}
 use Rattle.strm_call.specs.Refusal.{first_that_holds}
 use Rattle.strm_ioctl.specs.Ask.{is_empty}
-use Rattle.strm_ioctl.specs.Outside.{has_output, first_output, take_refusals, taken_out}
+use Rattle.strm_ioctl.specs.Outside.{has_output, first_output, taken_out}
 use Rattle.strm_ioctl.specs.Poll.{polled}
 use Rattle.strm_head.specs.Begin.{refusal_of, wants_memory}
 use Rattle.strm_head.specs.Step.{SettlesUnless, IsRefusedBy}

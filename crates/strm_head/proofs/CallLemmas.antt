@@ -2,7 +2,7 @@
 use Rattle.std.specs.Option.{option_or}
 use Rattle.std.specs.List.{list_all}
 use Rattle.std.proofs.lemmas.Bool.{and_parts}
-use Rattle.std.proofs.Common.{◌≡◌, ℕ, suc, zero, not, ◌&&◌, Bool, true, false, Option, Some, None, List, [], ◌∷◌, refl, sym, ◌∙◌, ap, subst}
+use Rattle.std.proofs.Common.{◌≡◌, ℕ, suc, zero, not, Bool, true, false, Option, Some, None, List, [], ◌∷◌, refl, sym, ◌∙◌, ap, subst}
 use Rattle.strm_msg.specs.declared.words.End.{End}
 use Rattle.strm_module.specs.Kinds.{Meaning}
 use Rattle.strm_module.specs.declared.shape.Shape.{Shape}
@@ -28,7 +28,7 @@ use Rattle.strm_ioctl.specs.Outside.{take_refusals}
 use Rattle.strm_ioctl.proofs.OutsideLemmas.{taken_none, taken_plain}
 use Rattle.strm_head.specs.Inside.{IsKept}
 use Rattle.strm_head.specs.Step.{Answers, Finishes, SettlesUnless, answered_if}
-use Rattle.strm_head.proofs.RefusalLemmas.{first_of_both, first_of_all}
+use Rattle.strm_head.proofs.RefusalLemmas.{first_of_all}
 use Rattle.strm_head.proofs.KeptLemmas.{whole_of, begun_opens}
 use Rattle.strm_head.proofs.NothingLemmas.{served_takes, ioctl_sends, unserved_begun}
 

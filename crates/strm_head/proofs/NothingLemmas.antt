@@ -29,7 +29,7 @@ use Rattle.strm_msgio.specs.Take.{taken_from, peeked_of, peek_begun, shows_nothi
 use Rattle.strm_read.specs.Read.{read_of}
 use Rattle.strm_ioctl.specs.Ask.{is_empty}
 use Rattle.strm_ioctl.specs.Outside.{taken_out}
-use Rattle.strm_head.specs.Begin.{begun_of, refusal_of, has_nothing_to_do, takes_no_memory_at, sends_nothing, awaits_answer}
+use Rattle.strm_head.specs.Begin.{begun_of, has_nothing_to_do, takes_no_memory_at, sends_nothing, awaits_answer}
 use Rattle.strm_head.specs.Begins.{needs_no_service}
 use Rattle.strm_head.proofs.KeptLemmas.{IsQuietly, quiet_begun}
 

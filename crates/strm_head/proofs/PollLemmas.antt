@@ -1,5 +1,5 @@
 -- What a poll tells agrees with what would refuse calls.
-use Rattle.std.proofs.Common.{◌≡◌, ℕ, ◌&&◌, ◌||◌, not, Bool, true, false, Option, Some, None, is_some, is_none, option_map, List, [], ◌∷◌, refl, sym, ◌∙◌, ap, slice_get}
+use Rattle.std.proofs.Common.{◌≡◌, ◌&&◌, ◌||◌, not, Bool, true, false, Option, Some, None, is_some, is_none, option_map, [], ◌∷◌, refl, sym, ◌∙◌, ap, slice_get}
 use Rattle.strm_msg.specs.Message.{Msg}
 use Rattle.strm_msg.specs.Kind.{is_high}
 use Rattle.strm_msg.specs.declared.errno.Errno.{Errno}

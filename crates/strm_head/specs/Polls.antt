@@ -2,7 +2,6 @@
 -- Polling").
 use Rattle.std.specs.Prelude.{ℕ, ◌≡◌, ◌||◌, true, false, Option, Some, None, is_some, is_none, List}
 use Rattle.strm_msg.specs.declared.words.End.{End}
-use Rattle.strm_module.specs.declared.shape.Shape.{Shape}
 use Rattle.strm_ends.specs.Image.{Image}
 use Rattle.strm_call.specs.declared.answer.Polled.{Polled}
 use Rattle.strm_call.specs.Polled.{is_pri}

@@ -1,6 +1,5 @@
 -- What poll(2) says of an end (Programmer's Guide: STREAMS, "Input and Output Polling").
 use Rattle.std.specs.Prelude.{ℕ, suc, zero, ◌&&◌, ◌||◌, not, Bool, true, false, Option, Some, None, is_some, is_none, option_map, slice_get, if◌then◌else◌}
-use Rattle.strm_msg.specs.Message.{Msg}
 use Rattle.strm_msg.specs.declared.words.End.{End}
 use Rattle.strm_queue.specs.Queue.{has_band, is_full}
 use Rattle.strm_qpair.specs.Canput.{Fill, below, full_in}

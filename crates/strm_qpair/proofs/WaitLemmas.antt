@@ -140,9 +140,3 @@ calm-tried (Err e) old new m ok err low h = rw err h
 pub calm-kind : (kind : MsgKind) → (kind ≡ MData) ⊎ (kind ≡ MProto) → is_calm kind ≡ true
 calm-kind kind (inl is) = rw is refl
 calm-kind kind (inr is) = rw is refl
-
--- so are all messages that a user sends
-pub calm-sent : (kind : MsgKind) → (kind ≡ MData) ⊎ (kind ≡ MProto) ⊎ (kind ≡ MPcproto) → is_calm kind ≡ true
-calm-sent kind (inl is) = rw is refl
-calm-sent kind (inr (inl is)) = rw is refl
-calm-sent kind (inr (inr is)) = rw is refl

@@ -56,15 +56,11 @@ abbrev pub echo_does : {K : Type 0} → EndState K → MsgKind → Msg → Drive
 echo_does e (MIoctl id cmd) m = if cmd == SETOPTS then record { state = e; sends = options_up id (options_asked m.dat) } else refuses e id
 echo_does e kind m = loop_does e kind m
 
--- the list of a wire's end holds what came down until it is taken from outside, a high protocol message before all others, so it is
--- flushed as a write queue
+-- a wire's list holds what came down until it is taken from outside, so a high protocol message waits there too, before all others;
+-- else it is a loop's
 abbrev pub wire_does : {K : Type 0} → EndState K → MsgKind → Msg → DriverStep K
-wire_does e (MFlush r w band) m = record { state = in_drv e (flushed_if w band e.drv); sends = flush_up r band }
-wire_does e (MIoctl id cmd) m = refuses e id
-wire_does e MData m = consumes (in_drv e (put_in e.drv m))
-wire_does e MProto m = consumes (in_drv e (put_in e.drv m))
 wire_does e MPcproto m = consumes (in_drv e (put_in e.drv m))
-wire_does e kind m = consumes e
+wire_does e kind m = loop_does e kind m
 
 abbrev pub driver_at : {K : Type 0} → Driver → EndState K → Msg → DriverStep K
 driver_at Line e m = line_does e m.kind

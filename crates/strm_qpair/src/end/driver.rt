@@ -117,8 +117,8 @@ impl<M: ModuleOf> StreamEnd<M> {
         }
     }
 
-    /// What a wire does: it keeps what is written until that is taken, a high protocol message before all others, and its list
-    /// is flushed as a write queue. Refused for want of memory alone: then nothing is changed.
+    /// What a wire does: the same as a loop, but that a high protocol message is kept too, before all others. Refused for want
+    /// of memory alone: then nothing is changed.
     fn wire_does(&mut self, m: BoxedMessage) -> Result<DriverSends, NoMem>
         ensures state { OnOk result (self.new.state ≡ (wire_does self.old.state m.kind m).state) }
         ensures sends { IfOk result (λ sends. sends ≡ (wire_does self.old.state m.kind m).sends) }
@@ -126,16 +126,11 @@ impl<M: ModuleOf> StreamEnd<M> {
         ensures same { SameEnd self.old.state self.new.state }
     {
         match m.kind {
-            MsgKind::MFlush { r, w, band } => {
-                self.flush_driver(w, band);
-                Ok(flush_back(m, r, band))
-            }
-            MsgKind::MIoctl { id, .. } => Ok(refused(m, id)),
-            MsgKind::MData | MsgKind::MProto | MsgKind::MPcproto => {
+            MsgKind::MPcproto => {
                 put_in_list(&mut self.drv, m)?;
                 Ok(DriverSends::Nothing)
             }
-            _ => Ok(DriverSends::Nothing),
+            _ => self.loop_does(m),
         }
     }
 

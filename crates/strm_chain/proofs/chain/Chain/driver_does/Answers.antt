@@ -5,7 +5,7 @@ use Rattle.strm_ends.proofs.NextLemmas.{ways_of_same}
 use Rattle.strm_chain.proofs.CaseLemmas.{on_result}
 use Rattle.strm_chain.proofs.EnablingLemmas.{places_same}
 use Rattle.strm_ends.proofs.FrameLemmas.{driver_differs, driven_one, same_differs}
-use Rattle.std.proofs.Common.{◌≡◌, ◌&&◌, ◌+◌, ◌≤◌, ◌∙◌, false, inl, length, sym, ap, arith}
+use Rattle.std.proofs.Common.{◌≡◌, ◌&&◌, ◌+◌, ◌≤◌, ◌∙◌, false, inl, length, sym, arith}
 use Rattle.strm_module.specs.Driver.{is_wire}
 use Rattle.strm_ends.specs.Held.{is_flush}
 use Rattle.strm_ends.proofs.CalmLemmas.{no_flush}

@@ -1,12 +1,12 @@
 use Rattle.std.proofs.Common.{◌≡◌, true, refl}
 use Rattle.strm_module.specs.Calm.{is_calm}
-use Rattle.strm_qpair.proofs.WaitLemmas.{calm-put, calm-sent}
+use Rattle.strm_qpair.proofs.WaitLemmas.{calm-put}
 use Rattle.strm_qpair.proofs.end.StreamEnd.wire_does.Goals as goal
 
-pub invariant_of-self-in-MData : goal.invariant_of-self-in-MData
-invariant_of-self-in-MData g c =
+pub invariant_of-self-in-MPcproto : goal.invariant_of-self-in-MPcproto
+invariant_of-self-in-MPcproto g c =
     let k = c.self.invariant in
-    let calm : is_calm c.args.m.kind ≡ true = rw (← c.deref.ensures, ← c.behind-m.view_is) (calm-sent c.behind-m.inside.kind c.in-MData.is) in
+    let calm : is_calm c.args.m.kind ≡ true = rw (← c.deref.ensures, ← c.behind-m.view_is, c.in-MPcproto.is) refl in
     record {
       room = k.room;
       few = k.few;
@@ -14,11 +14,11 @@ invariant_of-self-in-MData g c =
       drv_fit = rw c.put_in_list.ensures.marks k.drv_fit;
       fit = k.fit;
       waits = k.waits;
-      calm = rw c.in_ok-put_in_list-in-MData.ensures.ok (calm-put c.self.inside.drv.messages c.args.m calm k.calm);
+      calm = rw c.in_ok-put_in_list-in-MPcproto.ensures.ok (calm-put c.self.inside.drv.messages c.args.m calm k.calm);
     }
 
-pub returns-in_ok-put_in_list-in-MData-clause-same : goal.returns-in_ok-put_in_list-in-MData-clause-same
-returns-in_ok-put_in_list-in-MData-clause-same g c =
+pub returns-in_ok-put_in_list-in-MPcproto-clause-same : goal.returns-in_ok-put_in_list-in-MPcproto-clause-same
+returns-in_ok-put_in_list-in-MPcproto-clause-same g c =
     rw (← c.self.view_is)
     (record {
       is_open = refl;
@@ -26,21 +26,3 @@ returns-in_ok-put_in_list-in-MData-clause-same g c =
       modules = refl;
       ids = record { next = refl; pending = refl; kept = λ _. refl };
     })
-
-pub returns-in-MFlush-clause-state : goal.returns-in-MFlush-clause-state
-returns-in-MFlush-clause-state g c = rw (← c.deref.ensures, ← c.behind-m.view_is, c.in-MFlush.is) c.flush_driver.ensures.state
-
-pub returns-in-MFlush-clause-sends : goal.returns-in-MFlush-clause-sends
-returns-in-MFlush-clause-sends g c = rw (← c.deref.ensures, ← c.behind-m.view_is, c.in-MFlush.is) c.flush_back.ensures
-
-pub returns-in-MFlush-clause-same : goal.returns-in-MFlush-clause-same
-returns-in-MFlush-clause-same g c = c.flush_driver.ensures.same
-
-pub returns-in-MFlush-clause-err : goal.returns-in-MFlush-clause-err
-returns-in-MFlush-clause-err g c = tt
-
-pub returns-in-MIoctl-clause-err : goal.returns-in-MIoctl-clause-err
-returns-in-MIoctl-clause-err g c = tt
-
-pub returns-in_default-clause-err : goal.returns-in_default-clause-err
-returns-in_default-clause-err g c = tt

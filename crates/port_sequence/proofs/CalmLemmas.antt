@@ -7,8 +7,8 @@ use Rattle.strm_msg.specs.declared.words.Side.{Side}
 use Rattle.strm_msg.specs.declared.words.Side.TheVariants.{Rd, Wr}
 use Rattle.strm_module.specs.Kinds.{Action}
 use Rattle.strm_module.specs.Calm.{is_calm, are_calm, options_by, options_of, options_sent, IsCalm}
-use Rattle.strm_module.proofs.CalmLemmas.{one_calm, same_keeps, other_keeps}
-use Rattle.port_sequence.specs.Sequence.{judged_action, sequence_action, sequence}
+use Rattle.strm_module.proofs.CalmLemmas.{one_calm, same_keeps, other_keeps, serving_calm}
+use Rattle.port_sequence.specs.Sequence.{judged_action, sequence_action, sequence_acts, sequence}
 use Rattle.port_sequence.specs.declared.kinds.Sequence.{Sequence}
 
 if_calm : (b : Bool) (x y : Action Sequence) → are_calm x.outs ≡ true → are_calm y.outs ≡ true → are_calm (cond b x y).outs ≡ true
@@ -46,4 +46,4 @@ acts_keep b s Wr (MIoctl id cmd) m at = if_keeps b (cmd == 1) m _ _ (other_keeps
 acts_keep b s Wr kind m at = same_keeps b Wr m
 
 pub sequence_calm : IsCalm sequence
-sequence_calm = record { calm = λ s side m h. acts_calm s side m.kind m h; options = λ b s side m. acts_keep b s side m.kind m refl }
+sequence_calm = serving_calm sequence_acts (λ s side. false) (λ s side m h. acts_calm s side m.kind m h) (λ b s side m. acts_keep b s side m.kind m refl)

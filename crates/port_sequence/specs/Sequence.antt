@@ -1,11 +1,11 @@
 -- What the module makes of a message that is not queued.
-use Rattle.std.specs.Prelude.{ℕ, ◌+◌, ◌-◌, ◌%◌, ◌^◌, ◌==◌, min, None, Some, List, [], ◌∷◌, if◌then◌else◌, unwrap_or}
+use Rattle.std.specs.Prelude.{ℕ, ◌+◌, ◌-◌, ◌%◌, ◌^◌, ◌==◌, min, false, None, Some, List, [], ◌∷◌, if◌then◌else◌, unwrap_or}
 use Rattle.strm_msg.specs.Message.{Msg}
 use Rattle.strm_msg.specs.declared.kind.MsgKind.{MsgKind}
 use Rattle.strm_msg.specs.declared.kind.MsgKind.TheVariants.{MData, MIoctl}
 use Rattle.strm_msg.specs.declared.words.Side.{Side}
 use Rattle.strm_msg.specs.declared.words.Side.TheVariants.{Rd, Wr}
-use Rattle.strm_module.specs.Kinds.{Action, Meaning, passed_on, answered}
+use Rattle.strm_module.specs.Kinds.{Action, Acts, Meaning, serving, passed_on, answered}
 use Rattle.port_sequence.specs.declared.kinds.Sequence.{Sequence}
 
 -- numbers have one byte: 0 follows 255
@@ -42,5 +42,9 @@ sequence_action s Rd MData m = judged_action s m (unwrap_or m.dat [])
 sequence_action s Wr (MIoctl id cmd) m = if cmd == 1 then answered s id s.lost None else passed_on s Wr m
 sequence_action s side kind m = passed_on s side m
 
+abbrev pub sequence_acts : Acts Sequence
+sequence_acts s side m = sequence_action s side m.kind m
+
+-- it always serves what waits, and sends nothing of its own or as an answer
 abbrev pub sequence : Meaning Sequence
-sequence s side m = sequence_action s side m.kind m
+sequence = serving sequence_acts (λ s side. false)

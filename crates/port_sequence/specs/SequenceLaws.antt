@@ -3,7 +3,7 @@ use Rattle.std.specs.Prelude.{◌≡◌, ℕ, ◌<◌, ◌≤◌, ◌^◌, List}
 use Rattle.strm_msg.specs.Message.{Msg, data_msg}
 use Rattle.strm_msg.specs.declared.words.Side.TheVariants.{Rd, Wr}
 use Rattle.strm_module.specs.Kinds.{passed_on}
-use Rattle.port_sequence.specs.Sequence.{sequence, after}
+use Rattle.port_sequence.specs.Sequence.{sequence_acts, after}
 use Rattle.port_sequence.specs.declared.kinds.Sequence.{Sequence}
 
 -- what one module sends down for data goes up as that data at another that expects its number, which has lost no more then
@@ -11,5 +11,5 @@ abbrev pub NumberedArrives : Type 0
 NumberedArrives =
     (s t : Sequence) (band : ℕ) (bytes : List ℕ) → t.up ≡ s.down → s.down < 2 ^ 8 → t.lost ≤ 18446744073709551615 →
     (sent : Msg)
-    × (sequence s Wr (data_msg band bytes) ≡ passed_on (record s { down = after s.down }) Wr sent)
-    × (sequence t Rd sent ≡ passed_on (record t { up = after t.up }) Rd (data_msg band bytes))
+    × (sequence_acts s Wr (data_msg band bytes) ≡ passed_on (record s { down = after s.down }) Wr sent)
+    × (sequence_acts t Rd sent ≡ passed_on (record t { up = after t.up }) Rd (data_msg band bytes))

@@ -6,7 +6,7 @@ ghost use Rattle.port_sequence.specs.Sequence.{numbered_action, judged_action, f
 
 use std::alloc::Global;
 use strm_history::SameKind;
-use strm_module::{Instance, Kinds, MakeFault, ModuleOf, Outs, Shape, pass_on, reply};
+use strm_module::{Instance, Kinds, MakeFault, ModuleOf, Outs, Shape, Turn, pass_on, reply};
 use strm_msg::{BoxedMessage, Bytes, Message, MsgKind, NoMem, Side};
 
 /// Numbers data messages on their way down with one byte in front, 0 to 255 and again, and judges those on their way up by theirs: they go
@@ -78,6 +78,18 @@ impl Kinds for Sequence {
             }
             _ => Ok(pass_on(side, m)),
         }
+    }
+
+    fn turn(&self, _side: Side) -> Turn {
+        Turn::Serves
+    }
+
+    fn own(&mut self, _alloc: Global, _side: Side) -> Result<Outs, NoMem> {
+        Ok(Outs::new())
+    }
+
+    fn answers(&self, _side: Side) -> bool {
+        false
     }
 
     fn copy(&self, _alloc: Global) -> Result<Sequence, NoMem> {

@@ -1,5 +1,6 @@
 //! What the discipline promises, as laws of its meaning.
 ghost use Rattle.strm_module.specs.Calm.{IsCalm};
+ghost use Rattle.strm_module.specs.Kinds.{AnswersStay};
 ghost use Rattle.port_sequence.specs.Sequence.{sequence};
 ghost use Rattle.port_sequence.specs.SequenceLaws.{NumberedArrives};
 
@@ -12,4 +13,9 @@ pub fn what_is_numbered_arrives()
 /// nothing: it carries the law.
 pub fn sequence_is_calm()
     ensures { IsCalm sequence }
+{}
+
+/// No message makes the module answer another. Does nothing: it carries the law.
+pub fn sequence_answers_stay()
+    ensures { AnswersStay sequence }
 {}

@@ -1,7 +1,7 @@
 -- Bytes of a line that come in pieces.
 use Rattle.std.proofs.Common.{◌≡◌, ℕ, zero, suc, ◌+◌, ◌-◌, ◌<◌, ◌≤◌, Bool, true, false, List, [], ◌∷◌, ◌++◌, Option, Some, None, option_map, unwrap_or, refl, ap, sym, ◌∙◌, arith, length, take, cond, not, ◌&&◌, length-take}
 use Rattle.port_slip.specs.Frame.{is_end, is_esc, unescaped, meant_by, datagram_of, cut, begun, has_no_end, unfinished, Received, received, with_datagram, with_datagrams}
-use Rattle.port_slip.specs.FrameLaws.{PiecesAreOneLine, UnfinishedIsBounded}
+use Rattle.port_slip.specs.FrameLaws.{PiecesAreOneLine, RestFollows, UnfinishedIsBounded}
 use Rattle.port_slip.proofs.FrameLemmas.{with_front, no_end_first}
 use Rattle.std.proofs.lemmas.Option.{same_Some}
 
@@ -24,7 +24,7 @@ take-take-append zero xs more = refl
 take-take-append (suc m) [] more = refl
 take-take-append (suc m) (x ∷ xs) more = ap (λ t. x ∷ t) (take-take-append m xs more)
 
-abbrev PairOfLists : Type 0
+abbrev pub PairOfLists : Type 0
 PairOfLists = List ℕ × List ℕ
 
 abbrev with_first : ℕ → PairOfLists → PairOfLists
@@ -108,7 +108,7 @@ begun-begins (x ∷ xs) =
     step (is_end x) refl
 
 -- what is received of bytes b without ENDs in front, which are cut as o says
-abbrev reading : ℕ → Option PairOfLists → List ℕ → Received
+abbrev pub reading : ℕ → Option PairOfLists → List ℕ → Received
 reading n o b =
     unwrap_or
     (option_map (λ first. with_datagram first.0 (received n first.1)) (option_map (λ (c : PairOfLists). let d : PairOfLists = (datagram_of c.0, c.1) in d) o))
@@ -169,3 +169,19 @@ unfinished_is_bounded (suc n) bytes h =
       | Some c ↦ λ k. unfinished_is_bounded n c.1 (omega arith)
     ] in
     step (cut b) h
+
+-- no datagrams in front
+with_none : (r : Received) → r ≡ with_datagrams [] r
+with_none r = refl
+
+pub rest_follows : RestFollows
+rest_follows zero n bytes h =
+    ap (λ k. received k bytes) (let e : zero + n ≡ n = omega arith in e) ∙ with_none (received n bytes)
+rest_follows (suc m) n bytes h =
+    let b = begun bytes in
+    let step : (o : Option PairOfLists) → length (reading m o b).datagrams ≡ suc m → reading (m + n) o b ≡ with_datagrams (reading m o b).datagrams (received n (reading m o b).kept) =
+    elim [
+      | None ↦ λ k. cc
+      | Some c ↦ λ k. ap (with_datagram (datagram_of c.0)) (rest_follows m n c.1 (omega (arith, k)))
+    ] in
+    ap (λ k. received k bytes) (let e : suc m + n ≡ suc (m + n) = omega arith in e) ∙ step (cut b) h

@@ -10,10 +10,10 @@ use Rattle.port_slip.specs.declared.kinds.SlipKind.TheVariants.{Slip}
 use Rattle.port_slip.proofs.FrameLemmas.{framed_is_received, noise_stays_apart}
 
 abbrev goes_up : ℕ → Received → Action SlipKind
-goes_up band all = record { kind = Slip all.kept; outs = datagrams_up band all.datagrams }
+goes_up band all = record { kind = Slip all.kept band; outs = datagrams_up band all.datagrams }
 
 pub datagrams_go_through : DatagramsGoThrough
-datagrams_go_through bytes datagram band d = (
+datagrams_go_through bytes datagram last band d = (
   data_msg band (framed datagram),
   refl,
   ap (λ t. goes_up band (received 2 t)) (sym (append-nil (framed datagram)))

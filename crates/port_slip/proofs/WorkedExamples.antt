@@ -35,33 +35,33 @@ abbrev crosses : Image SlipKind → List ℕ → Image SlipKind
 crosses image bytes = move slip (deliver slip image (Down A 1) (data_msg 0 bytes)) (Drv A)
 
 -- a datagram with an END and an ESC is a frame in the driver
-framed_in_driver : (deliver slip (between (Slip []) (Slip [])) (Down A 1) (data_msg 0 (97 ∷ 192 ∷ 219 ∷ []))).a.drv ≡ data_msg 0 (192 ∷ 97 ∷ 219 ∷ 220 ∷ 219 ∷ 221 ∷ 192 ∷ []) ∷ []
+framed_in_driver : (deliver slip (between (Slip [] 0) (Slip [] 0)) (Down A 1) (data_msg 0 (97 ∷ 192 ∷ 219 ∷ []))).a.drv ≡ data_msg 0 (192 ∷ 97 ∷ 219 ∷ 220 ∷ 219 ∷ 221 ∷ 192 ∷ []) ∷ []
 unfolding down_through up_through
 framed_in_driver = refl
 
 -- it comes up at end B as it was
-comes_up : (crosses (between (Slip []) (Slip [])) (97 ∷ 192 ∷ 219 ∷ [])).b.head ≡ data_msg 0 (97 ∷ 192 ∷ 219 ∷ []) ∷ []
+comes_up : (crosses (between (Slip [] 0) (Slip [] 0)) (97 ∷ 192 ∷ 219 ∷ [])).b.head ≡ data_msg 0 (97 ∷ 192 ∷ 219 ∷ []) ∷ []
 unfolding down_through up_through
 comes_up = refl
 
 -- frames from a module that only passes on: of three in one message two go up, and the third is kept
 abbrev three : Image SlipKind
-three = crosses (between (Builtin Pass) (Slip [])) (1 ∷ 192 ∷ 2 ∷ 192 ∷ 3 ∷ 192 ∷ [])
+three = crosses (between (Builtin Pass) (Slip [] 0)) (1 ∷ 192 ∷ 2 ∷ 192 ∷ 3 ∷ 192 ∷ [])
 
 two_go_up : three.b.head ≡ data_msg 0 (1 ∷ []) ∷ (data_msg 0 (2 ∷ []) ∷ [])
 unfolding down_through up_through
 two_go_up = refl
 
-third_is_kept : three.b ≡ record (with_kind (Slip (3 ∷ 192 ∷ [])) three.b) { head = three.b.head }
+third_is_kept : three.b ≡ record (with_kind (Slip (3 ∷ 192 ∷ []) 0) three.b) { head = three.b.head }
 unfolding down_through up_through
 third_is_kept = refl
 
 -- a frame in two messages, cut within an escape
-in_two : (crosses (crosses (between (Builtin Pass) (Slip [])) (192 ∷ 1 ∷ 219 ∷ [])) (220 ∷ 192 ∷ [])).b.head ≡ data_msg 0 (1 ∷ 192 ∷ []) ∷ []
+in_two : (crosses (crosses (between (Builtin Pass) (Slip [] 0)) (192 ∷ 1 ∷ 219 ∷ [])) (220 ∷ 192 ∷ [])).b.head ≡ data_msg 0 (1 ∷ 192 ∷ []) ∷ []
 unfolding down_through up_through
 in_two = refl
 
 -- a flush of the read side that comes up drops what is kept
-flushed : (deliver slip (crosses (between (Builtin Pass) (Slip [])) (1 ∷ 2 ∷ [])) (Up B 1) (bare (MFlush true false None))).b.modules ≡ (between (Builtin Pass) (Slip [])).b.modules
+flushed : (deliver slip (crosses (between (Builtin Pass) (Slip [] 0)) (1 ∷ 2 ∷ [])) (Up B 1) (bare (MFlush true false None))).b.modules ≡ (between (Builtin Pass) (Slip [] 0)).b.modules
 unfolding down_through up_through
 flushed = refl

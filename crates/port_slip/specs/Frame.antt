@@ -1,6 +1,6 @@
 -- SLIP: datagrams on a line of bytes (RFC 1055). END is 192 and ESC is 219; ESC 220 stands for END
 -- within a frame, and ESC 221 for ESC.
-use Rattle.std.specs.Prelude.{ℕ, zero, suc, ◌==◌, not, Bool, Option, Some, None, List, [], ◌∷◌, ◌++◌, if◌then◌else◌, take, option_map, unwrap_or}
+use Rattle.std.specs.Prelude.{ℕ, zero, suc, ◌==◌, not, Bool, Option, Some, None, List, [], ◌∷◌, ◌++◌, if◌then◌else◌, take, option_map, unwrap_or, is_some}
 use Rattle.std.specs.List.{flat_map, list_all}
 use Rattle.port_slip.specs.declared.framing.TheConstants.{LONGEST_DATAGRAM}
 use Rattle.port_slip.specs.declared.kinds.TheConstants.{MOST_KEPT}
@@ -75,6 +75,10 @@ with_datagrams datagrams more =
 -- the first datagram, and the bytes behind its frame
 abbrev pub first_of : List ℕ → Option (List ℕ × List ℕ)
 first_of bytes = option_map (λ c. (datagram_of c.0, c.1)) (cut (begun bytes))
+
+-- a datagram could go up: its frame has ended
+abbrev pub holds_frame : List ℕ → Bool
+holds_frame bytes = is_some (cut (begun bytes))
 
 -- at most n datagrams, the first ones: all that is behind the end of the n-th frame waits as it is
 abbrev pub received : ℕ → List ℕ → Received

@@ -1,5 +1,5 @@
 -- What frames are good for (RFC 1055).
-use Rattle.std.specs.Prelude.{◌≡◌, ℕ, suc, ◌-◌, ◌<◌, ◌≤◌, true, List, ◌++◌, length}
+use Rattle.std.specs.Prelude.{◌≡◌, ℕ, suc, ◌+◌, ◌-◌, ◌<◌, ◌≤◌, true, List, ◌++◌, length}
 use Rattle.port_slip.specs.declared.framing.TheConstants.{LONGEST_DATAGRAM}
 use Rattle.port_slip.specs.declared.kinds.TheConstants.{MOST_KEPT}
 use Rattle.port_slip.specs.Frame.{has_no_end, escaped, framed, datagram_of, received, with_datagram, with_datagrams}
@@ -34,6 +34,13 @@ PiecesAreOneLine =
     (n : ℕ) (piece more : List ℕ) →
     let first = received n piece in
     received n (piece ++ more) ≡ with_datagrams first.datagrams (received (n - length first.datagrams) (first.kept ++ more))
+
+-- datagrams that did not go up at once go up after those that did, in order
+abbrev pub RestFollows : Type 0
+RestFollows =
+    (m n : ℕ) (bytes : List ℕ) →
+    let first = received m bytes in
+    length first.datagrams ≡ m → received (m + n) bytes ≡ with_datagrams first.datagrams (received n first.kept)
 
 -- noise without an END cannot pile up: where not all n datagrams were received, little is kept
 abbrev pub UnfinishedIsBounded : Type 0

@@ -1,20 +1,38 @@
 -- What a SLIP module is good for.
-use Rattle.std.specs.Prelude.{◌≡◌, ℕ, ◌<◌, true, List, [], ◌∷◌, length}
+use Rattle.std.specs.Prelude.{◌≡◌, ℕ, ◌<◌, true, false, Some, List, [], ◌∷◌, length}
 use Rattle.strm_msg.specs.Message.{Msg, data_msg}
+use Rattle.strm_msg.specs.declared.words.End.{End}
 use Rattle.strm_msg.specs.declared.words.Side.TheVariants.{Rd, Wr}
 use Rattle.strm_module.specs.Kinds.{passed_on}
-use Rattle.port_slip.specs.Frame.{has_no_end, datagram_of}
+use Rattle.strm_module.specs.Shape.{queues_on}
+use Rattle.strm_qpair.specs.Pair.{QueuePair}
+use Rattle.strm_qpair.specs.End.{pair_at}
+use Rattle.strm_qpair.specs.Canput.{slack_in}
+use Rattle.strm_ends.specs.declared.place.Place.{Place}
+use Rattle.strm_ends.specs.Image.{Image, end_of}
+use Rattle.strm_ends.specs.Path.{ahead}
+use Rattle.strm_ends.specs.Flow.{IsQuiet}
+use Rattle.port_slip.specs.Frame.{has_no_end, holds_frame, datagram_of}
 use Rattle.port_slip.specs.FrameLaws.{IsDatagram}
-use Rattle.port_slip.specs.Slip.{slip, datagrams_up}
+use Rattle.port_slip.specs.Slip.{slip_acts, slip, datagrams_up}
+use Rattle.port_slip.specs.declared.kinds.SlipKind.{SlipKind}
 use Rattle.port_slip.specs.declared.kinds.SlipKind.TheVariants.{Slip}
 
 -- what a SLIP module sends down for a datagram is sent up as that datagram by a SLIP module that keeps
 -- nothing, which keeps nothing then; one that keeps noise sends that up first, apart from it
 abbrev pub DatagramsGoThrough : Type 0
 DatagramsGoThrough =
-    (bytes datagram : List ℕ) (band : ℕ) → IsDatagram datagram →
+    (bytes datagram : List ℕ) (last band : ℕ) → IsDatagram datagram →
     (sent : Msg)
-    × (slip (Slip bytes) Wr (data_msg band datagram) ≡ passed_on (Slip bytes) Wr sent)
-    × (slip (Slip []) Rd sent ≡ passed_on (Slip []) Rd (data_msg band datagram))
+    × (slip_acts (Slip bytes last) Wr (data_msg band datagram) ≡ passed_on (Slip bytes last) Wr sent)
+    × (slip_acts (Slip [] last) Rd sent ≡ passed_on (Slip [] band) Rd (data_msg band datagram))
     × ((noise : List ℕ) → 0 < length noise → has_no_end noise ≡ true →
-    slip (Slip noise) Rd sent ≡ record { kind = Slip []; outs = datagrams_up band (datagram_of noise ∷ (datagram ∷ [])) })
+    slip_acts (Slip noise last) Rd sent ≡ record { kind = Slip [] band; outs = datagrams_up band (datagram_of noise ∷ (datagram ∷ [])) })
+
+-- where no place must move, a SLIP module with a read queue keeps no whole frame, unless the queue above has no room for it: all that came
+-- in one message has gone up in one event
+abbrev pub NothingIsHeldBack : Type 0
+NothingIsHeldBack =
+    (image : Image SlipKind) (e : End) (i : ℕ) (s : QueuePair SlipKind) (bytes : List ℕ) (band : ℕ) → IsQuiet slip image →
+    pair_at (end_of image e).modules i ≡ Some s → s.shape.kind ≡ Slip bytes band → queues_on s.shape Rd ≡ true →
+    slack_in (ahead image (Place.Rd e i)) band ≡ true → holds_frame bytes ≡ false

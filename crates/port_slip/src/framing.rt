@@ -1,6 +1,6 @@
 //! Datagrams as frames, and back (RFC 1055).
 ghost use Rattle.std.specs.Prelude.{◌≡◌, ℕ, List, ◌++◌, IfOk, OnOk, option_map};
-ghost use Rattle.port_slip.specs.Frame.{escaped_byte, framed, meant_by, unescaped, cut, begun, first_of};
+ghost use Rattle.port_slip.specs.Frame.{escaped_byte, framed, meant_by, unescaped, cut, begun, first_of, holds_frame};
 
 use std::alloc::{AllocError, Global};
 
@@ -104,6 +104,13 @@ pub(crate) fn begun(bytes: &[u8]) -> &[u8]
         }
     }
     &[]
+}
+
+/// Whether a frame has ended in bytes from a line.
+pub(crate) fn holds_frame(bytes: &[u8]) -> bool
+    ensures { result ≡ holds_frame bytes.now }
+{
+    cut(begun(bytes)).is_some()
 }
 
 /// The first datagram that bytes from a line spell, and the bytes behind its frame; none where no

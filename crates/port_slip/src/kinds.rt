@@ -6,9 +6,9 @@ ghost use Rattle.port_slip.specs.Frame.{framed, begun, received};
 ghost use Rattle.port_slip.specs.Slip.{datagrams_up, received_action, kept_after, slip_action};
 ghost use Rattle.port_slip.specs.declared.kinds.SlipKind.TheVariants as SlipKind;
 
-use crate::framing::{begun, first_datagram, frame};
+use crate::framing::{begun, first_datagram, frame, holds_frame};
 use std::alloc::{AllocError, Global};
-use strm_module::{Kind, Kinds, Outs, both, pass_on};
+use strm_module::{Kind, Kinds, Outs, Turn, both, pass_on};
 use strm_msg::{BoxedMessage, Bytes, Message, MsgKind, NoMem, Side as Sides};
 
 /// The most bytes that are kept of a frame that has not ended: each byte of a datagram takes two at
@@ -28,14 +28,17 @@ pub enum SlipKind {
     /// band. Data on its way up is unframed: each datagram goes up as a message of its own, in the
     /// band of the message with which its frame ended.
     ///
-    /// A call sends two datagrams at most. What is behind the second one is kept, and goes up with
-    /// the data that comes next. A flush of the read side, of whichever bands, and a hangup drop what is
-    /// kept. All other messages go on unchanged.
+    /// A call sends two datagrams at most, and what is behind the second one is kept. With a read
+    /// queue, the module's service sends it before it takes what waits: all goes up in the same event,
+    /// as far as the queue above has room. Without one it goes up with the data that comes next. A flush
+    /// of the read side, of whichever bands, and a hangup drop what is kept. All other messages go on
+    /// unchanged.
     Slip {
-        /// What came up and has not gone on. Where fewer than two datagrams went up, it is a frame
-        /// without its END, of which at most 2012 bytes are kept. Else it is all that came behind the
-        /// second one: a line that always brings more than two frames in a message makes it grow.
+        /// What came up and has not gone on: whole frames, and behind them a frame without its END, of which
+        /// at most 2012 bytes are kept where no whole frame is before it.
         kept: Bytes,
+        /// The band of the data that came up last, in which what is kept goes up.
+        band: u8,
     },
 }
 
@@ -99,14 +102,31 @@ fn receive(alloc: Global, band: u8, bytes: &[u8]) -> Result<(Outs, Vec<u8>), NoM
 }
 
 /// Data on its way up is put behind what was kept.
-fn receive_behind(alloc: Global, kept: &mut Bytes, m: &Message) -> Result<Outs, NoMem>
+fn receive_behind(
+    alloc: Global,
+    kept: &mut Bytes,
+    band: &mut u8,
+    m: &Message,
+) -> Result<Outs, NoMem>
     ensures outs { IfOk result (λ outs. outs.items ≡ (received_action m.now.band (kept.old ++ unwrap_or m.now.dat [])).outs) }
-    ensures kept { OnOk result (SlipKind.Slip kept.new ≡ (received_action m.now.band (kept.old ++ unwrap_or m.now.dat [])).kind) }
-    ensures err { OnErr result (kept.new ≡ kept.old) }
+    ensures kept { OnOk result (SlipKind.Slip kept.new band.new ≡ (received_action m.now.band (kept.old ++ unwrap_or m.now.dat [])).kind) }
+    ensures err { OnErr result ((kept.new ≡ kept.old) × (band.new ≡ band.old)) }
 {
     let mut bytes = Vec::from_slice(alloc, kept.as_slice())?;
     bytes.extend_from_slice(bytes_of(&m.dat))?;
     let (outs, rest) = receive(alloc, m.band, &bytes)?;
+    *kept = rest.into();
+    *band = m.band;
+    Ok(outs)
+}
+
+/// Two datagrams more of what is kept go up.
+fn receive_more(alloc: Global, kept: &mut Bytes, band: u8) -> Result<Outs, NoMem>
+    ensures outs { IfOk result (λ outs. outs.items ≡ (received_action band kept.old).outs) }
+    ensures kept { OnOk result (SlipKind.Slip kept.new band ≡ (received_action band kept.old).kind) }
+    ensures err { OnErr result (kept.new ≡ kept.old) }
+{
+    let (outs, rest) = receive(alloc, band, kept.as_slice())?;
     *kept = rest.into();
     Ok(outs)
 }
@@ -125,19 +145,20 @@ fn let_by(alloc: Global, kept: &mut Bytes, kind: MsgKind)
 fn process_slip(
     alloc: Global,
     kept: &mut Bytes,
+    band: &mut u8,
     side: Sides,
     m: BoxedMessage,
 ) -> Result<Outs, NoMem>
-    ensures outs { IfOk result (λ outs. outs.items ≡ (slip_action kept.old side m.kind m).outs) }
-    ensures kept { OnOk result (SlipKind.Slip kept.new ≡ (slip_action kept.old side m.kind m).kind) }
-    ensures err { OnErr result (kept.new ≡ kept.old) }
+    ensures outs { IfOk result (λ outs. outs.items ≡ (slip_action kept.old band.old side m.kind m).outs) }
+    ensures kept { OnOk result (SlipKind.Slip kept.new band.new ≡ (slip_action kept.old band.old side m.kind m).kind) }
+    ensures err { OnErr result ((kept.new ≡ kept.old) × (band.new ≡ band.old)) }
 {
     match (side, m.kind) {
         (Sides::Wr, MsgKind::MData) => {
             let dat = framed_part(alloc, &m.dat)?;
             Ok(pass_on(side, m.with_dat(dat)))
         }
-        (Sides::Rd, MsgKind::MData) => receive_behind(alloc, kept, &m),
+        (Sides::Rd, MsgKind::MData) => receive_behind(alloc, kept, band, &m),
         _ => {
             let_by(alloc, kept, m.kind);
             Ok(pass_on(side, m))
@@ -153,7 +174,32 @@ impl Kinds for SlipKind {
     fn process(&mut self, alloc: Global, side: Sides, m: BoxedMessage) -> Result<Outs, NoMem> {
         match self {
             SlipKind::Builtin { kind } => kind.process(alloc, side, m),
-            SlipKind::Slip { kept } => process_slip(alloc, kept, side, m),
+            SlipKind::Slip { kept, band } => process_slip(alloc, kept, band, side, m),
+        }
+    }
+
+    fn turn(&self, side: Sides) -> Turn {
+        match (self, side) {
+            (SlipKind::Builtin { kind }, _) => kind.turn(side),
+            (SlipKind::Slip { kept, band }, Sides::Rd) if holds_frame(kept.as_slice()) => {
+                Turn::Sends { band: Some(*band) }
+            }
+            (SlipKind::Slip { .. }, _) => Turn::Serves,
+        }
+    }
+
+    fn own(&mut self, alloc: Global, side: Sides) -> Result<Outs, NoMem> {
+        match (self, side) {
+            (SlipKind::Builtin { kind }, _) => kind.own(alloc, side),
+            (SlipKind::Slip { kept, band }, Sides::Rd) => receive_more(alloc, kept, *band),
+            (SlipKind::Slip { .. }, Sides::Wr) => Ok(Outs::new()),
+        }
+    }
+
+    fn answers(&self, side: Sides) -> bool {
+        match self {
+            SlipKind::Builtin { kind } => kind.answers(side),
+            SlipKind::Slip { .. } => false,
         }
     }
 
@@ -162,8 +208,9 @@ impl Kinds for SlipKind {
             SlipKind::Builtin { kind } => SlipKind::Builtin {
                 kind: kind.copy(alloc)?,
             },
-            SlipKind::Slip { kept } => SlipKind::Slip {
+            SlipKind::Slip { kept, band } => SlipKind::Slip {
                 kept: kept.copy(alloc)?,
+                band: *band,
             },
         })
     }

@@ -13,6 +13,9 @@ mod tests;
 
 pub use framing::{LONGEST_DATAGRAM, first_datagram, frame};
 pub use kinds::{MOST_KEPT, SlipKind};
-pub use laws::{frames_keep_datagrams, modules_keep_datagrams, slip_is_calm};
+pub use laws::{
+    frames_keep_datagrams, modules_hold_nothing_back, modules_keep_datagrams, slip_answers_stay,
+    slip_is_calm, slip_settles,
+};
 pub use slip::ByShape;
 pub use stack::send;

@@ -28,12 +28,12 @@ impl ByShape {
         rd: Option<(u32, u32)>,
         wr: Option<(u32, u32)>,
     ) -> Result<Instance<ByShape>, MakeFault>
-        ensures ok { IfOk result (λ it. it ≡ new_shape serial name.now rd wr (SlipKind.Slip [])) }
+        ensures ok { IfOk result (λ it. it ≡ new_shape serial name.now rd wr (SlipKind.Slip [] 0)) }
         ensures err { IfErr result (λ fault. make_fault name.now rd wr ≡ Some fault) }
         ensures variant { is_ok result ≡ is_none (make_fault name.now rd wr) }
     {
         let kept = Vec::new(alloc).into();
-        let shape = Shape::new(serial, name, rd, wr, Kinds::Slip { kept })?;
+        let shape = Shape::new(serial, name, rd, wr, Kinds::Slip { kept, band: 0 })?;
         Ok(Instance::new(shape, ByShape))
     }
 

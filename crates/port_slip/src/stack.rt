@@ -19,7 +19,7 @@ use strm_msg::Message;
 pub fn send(chain: &mut Chain<ByShape>, spot: Spot, m: Message) -> Result<Settled, ChainFault>
     requires { is_there chain.old.image spot ≡ true }
     ensures leads { IfOk result (λ settled. Leads slip (deliver slip chain.old.image spot m) settled.moves chain.new.image) }
-    ensures quiet { OnOk result (IsQuiet chain.new.image) }
+    ensures quiet { OnOk result (IsQuiet slip chain.new.image) }
     ensures refused { IfErr result (λ fault. Stops fault chain.old.image spot m chain.new.image) }
 {
     chain.deliver(spot, m)?;

@@ -65,10 +65,14 @@ fn near(alloc: Global, is_slip: bool) -> Result<Instance<ByShape>, MakeFault> {
     }
 }
 
+/// What stands at the ends of a loop: SLIP at end A, or what only passes on, and whether SLIP at end B has a read queue.
+type Stands = (bool, bool);
+
 /// A loop with SLIP at end B. At end A stands SLIP with a write queue, or what only passes on.
-fn looped(rt: &impl Abort, alloc: Global, slip_at_a: bool) -> Box<Chain<ByShape>> {
+fn looped(rt: &impl Abort, alloc: Global, (slip_at_a, queued): Stands) -> Box<Chain<ByShape>> {
     let mut chain = bare(rt, alloc);
-    let far = ByShape::slip(alloc, 1, b"slip", None, None);
+    let marks = if queued { Some((50, 40)) } else { None };
+    let far = ByShape::slip(alloc, 1, b"slip", marks, None);
     assert!(rt; inserts(&mut chain, End::B, boxed(rt, alloc, far)));
     let near = near(alloc, slip_at_a);
     assert!(rt; inserts(&mut chain, End::A, boxed(rt, alloc, near)));
@@ -104,9 +108,9 @@ fn comes_up<M: ModuleOf>(chain: &mut Chain<M>, want: Option<Message>) -> bool {
 }
 
 /// In a new loop for each row, the steps bring these datagrams up, and no more.
-fn holds(rt: &impl Abort, alloc: Global, slip_at_a: bool, rows: &[Row]) {
+fn holds(rt: &impl Abort, alloc: Global, stands: Stands, rows: &[Row]) {
     for (steps, want) in rows {
-        let mut chain = looped(rt, alloc, slip_at_a);
+        let mut chain = looped(rt, alloc, stands);
         for step in *steps {
             plays(rt, alloc, &mut chain, *step);
         }
@@ -135,7 +139,7 @@ const FRAMES: &[Row] = &[
         &[Write(&[192, 1, 219]), Write(&[220, 2]), Write(&[192])],
         &[&[1, 192, 2]],
     ),
-    // Of three frames in one message the third waits for more data.
+    // Of three frames in one message the third waits for more data, where the module has no read queue.
     (&[Write(&[1, 192, 2, 192, 3, 192])], &[&[1], &[2]]),
     (
         &[Write(&[1, 192, 2, 192, 3, 192]), Write(&[4, 192])],
@@ -143,6 +147,19 @@ const FRAMES: &[Row] = &[
     ),
     // An ESC before another byte than 220 and 221, and one before the END.
     (&[Write(&[219, 7, 192, 8, 219, 192])], &[&[7], &[8, 219]]),
+];
+
+// With a read queue all frames of a message go up at once, two by two, before what comes next.
+const WHOLE: &[Row] = &[
+    (&[Write(&[1, 192, 2, 192, 3, 192])], &[&[1], &[2], &[3]]),
+    (
+        &[
+            Write(&[1, 192, 2, 192, 3, 192, 4, 192, 5, 192, 6]),
+            Write(&[192, 7, 192]),
+        ],
+        &[&[1], &[2], &[3], &[4], &[5], &[6], &[7]],
+    ),
+    (&[Write(&[192, 1, 192, 2, 192])], &[&[1], &[2]]),
 ];
 
 const LONG: &[u8] = &[7; 3000];
@@ -157,17 +174,20 @@ const NOISE: &[Row] = &[
 
 #[test]
 fn datagrams_come_up_as_they_were(rt: HostRuntime) {
-    holds(&rt, rt.alloc(), true, DATAGRAMS);
+    holds(&rt, rt.alloc(), (true, false), DATAGRAMS);
+    holds(&rt, rt.alloc(), (true, true), DATAGRAMS);
 }
 
 #[test]
 fn frames_come_up_as_datagrams(rt: HostRuntime) {
-    holds(&rt, rt.alloc(), false, FRAMES);
+    holds(&rt, rt.alloc(), (false, false), FRAMES);
+    holds(&rt, rt.alloc(), (false, true), WHOLE);
 }
 
 #[test]
 fn noise_is_apart_and_what_is_kept_is_dropped(rt: HostRuntime) {
-    holds(&rt, rt.alloc(), false, NOISE);
+    holds(&rt, rt.alloc(), (false, false), NOISE);
+    holds(&rt, rt.alloc(), (false, true), NOISE);
 }
 
 /// A datagram, and its frame.
@@ -191,7 +211,10 @@ fn is_read(alloc: Global, bytes: &[u8], want: &[u8]) -> bool {
 
 /// Whether a copy of what keeps these bytes is equal to it.
 fn is_copied(rt: &impl Abort, alloc: Global, kept: Vec<u8>) -> bool {
-    let kind = SlipKind::Slip { kept: kept.into() };
+    let kind = SlipKind::Slip {
+        kept: kept.into(),
+        band: 3,
+    };
     let copy = kind.copy(alloc).expect(rt, "no memory for a copy");
     let is_so = copy == kind;
     drop(copy);

@@ -137,7 +137,9 @@ pub enum Request<P> {
     },
     /// Puts a module in just below the head (I_PUSH).
     ///
-    /// Refused with EINVAL (`MOST_MODULES` modules stand there) and ENXIO (hung up), in this order.
+    /// Refused with EINVAL (`MOST_MODULES` modules stand there, or messages could go round a circle: the module answers what comes up,
+    /// over an echo, above a module that answers what goes down, or at one end of a loop where one at the other end answers what comes
+    /// up too) and ENXIO (hung up), in this order.
     Push {
         /// The module.
         instance: P,

@@ -13,17 +13,19 @@ use Rattle.strm_queue.proofs.RunLemmas.{stands_with}
 use Rattle.strm_ends.specs.declared.place.Place.{Place}
 use Rattle.strm_ends.specs.declared.place.NextQueue.{NextQueue}
 use Rattle.strm_ends.specs.declared.place.NextQueue.TheVariants.{Of, Head}
+use Rattle.strm_qpair.specs.End.{in_state}
+use Rattle.strm_ends.proofs.TurnLemmas.{turns_with}
 use Rattle.strm_ends.specs.Image.{Image, end_of, with_state}
-use Rattle.strm_ends.specs.Path.{front_of}
-use Rattle.strm_ends.specs.Flow.{may, is_due}
+use Rattle.strm_ends.specs.Flow.{offer_of, turn_of, may, is_due}
+use Rattle.strm_module.specs.Kinds.{Meaning}
 use Rattle.strm_ends.specs.Held.{held_by, SameHeadMarks, DiffersIn, SetsMarks, AreCalm}
 use Rattle.strm_ends.specs.Next.{next_of, modules_at, SameWays}
-use Rattle.strm_ends.proofs.NextLemmas.{next_same, marks_but, marks_same, front_same, ways_of_same, next_once}
+use Rattle.strm_ends.proofs.NextLemmas.{next_same, marks_but, marks_same, offer_same, offers_there, ways_of_same, next_once}
 use Rattle.strm_ends.specs.Count.{is_place, places_of, place_count}
 use Rattle.strm_ends.proofs.PlaceLemmas.{IsIn, place_in, place_same}
 use Rattle.strm_ends.proofs.DueLemmas.{due_frame, due_fuller, due_holds, may_unless_next}
 use Rattle.strm_chain.specs.Number.{number_of, place_number, place_of}
-use Rattle.strm_chain.specs.Enabled.{Enabled, is_enabled, DueAreEnabled, IsWaiting, IsReady, IsReadyBut, ArePlaces, awaits, Awaits}
+use Rattle.strm_chain.specs.Enabled.{Enabled, is_enabled, DueAreEnabled, IsWaiting, IsReady, IsReadyBut, ArePlaces, awaits, Awaits, TurnsKnown}
 use Rattle.strm_chain.proofs.NumberLemmas.{place_back, number_once}
 
 differ : (C : Type 0) → true ≡ false → C
@@ -73,38 +75,38 @@ slice_get_set_same (y ∷ xs) zero x h = refl
 slice_get_set_same (y ∷ xs) (suc i) x h = slice_get_set_same xs i x (omega arith)
 
 -- each place that must move is enabled
-pub due_enabled : {K : Type 0} (image : Image K) (enabled : Enabled) → IsReady image enabled → DueAreEnabled image enabled.run
-due_enabled image enabled r p due =
+pub due_enabled : {K : Type 0} (means : Meaning K) (image : Image K) (enabled : Enabled) → IsReady means image enabled → DueAreEnabled means image enabled.run
+due_enabled means image enabled r p due =
     elim (is_enabled enabled.run p) as (λ b. is_enabled enabled.run p ≡ b → b ≡ true) [
       | true ↦ λ e. refl
-      | false ↦ λ e. let w = r.stands p (due_holds image p due) e in sym w.rests ∙ due
+      | false ↦ λ e. let w = r.stands p (due_holds means image p due) e in sym w.rests ∙ due
     ] refl
 
 -- where none is enabled, none must move
-pub quiet_if_none : {K : Type 0} (image : Image K) (enabled : Enabled) → IsReady image enabled → enabled.run.items ≡ [] → (p : Place) → is_due image p ≡ false
-quiet_if_none image enabled r none p =
-    elim (is_due image p) as (λ b. is_due image p ≡ b → b ≡ false) [
+pub quiet_if_none : {K : Type 0} (means : Meaning K) (image : Image K) (enabled : Enabled) → IsReady means image enabled → enabled.run.items ≡ [] → (p : Place) → is_due means image p ≡ false
+quiet_if_none means image enabled r none p =
+    elim (is_due means image p) as (λ b. is_due means image p ≡ b → b ≡ false) [
       | false ↦ λ e. refl
-      | true ↦ λ e. sym (due_enabled image enabled r p e) ∙ ap (stands_in (place_number p)) none
+      | true ↦ λ e. sym (due_enabled means image enabled r p e) ∙ ap (stands_in (place_number p)) none
     ] refl
 
 -- nothing changed that flow control sees
-pub ready_same : {K : Type 0} (x y : Image K) (enabled : Enabled) → SameWays x y → SameHeadMarks x y → ((q : NextQueue) → held_by y q ≡ held_by x q) → IsReady x enabled → IsReady y enabled
-ready_same x y enabled s marks held r =
+pub ready_same : {K : Type 0} (means : Meaning K) (x y : Image K) (enabled : Enabled) → SameWays x y → SameHeadMarks x y → ((p : Place) → turn_of means y p ≡ turn_of means x p) → ((q : NextQueue) → held_by y q ≡ held_by x q) → IsReady means x enabled → IsReady means y enabled
+ready_same means x y enabled s marks turns held r =
     record {
       stands = λ p some out.
-          let w = r.stands p (sym (ap is_some (front_same x y p s (held (Of p)))) ∙ some) out in
+          let w = r.stands p (sym (ap is_some (offer_same means x y p s (turns p) (held (Of p)))) ∙ some) out in
           record {
             queue = w.queue;
             next = next_same x y p s ∙ w.next;
             wants = w.wants;
-            rests = due_frame x y p s (held (Of p)) (λ q _. (marks_same x y q s marks, held q)) ∙ w.rests;
+            rests = due_frame means x y p s (offer_same means x y p s (turns p) (held (Of p))) (λ q _. (marks_same x y q s marks, held q)) ∙ w.rests;
           };
     }
 
 -- what enabled places and wants are ready for, another count of looks is too
-pub ready_again : {K : Type 0} (image : Image K) (old new : Enabled) → new.run.items ≡ old.run.items → new.wanted ≡ old.wanted → IsReady image old → IsReady image new
-ready_again image old new items wanted r =
+pub ready_again : {K : Type 0} (means : Meaning K) (image : Image K) (old new : Enabled) → new.run.items ≡ old.run.items → new.wanted ≡ old.wanted → IsReady means image old → IsReady means image new
+ready_again means image old new items wanted r =
     record {
       stands = λ p some out.
           let w = r.stands p some (ap (stands_in (place_number p)) (sym items) ∙ out) in
@@ -112,35 +114,35 @@ ready_again image old new items wanted r =
     }
 
 -- a queue changed, and its place was enabled: what waits for another queue waits as before
-pub ready_but : {K : Type 0} (x y : Image K) (queue : NextQueue) (old new : Enabled) → DiffersIn x y queue → new.wanted ≡ old.wanted → ((p : Place) → is_enabled new.run p ≡ false → is_enabled old.run p ≡ false) → ((p : Place) → is_some (front_of y p) ≡ true → is_enabled new.run p ≡ false → Of p ≢ queue) → IsReady x old → IsReadyBut y queue new
-ready_but x y queue old new d wanted before other r =
+pub ready_but : {K : Type 0} (means : Meaning K) (x y : Image K) (queue : NextQueue) (old new : Enabled) → DiffersIn x y queue → TurnsKnown means x y new.run → new.wanted ≡ old.wanted → ((p : Place) → is_enabled new.run p ≡ false → is_enabled old.run p ≡ false) → ((p : Place) → is_some (offer_of means y p) ≡ true → is_enabled new.run p ≡ false → Of p ≢ queue) → IsReady means x old → IsReadyBut means y queue new
+ready_but means x y queue old new d turns wanted before other r =
     let s = ways_of_same x y d.same in
     record {
       stands = λ p some out.
-          let own = d.others (Of p) (other p some out) in
-          let w = r.stands p (sym (ap is_some (front_same x y p s own)) ∙ some) (before p out) in
+          let own = offer_same means x y p s (turns p some out) (d.others (Of p) (other p some out)) in
+          let w = r.stands p (sym (ap is_some own) ∙ some) (before p out) in
           record {
             queue = w.queue;
             next = next_same x y p s ∙ w.next;
             wants = ap (λ l. slice_get l (number_of w.queue)) wanted ∙ w.wants;
-            rests = λ apart. due_frame x y p s own (λ q e. (marks_same x y q s d.head_marks, d.others q (λ same. apart (let e1 : w.queue ≡ q = some_same (sym w.next ∙ e) in e1 ∙ same)))) ∙ w.rests;
+            rests = λ apart. due_frame means x y p s own (λ q e. (marks_same x y q s d.head_marks, d.others q (λ same. apart (let e1 : w.queue ≡ q = some_same (sym w.next ∙ e) in e1 ∙ same)))) ∙ w.rests;
           };
     }
 
 -- the marks of a head changed: what waits for another queue waits as before
-pub ready_marks : {K : Type 0} (x y : Image K) (e : End) (enabled : Enabled) → SetsMarks x y e → IsReady x enabled → IsReadyBut y (Head e) enabled
-ready_marks x y e enabled d r =
+pub ready_marks : {K : Type 0} (means : Meaning K) (x y : Image K) (e : End) (enabled : Enabled) → SetsMarks x y e → ((p : Place) → turn_of means y p ≡ turn_of means x p) → IsReady means x enabled → IsReadyBut means y (Head e) enabled
+ready_marks means x y e enabled d turns r =
     let s = ways_of_same x y d.same in
     record {
       stands = λ p some out.
-          let own = d.held (Of p) in
-          let w = r.stands p (sym (ap is_some (front_same x y p s own)) ∙ some) out in
+          let own = offer_same means x y p s (turns p) (d.held (Of p)) in
+          let w = r.stands p (sym (ap is_some own) ∙ some) out in
           record {
             queue = w.queue;
             next = next_same x y p s ∙ w.next;
             wants = w.wants;
             rests = λ apart.
-                due_frame x y p s own
+                due_frame means x y p s own
                 (λ q k. let same : w.queue ≡ q = some_same (sym w.next ∙ k) in
                 (marks_but x y q s (λ f at. d.others f (λ here. apart (same ∙ at ∙ ap (λ z. Head z) here))), d.held q))
                 ∙ w.rests;
@@ -148,15 +150,15 @@ ready_marks x y e enabled d r =
     }
 
 -- and where the queue holds more, so does what waits for it
-pub ready_more : {K : Type 0} (x y : Image K) (queue : NextQueue) (old new : Enabled) → DiffersIn x y queue → length (held_by x queue) < length (held_by y queue) → new.wanted ≡ old.wanted → ((p : Place) → is_enabled new.run p ≡ false → is_enabled old.run p ≡ false) → ((p : Place) → is_some (front_of y p) ≡ true → is_enabled new.run p ≡ false → Of p ≢ queue) → IsReady x old → IsReady y new
-ready_more x y queue old new d longer wanted before other r =
+pub ready_more : {K : Type 0} (means : Meaning K) (x y : Image K) (queue : NextQueue) (old new : Enabled) → DiffersIn x y queue → TurnsKnown means x y new.run → length (held_by x queue) < length (held_by y queue) → new.wanted ≡ old.wanted → ((p : Place) → is_enabled new.run p ≡ false → is_enabled old.run p ≡ false) → ((p : Place) → is_some (offer_of means y p) ≡ true → is_enabled new.run p ≡ false → Of p ≢ queue) → IsReady means x old → IsReady means y new
+ready_more means x y queue old new d turns longer wanted before other r =
     let s = ways_of_same x y d.same in
-    let but = ready_but x y queue old new d wanted before other r in
+    let but = ready_but means x y queue old new d turns wanted before other r in
     record {
       stands = λ p some out.
-          let own = d.others (Of p) (other p some out) in
+          let own = offer_same means x y p s (turns p some out) (d.others (Of p) (other p some out)) in
           let b = but.stands p some out in
-          let w = r.stands p (sym (ap is_some (front_same x y p s own)) ∙ some) (before p out) in
+          let w = r.stands p (sym (ap is_some own) ∙ some) (before p out) in
           let same : b.queue ≡ w.queue = some_same (sym b.next ∙ next_same x y p s ∙ w.next) in
           record {
             queue = b.queue;
@@ -165,15 +167,15 @@ ready_more x y queue old new d longer wanted before other r =
             rests = ⊎_elim
                 (λ (e : number_of b.queue ≡ number_of queue).
                 let is : w.queue ≡ queue = sym same ∙ number_once b.queue queue e in
-                due_fuller x y p queue s own (w.next ∙ ap Some is) (marks_same x y queue s d.head_marks) (d.shift.fuller longer) w.rests)
+                due_fuller means x y p queue s own (w.next ∙ ap Some is) (marks_same x y queue s d.head_marks) (d.shift.fuller longer) w.rests)
                 (λ (ne : number_of b.queue ≡ number_of queue → ⊥). b.rests (λ e. ne (ap number_of e)))
                 (cases_eq (number_of b.queue) (number_of queue));
           };
     }
 
 -- no place waits for the queue that was taken from
-pub ready_unwanted : {K : Type 0} (image : Image K) (queue : NextQueue) (enabled : Enabled) → slice_get enabled.wanted (number_of queue) ≡ Some None → IsReadyBut image queue enabled → IsReady image enabled
-ready_unwanted image queue enabled none r =
+pub ready_unwanted : {K : Type 0} (means : Meaning K) (image : Image K) (queue : NextQueue) (enabled : Enabled) → slice_get enabled.wanted (number_of queue) ≡ Some None → IsReadyBut means image queue enabled → IsReady means image enabled
+ready_unwanted means image queue enabled none r =
     record {
       stands = λ p some out.
           let b = r.stands p some out in
@@ -186,8 +188,8 @@ ready_unwanted image queue enabled none r =
     }
 
 -- the place that waits for it must not move yet
-pub ready_still : {K : Type 0} (image : Image K) (queue : NextQueue) (waiting : Place) (enabled : Enabled) → slice_get enabled.wanted (number_of queue) ≡ Some (Some waiting) → is_due image waiting ≡ false → IsReadyBut image queue enabled → IsReady image enabled
-ready_still image queue waiting enabled wants rests r =
+pub ready_still : {K : Type 0} (means : Meaning K) (image : Image K) (queue : NextQueue) (waiting : Place) (enabled : Enabled) → slice_get enabled.wanted (number_of queue) ≡ Some (Some waiting) → is_due means image waiting ≡ false → IsReadyBut means image queue enabled → IsReady means image enabled
+ready_still means image queue waiting enabled wants rests r =
     record {
       stands = λ p some out.
           let b = r.stands p some out in
@@ -198,15 +200,15 @@ ready_still image queue waiting enabled wants rests r =
             rests = ⊎_elim
                 (λ (e : number_of b.queue ≡ number_of queue).
                 let is : waiting ≡ p = some_same (some_same (sym wants ∙ ap (slice_get enabled.wanted) (sym e) ∙ b.wants)) in
-                ap (is_due image) (sym is) ∙ rests)
+                ap (is_due means image) (sym is) ∙ rests)
                 (λ (ne : number_of b.queue ≡ number_of queue → ⊥). b.rests (λ e. ne (ap number_of e)))
                 (cases_eq (number_of b.queue) (number_of queue));
           };
     }
 
 -- the place that waits for it was enabled
-pub ready_woken : {K : Type 0} (image : Image K) (queue : NextQueue) (waiting : Place) (old new : Enabled) → slice_get old.wanted (number_of queue) ≡ Some (Some waiting) → new.wanted ≡ slice_set old.wanted (number_of queue) None → new.run.items ≡ with_place old.run.items (place_number waiting) → IsReadyBut image queue old → IsReady image new
-ready_woken image queue waiting old new wants wanted items r =
+pub ready_woken : {K : Type 0} (means : Meaning K) (image : Image K) (queue : NextQueue) (waiting : Place) (old new : Enabled) → slice_get old.wanted (number_of queue) ≡ Some (Some waiting) → new.wanted ≡ slice_set old.wanted (number_of queue) None → new.run.items ≡ with_place old.run.items (place_number waiting) → IsReadyBut means image queue old → IsReady means image new
+ready_woken means image queue waiting old new wants wanted items r =
     record {
       stands = λ p some out.
           let gone : stands_in (place_number p) (with_place old.run.items (place_number waiting)) ≡ false = ap (stands_in (place_number p)) (sym items) ∙ out in
@@ -227,8 +229,8 @@ first_out : (n k : ℕ) (rest : List ℕ) → k ≢ n → stands_in k rest ≡ f
 first_out n k rest ne h = rw (apart_number k n ne, h) refl
 
 -- the first place was given out, and enabled again
-pub ready_moves : {K : Type 0} (image : Image K) (old new : Enabled) (n : ℕ) (rest : List ℕ) → old.run.items ≡ n ∷ rest → new.run.items ≡ with_place rest (place_number (place_of n)) → new.wanted ≡ old.wanted → IsReady image old → IsReady image new
-ready_moves image old new n rest before items wanted r =
+pub ready_moves : {K : Type 0} (means : Meaning K) (image : Image K) (old new : Enabled) (n : ℕ) (rest : List ℕ) → old.run.items ≡ n ∷ rest → new.run.items ≡ with_place rest (place_number (place_of n)) → new.wanted ≡ old.wanted → IsReady means image old → IsReady means image new
+ready_moves means image old new n rest before items wanted r =
     record {
       stands = λ p some out.
           let gone : stands_in (place_number p) (with_place rest (place_number (place_of n))) ≡ false = ap (stands_in (place_number p)) (sym items) ∙ out in
@@ -239,20 +241,20 @@ ready_moves image old new n rest before items wanted r =
     }
 
 -- the first place was given out, and holds no message
-pub ready_empty : {K : Type 0} (image : Image K) (old new : Enabled) (n : ℕ) (rest : List ℕ) → old.run.items ≡ n ∷ rest → new.run.items ≡ rest → new.wanted ≡ old.wanted → is_some (front_of image (place_of n)) ≡ false → IsReady image old → IsReady image new
-ready_empty image old new n rest before items wanted empty r =
+pub ready_empty : {K : Type 0} (means : Meaning K) (image : Image K) (old new : Enabled) (n : ℕ) (rest : List ℕ) → old.run.items ≡ n ∷ rest → new.run.items ≡ rest → new.wanted ≡ old.wanted → is_some (offer_of means image (place_of n)) ≡ false → IsReady means image old → IsReady means image new
+ready_empty means image old new n rest before items wanted empty r =
     record {
       stands = λ p some out.
           let gone : stands_in (place_number p) rest ≡ false = ap (stands_in (place_number p)) (sym items) ∙ out in
           let ne : place_number p ≢ n = λ e.
-          differ ⊥ (sym some ∙ ap (λ k. is_some (front_of image k)) (sym (place_back p) ∙ ap place_of e) ∙ empty) in
+          differ ⊥ (sym some ∙ ap (λ k. is_some (offer_of means image k)) (sym (place_back p) ∙ ap place_of e) ∙ empty) in
           let w = r.stands p some (ap (stands_in (place_number p)) before ∙ first_out n (place_number p) rest ne gone) in
           record { queue = w.queue; next = w.next; wants = ap (λ l. slice_get l (number_of w.queue)) wanted ∙ w.wants; rests = w.rests };
     }
 
 -- the first place was given out, may not move, and waits from now on
-waits_now : {K : Type 0} (image : Image K) (old new : Enabled) (n : ℕ) (rest : List ℕ) (queue : NextQueue) → AreCalm image → old.run.items ≡ n ∷ rest → new.run.items ≡ rest → new.wanted ≡ slice_set old.wanted (number_of queue) (Some (place_of n)) → number_of queue < length old.wanted → next_of image (place_of n) ≡ Some queue → is_some (front_of image (place_of n)) ≡ true → is_due image (place_of n) ≡ false → IsReady image old → IsReady image new
-waits_now image old new n rest queue ordinary before items wanted inside next holds rests r =
+waits_now : {K : Type 0} (means : Meaning K) (image : Image K) (old new : Enabled) (n : ℕ) (rest : List ℕ) (queue : NextQueue) → AreCalm image → old.run.items ≡ n ∷ rest → new.run.items ≡ rest → new.wanted ≡ slice_set old.wanted (number_of queue) (Some (place_of n)) → number_of queue < length old.wanted → next_of image (place_of n) ≡ Some queue → is_some (offer_of means image (place_of n)) ≡ true → is_due means image (place_of n) ≡ false → IsReady means image old → IsReady means image new
+waits_now means image old new n rest queue ordinary before items wanted inside next holds rests r =
     record {
       stands = λ p some out.
           let gone : stands_in (place_number p) rest ≡ false = ap (stands_in (place_number p)) (sym items) ∙ out in
@@ -263,13 +265,13 @@ waits_now image old new n rest queue ordinary before items wanted inside next ho
             queue = queue;
             next = ap (next_of image) is ∙ next;
             wants = ap (λ l. slice_get l (number_of queue)) wanted ∙ slice_get_set_same old.wanted (number_of queue) (Some (place_of n)) inside ∙ ap (λ k. Some (Some k)) (sym is);
-            rests = ap (is_due image) is ∙ rests;
+            rests = ap (is_due means image) is ∙ rests;
           })
           (λ (ne : place_number p ≡ place_number (place_of n) → ⊥).
           let first : place_number p ≢ n = λ e. ne (ap place_number (sym (place_back p) ∙ ap place_of e)) in
           let w = r.stands p some (ap (stands_in (place_number p)) before ∙ first_out n (place_number p) rest first gone) in
           let apart : number_of w.queue ≢ number_of queue = λ e.
-          ne (ap place_number (next_once image p (place_of n) queue ordinary some holds (w.next ∙ ap Some (number_once w.queue queue e)) next)) in
+          ne (ap place_number (next_once image p (place_of n) queue (offers_there means image p some) (offers_there means image (place_of n) holds) (w.next ∙ ap Some (number_once w.queue queue e)) next)) in
           record {
             queue = w.queue;
             next = w.next;
@@ -280,17 +282,17 @@ waits_now image old new n rest queue ordinary before items wanted inside next ho
     }
 
 -- the first place was given out, may not move, and waits for the queue ahead
-pub ready_waits : {K : Type 0} (image : Image K) (old new : Enabled) (n : ℕ) (rest : List ℕ) → AreCalm image → ((q : NextQueue) → next_of image (place_of n) ≡ Some q → number_of q < length old.wanted) → old.run.items ≡ n ∷ rest → new.run.items ≡ rest → Awaits image (place_of n) old.wanted new.wanted → is_some (front_of image (place_of n)) ≡ true → may image (place_of n) ≡ false → is_due image (place_of n) ≡ false → IsReady image old → IsReady image new
-ready_waits image old new n rest ordinary few before items wanted holds still rests r =
-    elim (next_of image (place_of n)) as (λ o. next_of image (place_of n) ≡ o → new.wanted ≡ awaits o (place_of n) old.wanted → IsReady image new) [
-      | None ↦ λ e h. differ (IsReady image new) (sym (may_unless_next image (place_of n) e holds) ∙ still)
-      | Some q ↦ λ e h. waits_now image old new n rest q ordinary before items h (few q e) e holds rests r
+pub ready_waits : {K : Type 0} (means : Meaning K) (image : Image K) (old new : Enabled) (n : ℕ) (rest : List ℕ) → AreCalm image → ((q : NextQueue) → next_of image (place_of n) ≡ Some q → number_of q < length old.wanted) → old.run.items ≡ n ∷ rest → new.run.items ≡ rest → Awaits image (place_of n) old.wanted new.wanted → is_some (offer_of means image (place_of n)) ≡ true → may means image (place_of n) ≡ false → is_due means image (place_of n) ≡ false → IsReady means image old → IsReady means image new
+ready_waits means image old new n rest ordinary few before items wanted holds still rests r =
+    elim (next_of image (place_of n)) as (λ o. next_of image (place_of n) ≡ o → new.wanted ≡ awaits o (place_of n) old.wanted → IsReady means image new) [
+      | None ↦ λ e h. differ (IsReady means image new) (sym (may_unless_next means image (place_of n) e holds) ∙ still)
+      | Some q ↦ λ e h. waits_now means image old new n rest q ordinary before items h (few q e) e holds rests r
     ] refl wanted
 
 -- all places that hold messages are enabled
-pub ready_all : {K : Type 0} (image : Image K) (enabled : Enabled) → ((p : Place) → is_some (front_of image p) ≡ true → is_enabled enabled.run p ≡ true) → IsReady image enabled
-ready_all image enabled all =
-    record { stands = λ p some out. differ (IsWaiting image enabled.wanted p) (sym (all p some) ∙ out) }
+pub ready_all : {K : Type 0} (means : Meaning K) (image : Image K) (enabled : Enabled) → ((p : Place) → is_some (offer_of means image p) ≡ true → is_enabled enabled.run p ≡ true) → IsReady means image enabled
+ready_all means image enabled all =
+    record { stands = λ p some out. differ (IsWaiting means image enabled.wanted p) (sym (all p some) ∙ out) }
 
 state_ways : {K : Type 0} (image : Image K) (e : End) (r : Record) → SameWays image (with_state image e r)
 state_ways image A r =
@@ -333,8 +335,8 @@ state_held image B r (Head A) = refl
 state_held image B r (Head B) = refl
 
 -- flow control does not see what a head remembers
-pub ready_state : {K : Type 0} (x y : Image K) (e : End) (r : Record) (enabled : Enabled) → y ≡ with_state x e r → IsReady x enabled → IsReady y enabled
-ready_state x y e r enabled is ready = rw is (ready_same x (with_state x e r) enabled (state_ways x e r) (state_marks x e r) (state_held x e r) ready)
+pub ready_state : {K : Type 0} (means : Meaning K) (x y : Image K) (e : End) (r : Record) (enabled : Enabled) → y ≡ with_state x e r → IsReady means x enabled → IsReady means y enabled
+ready_state means x y e r enabled is ready = rw is (ready_same means x (with_state x e r) enabled (state_ways x e r) (state_marks x e r) (turns_with means x e (in_state (end_of x e) r) refl) (state_held x e r) ready)
 
 abbrev broken_off : {K : Type 0} → Image K → Image K
 broken_off image = record image { broken = true }
@@ -362,19 +364,47 @@ broken_held image (Of (Place.Drv B)) = refl
 broken_held image (Head A) = refl
 broken_held image (Head B) = refl
 
+broken_turns : {K : Type 0} (means : Meaning K) (image : Image K) (p : Place) → turn_of means (broken_off image) p ≡ turn_of means image p
+broken_turns means image (Place.Wr A i) = refl
+broken_turns means image (Place.Wr B i) = refl
+broken_turns means image (Place.Rd A i) = refl
+broken_turns means image (Place.Rd B i) = refl
+broken_turns means image (Place.Drv e) = refl
+
 -- nor that the chain is broken
-pub ready_broken : {K : Type 0} (x y : Image K) (enabled : Enabled) → y ≡ record x { broken = true } → IsReady x enabled → IsReady y enabled
-ready_broken x y enabled is ready = rw is (ready_same x (broken_off x) enabled (broken_ways x) (broken_marks x) (broken_held x) ready)
+pub ready_broken : {K : Type 0} (means : Meaning K) (x y : Image K) (enabled : Enabled) → y ≡ record x { broken = true } → IsReady means x enabled → IsReady means y enabled
+ready_broken means x y enabled is ready = rw is (ready_same means x (broken_off x) enabled (broken_ways x) (broken_marks x) (broken_turns means x) (broken_held x) ready)
 
 -- a queue that has as many messages as before is as before
-pub ready_still_all : {K : Type 0} (x y : Image K) (queue : NextQueue) (enabled : Enabled) → DiffersIn x y queue → length (held_by y queue) ≡ length (held_by x queue) → IsReady x enabled → IsReady y enabled
-ready_still_all x y queue enabled d same ready =
-    ready_same x y enabled (ways_of_same x y d.same) d.head_marks
-    (λ q. ⊎_elim
+pub ready_still_all : {K : Type 0} (means : Meaning K) (x y : Image K) (queue : NextQueue) (enabled : Enabled) → DiffersIn x y queue → TurnsKnown means x y enabled.run → length (held_by y queue) ≡ length (held_by x queue) → IsReady means x enabled → IsReady means y enabled
+ready_still_all means x y queue enabled d turns same r =
+    let s = ways_of_same x y d.same in
+    let held : (q : NextQueue) → held_by y q ≡ held_by x q = λ q. ⊎_elim
     (λ (e : number_of q ≡ number_of queue). let is = number_once q queue e in rw is (d.shift.still same))
     (λ (ne : number_of q ≡ number_of queue → ⊥). d.others q (λ e. ne (ap number_of e)))
-    (cases_eq (number_of q) (number_of queue)))
-    ready
+    (cases_eq (number_of q) (number_of queue)) in
+    record {
+      stands = λ p some out.
+          let own = offer_same means x y p s (turns p some out) (held (Of p)) in
+          let w = r.stands p (sym (ap is_some own) ∙ some) out in
+          record {
+            queue = w.queue;
+            next = next_same x y p s ∙ w.next;
+            wants = w.wants;
+            rests = due_frame means x y p s own (λ q _. (marks_same x y q s d.head_marks, held q)) ∙ w.rests;
+          };
+    }
+
+-- both places of a module were enabled where their turns changed, and no other turn changed
+pub turns_known : {K : Type 0} (means : Meaning K) (x y : Image K) (run : RunList) (a b : Place) → ((p : Place) → p ≢ a → p ≢ b → turn_of means y p ≡ turn_of means x p) → (is_some (offer_of means y a) ≡ true → is_enabled run a ≡ false → turn_of means y a ≡ turn_of means x a) → (is_some (offer_of means y b) ≡ true → is_enabled run b ≡ false → turn_of means y b ≡ turn_of means x b) → TurnsKnown means x y run
+turns_known means x y run a b others one two =
+    λ p some out. ⊎_elim
+    (λ (e : place_number p ≡ place_number a). let is : p ≡ a = some_of (number_once (Of p) (Of a) e) in rw is (one (ap (λ k. is_some (offer_of means y k)) (sym is) ∙ some) (ap (is_enabled run) (sym is) ∙ out)))
+    (λ (ne : place_number p ≡ place_number a → ⊥). ⊎_elim
+    (λ (e : place_number p ≡ place_number b). let is : p ≡ b = some_of (number_once (Of p) (Of b) e) in rw is (two (ap (λ k. is_some (offer_of means y k)) (sym is) ∙ some) (ap (is_enabled run) (sym is) ∙ out)))
+    (λ (nf : place_number p ≡ place_number b → ⊥). others p (λ e. ne (ap place_number e)) (λ e. nf (ap place_number e)))
+    (cases_eq (place_number p) (place_number b)))
+    (cases_eq (place_number p) (place_number a))
 
 or_true : (a b : Bool) → b ≡ true → (a || b) ≡ true
 or_true true b h = refl

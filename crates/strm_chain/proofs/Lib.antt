@@ -5,7 +5,9 @@ pub mod HopLemmas
 pub mod StillLemmas
 pub mod LoadLemmas
 pub mod QuietLemmas
+pub mod StepLemmas
 pub mod SameLemmas
+pub mod OrderLemmas
 pub mod FlushLemmas
 pub mod WorkedExamples
 pub mod CountLemmas

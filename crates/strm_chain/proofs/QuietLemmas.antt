@@ -11,8 +11,8 @@ use Rattle.strm_chain.specs.Service.{Leads, move}
 use Rattle.strm_ends.specs.Same.{SameModules}
 
 -- one more move behind those that were made
-pub Leads-snoc : {K : Type 0} (means : Meaning K) (places : List Place) (old mid new : Image K) (place : Place) → Leads means old places mid → may mid place ≡ true → new ≡ move means mid place → Leads means old (places ++ place ∷ []) new
-Leads-snoc means [] old mid new place l m n = (ap (λ i. may i place) (sym l) ∙ m, n ∙ ap (λ i. move means i place) l)
+pub Leads-snoc : {K : Type 0} (means : Meaning K) (places : List Place) (old mid new : Image K) (place : Place) → Leads means old places mid → may means mid place ≡ true → new ≡ move means mid place → Leads means old (places ++ place ∷ []) new
+Leads-snoc means [] old mid new place l m n = (ap (λ i. may means i place) (sym l) ∙ m, n ∙ ap (λ i. move means i place) l)
 Leads-snoc means (p ∷ places) old mid new place l m n = (l.0, Leads-snoc means places (move means old p) mid new place l.1 m n)
 
 ids_trans : (old mid new : Record) → SameIds old mid → SameIds mid new → SameIds old new

@@ -1,7 +1,7 @@
 -- Delivery, moves and settling keep which modules stand where.
-use Rattle.std.proofs.Common.{◌≡◌, ◌∙◌, ◌==◌, ◌+◌, ◌-◌, ◌&&◌, ℕ, Bool, true, false, cond, Option, Some, None, List, [], ◌∷◌, fold, refl, sym, ap, subst, is_none, suc, zero}
+use Rattle.std.proofs.Common.{◌≡◌, ◌∙◌, ◌==◌, ◌&&◌, ℕ, Bool, true, false, cond, Option, Some, None, List, [], ◌∷◌, refl, sym, ap, is_none, suc, zero}
 use Rattle.std.proofs.lemmas.Option.{get_or_from_slice_get}
-use Rattle.strm_msg.specs.Message.{Msg, bare, ack_msg}
+use Rattle.strm_msg.specs.Message.{Msg}
 use Rattle.strm_msg.specs.Options.{options_asked}
 use Rattle.strm_msg.specs.declared.options.TheConstants.{SETOPTS}
 use Rattle.strm_msg.specs.declared.kind.MsgKind.{MsgKind}
@@ -11,6 +11,8 @@ use Rattle.strm_msg.specs.declared.words.End.TheVariants.{A, B}
 use Rattle.strm_msg.specs.declared.words.Side.{Side}
 use Rattle.strm_msg.specs.declared.words.Side.TheVariants.{Rd, Wr}
 use Rattle.strm_queue.specs.Queue.{put_in, has_pcproto}
+use Rattle.strm_module.specs.declared.turn.Turn.{Turn}
+use Rattle.strm_module.specs.declared.turn.Turn.TheVariants.{Serves, Shut, Sends}
 use Rattle.strm_module.specs.Kinds.{Meaning}
 use Rattle.strm_module.specs.Shape.{IsSameModule}
 use Rattle.strm_module.specs.Module.{put_of}
@@ -20,24 +22,22 @@ use Rattle.strm_module.specs.declared.outs.Put.TheVariants.{Queue as Queued, Sen
 use Rattle.strm_module.proofs.ProcedureLemmas.{put_of_same}
 use Rattle.strm_module.specs.declared.driver.Driver.{Driver}
 use Rattle.strm_module.specs.declared.driver.Driver.TheVariants.{Echo, Loop, Line, Wire}
-use Rattle.strm_module.specs.Driver.{has_end, partner}
-use Rattle.strm_qpair.specs.Pair.{QueuePair, list_on, flushed, flushed_if, flushed_pair, after_put, pair_gets, pair_front, pair_serves}
+use Rattle.strm_module.specs.Driver.{has_end}
+use Rattle.strm_qpair.specs.Pair.{QueuePair, list_on, flushed, flushed_if, flushed_pair, after_put, pair_gets, pair_front, pair_turns, pair_serves}
 use Rattle.strm_qpair.specs.End.{EndState, in_head, in_state, in_drv, pair_at, set_pair, found_gets, end_gets, found_serves, end_serves}
 use Rattle.strm_qpair.specs.Head.{is_id, kept_answer, with_errors, open_head, keeps, head_does}
 use Rattle.strm_qpair.specs.Driver.{DriverStep, consumes, refuses, line_does, loop_does, options_up, echo_does, wire_does, driver_at}
 use Rattle.strm_qpair.specs.Modules.{identity_of, identities_of, SameIds, SameEnd}
-use Rattle.strm_qpair.specs.declared.driver.DriverSends.{DriverSends}
-use Rattle.strm_qpair.specs.declared.driver.DriverSends.TheVariants.{Nothing, Reply, Across, Options}
 use Rattle.strm_qpair.specs.declared.record.Record.{Record}
 use Rattle.strm_qpair.proofs.EndLemmas.{identities-set}
 use Rattle.strm_ends.specs.declared.place.Place.{Place}
-use Rattle.strm_ends.specs.Image.{Image, end_of, with_end, with_drv, count_of, driver_does, input_flushed, driven}
+use Rattle.strm_ends.specs.Image.{Image, end_of, with_end, driver_does, input_flushed, driven}
 use Rattle.strm_chain.specs.declared.spot.Spot.{Spot}
-use Rattle.strm_chain.specs.declared.spot.Spot.TheVariants.{Down, Up}
-use Rattle.strm_chain.specs.Deliver.{Onward, OnwardPast, send_on, head_gets, driver_sends, driver_gets, route, put_at, up_through, down_through, sent_down_with, sends_nothing, sends, up, down, deliver}
-use Rattle.strm_chain.specs.Service.{Leads, serve_at, move_drv, move}
+use Rattle.strm_chain.specs.Deliver.{put_at, deliver}
+use Rattle.strm_chain.specs.Service.{Leads, serve_at}
 use Rattle.strm_ends.specs.Same.{SameModules}
 use Rattle.strm_chain.proofs.QuietLemmas.{same_end, same_trans, same_image}
+use Rattle.strm_chain.proofs.StepLemmas.{StepsKeep, delivery_keeps, moves_keep}
 
 -- a module of which only what its kind keeps can differ
 same_identity : {K : Type 0} (old new : Shape K) → IsSameModule old new → identity_of new ≡ identity_of old
@@ -161,54 +161,8 @@ pub with_end_keeps : {K : Type 0} (image : Image K) (e : End) (new : EndState K)
 with_end_keeps image A new h = record { driver = refl; broken = refl; on_a = h; on_b = same_end image.b }
 with_end_keeps image B new h = record { driver = refl; broken = refl; on_a = same_end image.a; on_b = h }
 
--- a message that goes on leaves the same modules, whichever it is
-abbrev OnwardKeeps : {K : Type 0} → Onward K → Type 0
-OnwardKeeps {K = K} send = (e : End) (image : Image K) (m : Msg) → SameModules image (send e image m)
-
-abbrev OnwardPastKeeps : {K : Type 0} → OnwardPast K → Type 0
-OnwardPastKeeps {K = K} send = (e : End) (n : ℕ) (image : Image K) (m : Msg) → SameModules image (send e n image m)
-
--- outs that are carried one after another
-fold_keeps : {K O : Type 0} (f : Image K → O → Image K) → ((j : Image K) (out : O) → SameModules j (f j out)) → (image : Image K) (outs : List O) → SameModules image (fold f image outs)
-fold_keeps f each image [] = same_image image
-fold_keeps f each image (out ∷ outs) =
-    same_trans image (f image out) (fold f (f image out) outs) (each image out) (fold_keeps f each (f image out) outs)
-
-route_keeps : {K : Type 0} (down up : Image K → Msg → Image K) → ((j : Image K) (m : Msg) → SameModules j (down j m)) → ((j : Image K) (m : Msg) → SameModules j (up j m)) → (j : Image K) (out : Side × Msg) → SameModules j (route down up j out)
-route_keeps down up d u j (Wr, m) = d j m
-route_keeps down up d u j (Rd, m) = u j m
-
-send_on_keeps : {K : Type 0} (send : Onward K) → OnwardKeeps send → (e : End) (image : Image K) (o : Option Msg) → SameModules image (send_on send e image o)
-send_on_keeps send each e image None = same_image image
-send_on_keeps send each e image (Some m) = each e image m
-
-nothing_keeps : {K : Type 0} → OnwardKeeps {K = K} sends_nothing
-nothing_keeps e image m = same_image image
-
-head_gets_keeps : {K : Type 0} (send : Onward K) → OnwardKeeps send → OnwardKeeps (head_gets send)
-head_gets_keeps send each e image m =
-    let h = head_does (end_of image e) m in
-    let there = with_end image e h.state in
-    same_trans image there (send_on send e there h.sends) (with_end_keeps image e h.state (head_does_keeps (end_of image e) m)) (send_on_keeps send each e there h.sends)
-
-driver_sends_keeps : {K : Type 0} (up : OnwardPast K) → OnwardPastKeeps up → (old : Image K) (e : End) (image : Image K) (s : DriverSends) → SameModules image (driver_sends up old e image s)
-driver_sends_keeps up each old e image Nothing = same_image image
-driver_sends_keeps up each old e image (Reply m) = each e (count_of old e) image m
-driver_sends_keeps up each old e image (Across m) =
-    let p = partner old.driver e in each p (count_of old p) image m
-driver_sends_keeps up each old e image (Options mode prot marks id) =
-    let n = count_of old e in
-    let there = up e n image (bare (MSetopts mode prot marks)) in
-    same_trans image there (up e n there (ack_msg id 0 None)) (each e n image (bare (MSetopts mode prot marks))) (each e n there (ack_msg id 0 None))
-
-driver_gets_keeps : {K : Type 0} (up : OnwardPast K) → OnwardPastKeeps up → OnwardKeeps (driver_gets up)
-driver_gets_keeps up each e image m =
-    let d = driver_does image.driver e (end_of image e) m in
-    let there = driven image e m in
-    same_trans image there (driver_sends up image e there d.sends) (driven_keeps image e m) (driver_sends_keeps up each image e there d.sends)
-
 -- a put leaves the shape that its module's answer came with
-put_shape : {K : Type 0} (s : QueuePair K) (side : Side) (put : Put) → (after_put s side put).pair.shape ≡ s.shape
+pub put_shape : {K : Type 0} (s : QueuePair K) (side : Side) (put : Put) → (after_put s side put).pair.shape ≡ s.shape
 put_shape s Rd (Queued m) = refl
 put_shape s Wr (Queued m) = refl
 put_shape s side (Sent outs) = refl
@@ -230,11 +184,16 @@ module _ {K : Type 0} (means : Meaning K) where
       let new = (pair_gets means s side m).pair in
       modules_keep e (set_pair e.modules i new) (identities-set_pair e.modules i s new at (pair_gets-identity s side m))
 
+  pair_turns-identity : (s : QueuePair K) (side : Side) (turn : Turn) → identity_of (pair_turns means s side turn).pair.shape ≡ identity_of s.shape
+  pair_turns-identity s side Serves = pair_front-identity s side (list_on s side)
+  pair_turns-identity s side Shut = refl
+  pair_turns-identity s side (Sends band) = refl
+
   found_serves_keeps : (e : EndState K) (i : ℕ) (o : Option (QueuePair K)) (side : Side) → pair_at e.modules i ≡ o → SameEnd e (found_serves means e i o side).state
   found_serves_keeps e i None side at = same_end e
   found_serves_keeps e i (Some s) side at =
       let new = (pair_serves means s side).pair in
-      modules_keep e (set_pair e.modules i new) (identities-set_pair e.modules i s new at (pair_front-identity s side (list_on s side)))
+      modules_keep e (set_pair e.modules i new) (identities-set_pair e.modules i s new at (pair_turns-identity s side (means.turn s.shape.kind side)))
 
   -- a message comes to a module, or the module serves one
   pub end_gets_keeps : (e : EndState K) (i : ℕ) (side : Side) (m : Msg) → SameEnd e (end_gets means e i side m).state
@@ -251,67 +210,23 @@ module _ {K : Type 0} (means : Meaning K) where
   serve_at_keeps image e i side =
       with_end_keeps image e (end_serves means (end_of image e) i side).state (end_serves_keeps (end_of image e) i side)
 
-  -- past any number of modules, if what happens behind them keeps the modules
-  up_through_keeps : (head : Onward K) → OnwardKeeps head → OnwardPastKeeps (up_through means head)
-  unfolding up_through
-  up_through_keeps head each e zero image m = each e image m
-  up_through_keeps head each e (suc n) image m =
-      let p = put_at means image e (suc n) Rd m in
-      let on = λ (j : Image K) (out : Side × Msg). up_through means head e n j out.1 in
-      same_trans image p.image (fold on p.image p.outs) (put_at_keeps image e (suc n) Rd m) (fold_keeps on (λ j out. up_through_keeps head each e n j out.1) p.image p.outs)
-
-  down_through_keeps : (up : OnwardPast K) → OnwardPastKeeps up → OnwardPastKeeps (down_through means up)
-  unfolding down_through
-  down_through_keeps up each e zero image m = driver_gets_keeps up each e image m
-  down_through_keeps up each e (suc n) image m =
-      let i = count_of image e - n in
-      let p = put_at means image e i Wr m in
-      let below = λ (k : Image K) (o : Msg). down_through means up e n k o in
-      let above = λ (k : Image K) (o : Msg). up e (i - 1) k o in
-      same_trans image p.image (fold (route below above) p.image p.outs) (put_at_keeps image e i Wr m) (fold_keeps (route below above) (route_keeps below above (λ k o. down_through_keeps up each e n k o) (λ k o. each e (i - 1) k o)) p.image p.outs)
-
-  -- what a head sends down, if what a head sends that it comes to keeps the modules
-  sent_down_keeps : (send : Onward K) → OnwardKeeps send → OnwardKeeps (sent_down_with means send)
-  sent_down_keeps send each e image m =
-      down_through_keeps (λ p n j o. up_through means (head_gets send) p n j o) (up_through_keeps (head_gets send) (head_gets_keeps send each)) e (count_of image e) image m
-
-  sends_keeps : (head_sent : Bool) → OnwardKeeps (sends means head_sent)
-  sends_keeps true e image m = nothing_keeps e image m
-  sends_keeps false e image m = sent_down_keeps sends_nothing nothing_keeps e image m
-
-  pub up_keeps : (head_sent : Bool) → OnwardPastKeeps (up means head_sent)
-  up_keeps head_sent = up_through_keeps (head_gets (sends means head_sent)) (head_gets_keeps (sends means head_sent) (sends_keeps head_sent))
-
-  pub down_keeps : (head_sent : Bool) → OnwardPastKeeps (down means head_sent)
-  down_keeps head_sent = down_through_keeps (up means head_sent) (up_keeps head_sent)
+  -- so each step of a message does
+  same_steps : StepsKeep means (λ (old new : Image K). SameModules old new)
+  same_steps =
+      record {
+        same = λ image. same_image image;
+        trans = λ old mid new x y. same_trans old mid new x y;
+        heads = λ image e m. with_end_keeps image e (head_does (end_of image e) m).state (head_does_keeps (end_of image e) m);
+        drives = λ image e m. driven_keeps image e m;
+        puts = put_at_keeps;
+        serves = serve_at_keeps;
+        takes = λ image e q. with_end_keeps image e (in_drv (end_of image e) q) (in_drv_keeps (end_of image e) q);
+      }
 
   -- a message that is handed in anywhere
   pub deliver_keeps : (image : Image K) (spot : Spot) (m : Msg) → SameModules image (deliver means image spot m)
-  deliver_keeps image (Down e i) m = down_keeps false e (count_of image e + 1 - i) image m
-  deliver_keeps image (Up e i) m = up_keeps false e i image m
-
-  move_drv_keeps : (image : Image K) (e : End) (q : List Msg) → SameModules image (move_drv means image e q)
-  move_drv_keeps image e [] = same_image image
-  move_drv_keeps image e (m ∷ q) =
-      let p = partner image.driver e in
-      let there = with_drv image e q in
-      same_trans image there (up means false p (count_of image p) there m) (with_end_keeps image e (in_drv (end_of image e) q) (in_drv_keeps (end_of image e) q)) (up_keeps false p (count_of image p) there m)
-
-  -- the move of a place
-  pub move_keeps : (image : Image K) (place : Place) → SameModules image (move means image place)
-  move_keeps image (Place.Wr e i) =
-      let p = serve_at means image e i Wr in
-      let below = λ (k : Image K) (o : Msg). down means false e (count_of image e - i) k o in
-      let above = λ (k : Image K) (o : Msg). up means false e (i - 1) k o in
-      same_trans image p.image (fold (route below above) p.image p.outs) (serve_at_keeps image e i Wr) (fold_keeps (route below above) (route_keeps below above (λ k o. down_keeps false e (count_of image e - i) k o) (λ k o. up_keeps false e (i - 1) k o)) p.image p.outs)
-  move_keeps image (Place.Drv e) = move_drv_keeps image e (end_of image e).drv
-  move_keeps image (Place.Rd e i) =
-      let p = serve_at means image e i Rd in
-      let on = λ (j : Image K) (out : Side × Msg). up means false e (i - 1) j out.1 in
-      same_trans image p.image (fold on p.image p.outs) (serve_at_keeps image e i Rd) (fold_keeps on (λ j out. up_keeps false e (i - 1) j out.1) p.image p.outs)
+  deliver_keeps image spot m = delivery_keeps means (λ (old new : Image K). SameModules old new) same_steps image spot m
 
   -- any moves, one after another
   pub leads_keeps : (old : Image K) (moves : List Place) (new : Image K) → Leads means old moves new → SameModules old new
-  leads_keeps old [] new led = subst (λ (i : Image K). SameModules old i) (sym led) (same_image old)
-  leads_keeps old (place ∷ moves) new led =
-      same_trans old (move means old place) new (move_keeps old place) (leads_keeps (move means old place) moves new led.1)
+  leads_keeps old moves new led = moves_keep means (λ (i j : Image K). SameModules i j) same_steps old moves new led

@@ -52,7 +52,7 @@ echo_moves : after_one.a.head ≡ aaaaa ∷ []
 unfolding down_through up_through
 echo_moves = refl
 
-echo_full : may (deliver builtin after_one (Down A 1) b1) (Place.Drv A) ≡ false
+echo_full : may builtin (deliver builtin after_one (Down A 1) b1) (Place.Drv A) ≡ false
 unfolding down_through up_through
 echo_full = refl
 

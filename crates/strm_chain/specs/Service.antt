@@ -37,4 +37,4 @@ module _ {K : Type 0} (means : Meaning K) where
   -- these moves lead from one image to another, and each place may move when it does
   abbrev pub Leads : Image K → List Place → Image K → Type 0
   Leads old [] new = new ≡ old
-  Leads old (place ∷ places) new = (may old place ≡ true) × Leads (move old place) places new
+  Leads old (place ∷ places) new = (may means old place ≡ true) × Leads (move old place) places new

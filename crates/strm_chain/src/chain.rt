@@ -4,6 +4,7 @@ ghost use Rattle.strm_qpair.specs.End.{shapes_of, pair_at};
 ghost use Rattle.strm_qpair.specs.Modules.{IsFitEnd, HoldsCalm};
 ghost use Rattle.strm_qpair.specs.Change.{has_room, inserted, removed, closed};
 ghost use Rattle.strm_ends.specs.Image.{end_of, with_end, count_of, KeepsHeadRoom, fresh};
+ghost use Rattle.strm_ends.specs.Order.{goes_round};
 ghost use Rattle.strm_chain.specs.Enabled.{is_enabled, DueAreEnabled};
 
 use crate::enabling::Enabling;
@@ -54,7 +55,7 @@ impl<M: ModuleOf> Model for Chain<M> {
 
     ghost view = { λ c. record { image = c.ends.image; rooms = c.ends.rooms; run = c.enabling.run } };
 
-    ghost invariant = { λ c. IsReady c.ends.image c.enabling × ArePlaces c.ends.image c.enabling.run.items × (c.hops.items ≡ []) };
+    ghost invariant = { λ c. IsReady M.Kind.means c.ends.image c.enabling × ArePlaces c.ends.image c.enabling.run.items × (c.hops.items ≡ []) };
 }
 
 impl<M: ModuleOf> Chain<M> {
@@ -132,6 +133,14 @@ impl<M: ModuleOf> Chain<M> {
         self.ends.end(end).has_room()
     }
 
+    /// Whether messages could go round a circle, answered again and again, with a module of this shape just below the head: what
+    /// refuses its push with EINVAL (I_PUSH).
+    pub fn goes_round(&self, end: End, shape: &Shape<M::Kind>) -> bool
+        ensures { result ≡ goes_round M.Kind.means self.now.image end shape.now }
+    {
+        self.ends.goes_round(end, shape)
+    }
+
     /// Puts a module just below the head, with empty queues (I_PUSH). Takes no memory, and no list
     /// loses room.
     ///
@@ -182,7 +191,7 @@ impl<M: ModuleOf> Chain<M> {
     /// Whether a place is enabled: service will look at it. Each place that must move is.
     pub fn is_enabled(&self, place: Place) -> bool
         ensures value { result ≡ is_enabled self.now.run place }
-        ensures due { DueAreEnabled self.now.image self.now.run }
+        ensures due { DueAreEnabled M.Kind.means self.now.image self.now.run }
     {
         self.enabling.is_enabled(place)
     }

@@ -2,23 +2,23 @@
 ghost use Rattle.std.specs.Prelude.{◌≡◌, ◌+◌, ◌||◌, ◌==◌, ◌<◌, ◌≤◌, ◌≢◌, [], IfOk, IfSome, IfNone, true, false, length, None, slice_get, slice_set, Some, is_some};
 ghost use Rattle.strm_msg.specs.Count.{one_more};
 ghost use Rattle.strm_queue.specs.Run.{AreOnce, with_place};
-ghost use Rattle.strm_ends.specs.Flow.{may, is_due};
+ghost use Rattle.strm_ends.specs.Flow.{offer_of, turn_of, may, is_due};
 ghost use Rattle.strm_ends.specs.Held.{held_by, DiffersIn, AreCalm};
 ghost use Rattle.strm_ends.specs.Next.{next_of};
 ghost use Rattle.strm_ends.specs.declared.place.NextQueue.{NextQueue};
-ghost use Rattle.strm_ends.specs.Path.{front_of};
 ghost use Rattle.strm_ends.specs.declared.place.Place.{Place};
+ghost use Rattle.strm_ends.specs.declared.place.Place.TheVariants as Places;
 ghost use Rattle.strm_ends.specs.declared.place.NextQueue.TheVariants.{Of};
 ghost use Rattle.strm_chain.specs.Number.{number_of, place_number, place_of};
 ghost use Rattle.strm_ends.specs.Image.{Image};
-ghost use Rattle.strm_chain.specs.Enabled.{is_enabled, IsReady, IsReadyBut, ArePlaces, Awaits};
+ghost use Rattle.strm_chain.specs.Enabled.{is_enabled, IsReady, IsReadyBut, ArePlaces, Awaits, TurnsKnown};
 
 use crate::moves::Looks;
 use crate::number::{QUEUES, number_of, place_number, place_of};
 use std::alloc::Global;
 use std::marker::Model;
 use strm_ends::{Ends, NextQueue, Place};
-use strm_module::ModuleOf;
+use strm_module::{ModuleOf, Turn};
 use strm_msg::{End, NoMem};
 use strm_queue::RunQueue;
 
@@ -105,7 +105,7 @@ impl Enabling {
     /// Enables each place that holds a message, where what is next may have changed: no place waits
     /// then.
     pub(crate) fn wake_all<M: ModuleOf>(&mut self, ends: &Ends<M>)
-        ensures ready { IsReady ends.now.image self.new }
+        ensures ready { IsReady M.Kind.means ends.now.image self.new }
         ensures places { ArePlaces ends.now.image self.new.run.items }
         ensures given { self.new.run.given ≡ self.old.run.given }
     {
@@ -122,8 +122,8 @@ impl Enabling {
     /// Enables a place, if it holds a message.
     fn wake_one<M: ModuleOf>(&mut self, ends: &Ends<M>, place: Place)
         ensures kept { (other : Place) → is_enabled self.old.run other ≡ true → is_enabled self.new.run other ≡ true }
-        ensures own { is_some (front_of ends.now.image place) ≡ true → self.new.run.items ≡ with_place self.old.run.items (place_number place) }
-        ensures none { is_some (front_of ends.now.image place) ≡ false → self.new.run.items ≡ self.old.run.items }
+        ensures own { is_some (offer_of M.Kind.means ends.now.image place) ≡ true → self.new.run.items ≡ with_place self.old.run.items (place_number place) }
+        ensures none { is_some (offer_of M.Kind.means ends.now.image place) ≡ false → self.new.run.items ≡ self.old.run.items }
         ensures places { ArePlaces ends.now.image self.old.run.items → ArePlaces ends.now.image self.new.run.items }
         ensures more { length self.new.run.items ≤ length self.old.run.items + 1 }
         ensures same { is_enabled self.old.run place ≡ true → self.new.run.items ≡ self.old.run.items }
@@ -138,12 +138,46 @@ impl Enabling {
         }
     }
 
+    /// Enables a place, if its service would do otherwise now than before, and moves something.
+    fn wake_turn<M: ModuleOf>(&mut self, ends: &Ends<M>, place: Place, before: Turn)
+        ensures kept { (other : Place) → is_enabled self.new.run other ≡ false → is_enabled self.old.run other ≡ false }
+        ensures own { is_some (offer_of M.Kind.means ends.now.image place) ≡ true → is_enabled self.new.run place ≡ false → turn_of M.Kind.means ends.now.image place ≡ before }
+        ensures steady { turn_of M.Kind.means ends.now.image place ≡ before → self.new.run.items ≡ self.old.run.items }
+        ensures places { ArePlaces ends.now.image self.old.run.items → ArePlaces ends.now.image self.new.run.items }
+        ensures wanted { self.new.wanted ≡ self.old.wanted }
+        ensures given { self.new.run.given ≡ self.old.run.given }
+    {
+        if ends.turn(place) != before {
+            self.wake_one(ends, place);
+        }
+    }
+
+    /// Enables both places of a module, each if its service would do otherwise now than before, and moves something.
+    pub(crate) fn wake_turns<M: ModuleOf>(
+        &mut self,
+        ends: &Ends<M>,
+        end: End,
+        i: u8,
+        before: (Turn, Turn),
+    )
+        ensures known { (old : Image M.Kind) → turn_of M.Kind.means old (Places.Wr end i) ≡ before.0 → turn_of M.Kind.means old (Places.Rd end i) ≡ before.1 → ((place : Place) → place ≢ Places.Wr end i → place ≢ Places.Rd end i → turn_of M.Kind.means ends.now.image place ≡ turn_of M.Kind.means old place) → TurnsKnown M.Kind.means old ends.now.image self.new.run }
+        ensures ready { (old : Image M.Kind) → IsReady M.Kind.means old self.old → IsReady M.Kind.means old self.new }
+        ensures steady { turn_of M.Kind.means ends.now.image (Places.Wr end i) ≡ before.0 → turn_of M.Kind.means ends.now.image (Places.Rd end i) ≡ before.1 → self.new.run.items ≡ self.old.run.items }
+        ensures places { ArePlaces ends.now.image self.old.run.items → ArePlaces ends.now.image self.new.run.items }
+        ensures kept { (other : Place) → is_enabled self.old.run other ≡ true → is_enabled self.new.run other ≡ true }
+        ensures given { self.new.run.given ≡ self.old.run.given }
+    {
+        let (wr, rd) = before;
+        self.wake_turn(ends, Place::Wr { end, i }, wr);
+        self.wake_turn(ends, Place::Rd { end, i }, rd);
+    }
+
     /// A queue had so many messages before it changed. If it has more or fewer now, its place is
     /// enabled, and if it has fewer, so is the place that waits for it, where that must move now
     /// (back-enabling).
     pub(crate) fn wake<M: ModuleOf>(&mut self, ends: &Ends<M>, queue: NextQueue, before: usize)
         requires { number_of queue < QUEUES }
-        ensures ready { (old : Image M.Kind) → before ≡ length (held_by old queue) → IsReady old self.old → DiffersIn old ends.now.image queue → IsReady ends.now.image self.new }
+        ensures ready { (old : Image M.Kind) → before ≡ length (held_by old queue) → IsReady M.Kind.means old self.old → DiffersIn old ends.now.image queue → TurnsKnown M.Kind.means old ends.now.image self.old.run → IsReady M.Kind.means ends.now.image self.new }
         ensures places { ArePlaces ends.now.image self.old.run.items → ArePlaces ends.now.image self.new.run.items }
         ensures put { before ≤ length (held_by ends.now.image queue) → length self.new.run.items + before ≤ length self.old.run.items + length (held_by ends.now.image queue) }
         ensures taken { (place : Place) → queue ≡ Of place → is_enabled self.old.run place ≡ true → length self.new.run.items ≤ length self.old.run.items + 1 }
@@ -163,7 +197,7 @@ impl Enabling {
     fn wake_own<M: ModuleOf>(&mut self, ends: &Ends<M>, queue: NextQueue)
         requires { number_of queue < QUEUES }
         ensures kept { (place : Place) → is_enabled self.new.run place ≡ false → is_enabled self.old.run place ≡ false }
-        ensures own { (place : Place) → is_some (front_of ends.now.image place) ≡ true → is_enabled self.new.run place ≡ false → Of place ≢ queue }
+        ensures own { (place : Place) → is_some (offer_of M.Kind.means ends.now.image place) ≡ true → is_enabled self.new.run place ≡ false → Of place ≢ queue }
         ensures places { ArePlaces ends.now.image self.old.run.items → ArePlaces ends.now.image self.new.run.items }
         ensures more { length self.new.run.items ≤ length self.old.run.items + 1 }
         ensures same { (place : Place) → queue ≡ Of place → is_enabled self.old.run place ≡ true → self.new.run.items ≡ self.old.run.items }
@@ -179,7 +213,7 @@ impl Enabling {
     #[inline(always)]
     pub(crate) fn wake_behind<M: ModuleOf>(&mut self, ends: &Ends<M>, queue: NextQueue)
         requires { number_of queue < QUEUES }
-        ensures ready { IsReadyBut ends.now.image queue self.old → IsReady ends.now.image self.new }
+        ensures ready { IsReadyBut M.Kind.means ends.now.image queue self.old → IsReady M.Kind.means ends.now.image self.new }
         ensures places { ArePlaces ends.now.image self.old.run.items → ArePlaces ends.now.image self.new.run.items }
         ensures more { length self.new.run.items ≤ length self.old.run.items + 1 }
         ensures given { self.new.run.given ≡ self.old.run.given }
@@ -212,9 +246,9 @@ impl Enabling {
     /// Looks at the next place: takes it out of the run queue, and says whether it may move. One
     /// that may is enabled again, behind the others; one that may not waits for the queue ahead.
     pub(crate) fn look<M: ModuleOf>(&mut self, ends: &Ends<M>) -> Option<(Place, bool)>
-        ensures may { IfSome result (λ seen. may ends.now.image seen.0 ≡ seen.1) }
+        ensures may { IfSome result (λ seen. may M.Kind.means ends.now.image seen.0 ≡ seen.1) }
         ensures none { IfNone result ((self.old.run.items ≡ []) × (self.new ≡ self.old)) }
-        ensures ready { IsReady ends.now.image self.old → IsReady ends.now.image self.new }
+        ensures ready { IsReady M.Kind.means ends.now.image self.old → IsReady M.Kind.means ends.now.image self.new }
         ensures places { ArePlaces ends.now.image self.old.run.items → ArePlaces ends.now.image self.new.run.items }
         ensures enabled { IfSome result (λ seen. seen.1 ≡ true → is_enabled self.new.run seen.0 ≡ true) }
         ensures moves { IfSome result (λ seen. seen.1 ≡ true → length self.new.run.items ≤ length self.old.run.items) }

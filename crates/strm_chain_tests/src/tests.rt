@@ -11,6 +11,7 @@ use strm_chain::{Chain, ChainFault, Driver, Place, Spot};
 use strm_module::{Boxed, Instance, Kind, Kinds, Module, ModuleOf, Plain, Shape};
 use strm_msg::{BoxedMessage, Bytes, End, Errno, Marks, Message, NoMem, Prot, ReadMode};
 
+mod echoes;
 mod enabled;
 mod faults;
 mod flushes;

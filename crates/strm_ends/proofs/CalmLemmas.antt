@@ -15,13 +15,15 @@ use Rattle.strm_module.specs.Kinds.{Meaning}
 use Rattle.strm_module.specs.Calm.{is_calm, are_calm, puts_calm, options_by, options_of, options_held, options_sent, puts_options, IsCalm}
 use Rattle.strm_module.specs.Module.{put_of}
 use Rattle.strm_module.specs.declared.shape.Shape.{Shape}
+use Rattle.strm_module.specs.declared.turn.Turn.{Turn}
+use Rattle.strm_module.specs.declared.turn.Turn.TheVariants.{Serves, Shut, Sends}
 use Rattle.strm_module.specs.declared.outs.Put.{Put}
 use Rattle.strm_module.specs.declared.outs.Put.TheVariants.{Queue as Queued, Sent}
 use Rattle.strm_module.proofs.CalmLemmas.{ordinary_calm, put_calm, put_keeps, serve_calm, serve_keeps}
 use Rattle.strm_module.specs.declared.driver.Driver.{Driver}
 use Rattle.strm_module.specs.declared.driver.Driver.TheVariants.{Echo, Loop, Line, Wire}
 use Rattle.strm_module.specs.Driver.{has_end}
-use Rattle.strm_qpair.specs.Pair.{QueuePair, list_on, after_put, pair_gets, pair_front, pair_serves}
+use Rattle.strm_qpair.specs.Pair.{QueuePair, list_on, after_put, pair_gets, pair_front, pair_turns, pair_serves}
 use Rattle.strm_qpair.specs.End.{EndState, in_head, pair_at, list_at, found_gets, end_gets, found_serves, end_serves}
 use Rattle.strm_qpair.specs.Head.{open_head, keeps, head_does}
 use Rattle.strm_qpair.specs.Driver.{consumes, refuses, line_does, loop_does, options_up, echo_does, wire_does, driver_at}
@@ -251,12 +253,18 @@ module _ {K : Type 0} (means : Meaning K) where
   front_calm s Wr (m ∷ q) calm at all =
       (serve_calm means s.shape Wr m calm (all m refl), let n = ap length at in record { fewer = omega (arith, n); one = omega (arith, n) })
 
+  turns_calm : (s : QueuePair K) (side : Side) (turn : Turn) → IsCalm means → ((m : Msg) → slice_get (list_on s side) 0 ≡ Some m → is_calm m.kind ≡ true) → (are_calm (pair_turns means s side turn).outs ≡ true) × IsServed (list_on s side) (list_on (pair_turns means s side turn).pair side)
+  turns_calm s side Serves calm all = front_calm s side (list_on s side) calm refl all
+  turns_calm s side Shut calm all = (refl, record { fewer = le_same (length (list_on s side)); one = omega arith })
+  turns_calm s Rd (Sends band) calm all = (calm.makes.own s.shape.kind Rd, record { fewer = le_same (length s.rd); one = omega arith })
+  turns_calm s Wr (Sends band) calm all = (calm.makes.own s.shape.kind Wr, record { fewer = le_same (length s.wr); one = omega arith })
+
   found_served : (e : EndState K) (i : ℕ) (o : Option (QueuePair K)) (side : Side) → IsCalm means → HoldsCalm e → pair_at e.modules i ≡ o → (are_calm (found_serves means e i o side).outs ≡ true) × IsServed (list_at e i side) (list_at (found_serves means e i o side).state i side)
   found_served e i None side calm ordinary at = (refl, record { fewer = le_same (length (list_at e i side)); one = omega arith })
   found_served e i (Some s) side calm ordinary at =
       let new = (pair_serves means s side).pair in
       let is : list_at e i side ≡ list_on s side = rw at refl in
-      let both = front_calm s side (list_on s side) calm refl
+      let both = turns_calm s side (means.turn s.shape.kind side) calm
       (λ m first. ordinary_calm m.kind (front_ordinary e side i m ordinary (ap (λ q. slice_get q 0) is ∙ first))) in
       (both.0, rw (at, pair_there e.modules i s new at) both.1)
 
@@ -295,10 +303,16 @@ module _ {K : Type 0} (means : Meaning K) where
       let own = serve_keeps means s.shape Wr m b calm in
       omega (arith, n, e, own)
 
+  turns_options : (b : Bool) (s : QueuePair K) (side : Side) (turn : Turn) → IsCalm means → options_held b (list_on (pair_turns means s side turn).pair side) + options_sent b (pair_turns means s side turn).outs ≤ options_held b (list_on s side)
+  turns_options b s side Serves calm = front_options b s side (list_on s side) calm refl
+  turns_options b s side Shut calm = omega arith
+  turns_options b s Rd (Sends band) calm = let own = calm.makes.own_options b s.shape.kind Rd in omega (arith, own)
+  turns_options b s Wr (Sends band) calm = let own = calm.makes.own_options b s.shape.kind Wr in omega (arith, own)
+
   found_serves_options : (b : Bool) (e : EndState K) (i : ℕ) (o : Option (QueuePair K)) (side : Side) → IsCalm means → pair_at e.modules i ≡ o → options_held b (list_at (found_serves means e i o side).state i side) + options_sent b (found_serves means e i o side).outs ≤ options_held b (list_at e i side)
   found_serves_options b e i None side calm at = omega arith
   found_serves_options b e i (Some s) side calm at =
-      let less = front_options b s side (list_on s side) calm refl in
+      let less = turns_options b s side (means.turn s.shape.kind side) calm in
       let new = (pair_serves means s side).pair in
       rw (at, pair_there e.modules i s new at) less
 

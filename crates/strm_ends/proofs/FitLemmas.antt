@@ -11,6 +11,8 @@ use Rattle.strm_msg.specs.declared.words.End.TheVariants.{A, B}
 use Rattle.strm_msg.specs.declared.words.Side.{Side}
 use Rattle.strm_msg.specs.declared.words.Side.TheVariants.{Rd, Wr}
 use Rattle.strm_msg.specs.Marks.{WaterMarks}
+use Rattle.strm_module.specs.Kinds.{Meaning}
+use Rattle.strm_qpair.specs.declared.offer.Offer.{Offer}
 use Rattle.strm_module.specs.declared.driver.Driver.{Driver}
 use Rattle.strm_module.specs.declared.driver.Driver.TheVariants.{Echo, Loop, Line, Wire}
 use Rattle.strm_module.specs.Driver.{partner}
@@ -19,8 +21,8 @@ use Rattle.strm_qpair.specs.End.{EndState}
 use Rattle.strm_qpair.specs.Modules.{identity_of, is_fit, is_fit_module, are_fit, IsFitEnd}
 use Rattle.strm_qpair.specs.Canput.{Fill, fill_with, fill_on, or_else, first_fill, after_writes, head_fill, driver_fill, above, below, full_in, slack_in}
 use Rattle.strm_ends.specs.declared.place.Place.{Place}
-use Rattle.strm_ends.specs.Path.{ahead, front_of}
-use Rattle.strm_ends.specs.Flow.{may, may_front, due_front, is_due}
+use Rattle.strm_ends.specs.Path.{ahead}
+use Rattle.strm_ends.specs.Flow.{offer_of, may, may_front, due_front, is_due}
 use Rattle.strm_ends.specs.Image.{Image, end_of, count_of}
 
 -- the low mark of a queue is below its high one
@@ -125,14 +127,14 @@ or_rest true f s i e = e
 or_rest false true s i e = i refl
 or_rest false false s i e = cc
 
-due_stays : {K : Type 0} (image : Image K) (place : Place) (front : Option Msg) → IsFitFill (ahead image place) → may_front image place front ≡ false → due_front image place front ≡ false
+due_stays : {K : Type 0} (image : Image K) (place : Place) (front : Option Offer) → IsFitFill (ahead image place) → may_front image place front ≡ false → due_front image place front ≡ false
 due_stays image place None f h = refl
 due_stays image place (Some m) f h =
-    or_rest (is_high m.kind) (full_in (ahead image place) m.band) (slack_in (ahead image place) m.band) (full_not_slack (ahead image place) m.band f) h
+    or_rest m.is_high (full_in (ahead image place) m.band) (slack_in (ahead image place) m.band) (full_not_slack (ahead image place) m.band f) h
 
 -- a place that may not move must not
-pub rests_if_still : {K : Type 0} (image : Image K) (place : Place) → IsFitEnd image.a → IsFitEnd image.b → may image place ≡ false → is_due image place ≡ false
-rests_if_still image place a b h = due_stays image place (front_of image place) (fit_ahead image a b place) h
+pub rests_if_still : {K : Type 0} (means : Meaning K) (image : Image K) (place : Place) → IsFitEnd image.a → IsFitEnd image.b → may means image place ≡ false → is_due means image place ≡ false
+rests_if_still means image place a b h = due_stays image place (offer_of means image place) (fit_ahead image a b place) h
 
 -- what is told of a message, if there is one
 pub told_of : {X : Type 0} (o : Option X) (b : Bool) → option_map (λ _. b) o ≡ Some false → b ≡ false

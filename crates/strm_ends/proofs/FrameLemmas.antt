@@ -13,14 +13,16 @@ use Rattle.strm_msg.specs.declared.words.Side.{Side}
 use Rattle.strm_msg.specs.declared.words.Side.TheVariants.{Rd, Wr}
 use Rattle.strm_queue.specs.Queue.{front_len, put_in, put_back_in, held_of, weight_in, has_pcproto, is_flushed, is_of_band}
 use Rattle.strm_module.specs.Kinds.{Meaning}
-use Rattle.strm_module.specs.Module.{put_of, serve_of}
+use Rattle.strm_module.specs.Module.{put_of, serve_of, own_of}
+use Rattle.strm_module.specs.declared.turn.Turn.{Turn}
+use Rattle.strm_module.specs.declared.turn.Turn.TheVariants.{Serves, Shut, Sends}
 use Rattle.strm_module.specs.declared.shape.Shape.{Shape}
 use Rattle.strm_module.specs.declared.outs.Put.{Put}
 use Rattle.strm_module.specs.declared.outs.Put.TheVariants.{Queue as Queued, Sent}
 use Rattle.strm_module.specs.declared.driver.Driver.{Driver}
 use Rattle.strm_module.specs.declared.driver.Driver.TheVariants.{Echo, Loop, Line, Wire}
 use Rattle.strm_module.specs.Driver.{has_end, is_wire}
-use Rattle.strm_qpair.specs.Pair.{QueuePair, list_on, with_list, flushed_if, flushed_pair, after_put, pair_gets, pair_front, pair_serves}
+use Rattle.strm_qpair.specs.Pair.{QueuePair, list_on, with_list, flushed_if, flushed_pair, after_put, pair_gets, pair_front, pair_turns, pair_serves}
 use Rattle.strm_qpair.specs.End.{EndState, in_head, in_state, in_drv, pair_at, set_pair, list_found, list_at, found_gets, end_gets, found_serves, end_serves}
 use Rattle.strm_qpair.specs.Head.{kept_answer, with_errors, open_head, keeps, head_does}
 use Rattle.strm_qpair.specs.Driver.{DriverStep, consumes, line_does, loop_does, options_up, refuses, echo_does, wire_does, driver_at}
@@ -312,6 +314,10 @@ driver_step_alone : {K : Type 0} (d : Driver) (e : EndState K) (m : Msg) (has : 
 driver_step_alone d e m true = driver_at_alone d e m
 driver_step_alone d e m false = drv_stays e
 
+-- the driver changes no module
+pub driver_modules : {K : Type 0} (d : Driver) (e : End) (s : EndState K) (m : Msg) → (driver_does d e s m).state.modules ≡ s.modules
+driver_modules d e s m = (driver_step_alone d s m (has_end d e)).modules
+
 drv_changes : {K : Type 0} (image : Image K) (e : End) (s : EndState K) (new : Image K) → SameModules image new → new ≡ with_end image e s → DrvAlone (end_of image e) s → DiffersIn image new (Of (Places.Drv e))
 drv_changes {K = K} image e s new same is h =
     subst (λ (j : Image K). DiffersIn image j (Of (Places.Drv e))) (sym is) (differs_in_drv image e s (subst (λ (j : Image K). SameModules image j) is same) h.marks h.modules h.head h.shift)
@@ -455,6 +461,11 @@ module _ {K : Type 0} (means : Meaning K) where
   pair_front_alone s side (m ∷ q) at =
       with_list_alone s (serve_of means s.shape side m).shape side q (subst (λ (l : List Msg). IsShift l q) (sym at) (shift_tail m q))
 
+  pair_turns_alone : (s : QueuePair K) (side : Side) (turn : Turn) → PairAlone s (pair_turns means s side turn).pair side
+  pair_turns_alone s side Serves = pair_front_alone s side (list_on s side) refl
+  pair_turns_alone s side Shut = pair_stays s s.shape side
+  pair_turns_alone s side (Sends band) = pair_stays s (own_of means s.shape side).shape side
+
   found_gets_alone : (e : EndState K) (i : ℕ) (o : Option (QueuePair K)) (side : Side) (m : Msg) → is_flush m.kind ≡ false → pair_at e.modules i ≡ o → QueueAlone e (found_gets means e i o side m).state i side
   found_gets_alone e i None side m ordinary at = queue_stays e i side
   found_gets_alone e i (Some s) side m ordinary at =
@@ -463,7 +474,7 @@ module _ {K : Type 0} (means : Meaning K) where
   found_serves_alone : (e : EndState K) (i : ℕ) (o : Option (QueuePair K)) (side : Side) → pair_at e.modules i ≡ o → QueueAlone e (found_serves means e i o side).state i side
   found_serves_alone e i None side at = queue_stays e i side
   found_serves_alone e i (Some s) side at =
-      set_alone e i side s (pair_serves means s side).pair at (pair_front_alone s side (list_on s side) refl)
+      set_alone e i side s (pair_serves means s side).pair at (pair_turns_alone s side (means.turn s.shape.kind side))
 
   -- a message that is no flush comes to a module
   pub gets_differs : (image : Image K) (e : End) (new : Image K) (i : ℕ) (side : Side) (m : Msg) → SameModules image new → is_flush m.kind ≡ false → new ≡ with_end image e (end_gets means (end_of image e) i side m).state → DiffersIn image new (Of (module_place side e i))

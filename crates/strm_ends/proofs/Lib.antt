@@ -6,3 +6,7 @@ pub mod CountLemmas
 pub mod PlaceLemmas
 pub mod CalmLemmas
 mod WorkedExamples
+mod CircleExamples
+pub mod TurnLemmas
+pub mod ServingLemmas
+pub mod OrderLemmas

@@ -1,5 +1,5 @@
 -- The queue ahead of a place by its name, and which places have one next queue.
-use Rattle.std.proofs.Common.{◌≡◌, ◌≤◌, ◌+◌, ℕ, Bool, true, false, Option, Some, None, List, [], length, slice_get, is_some, cond, refl, sym, ◌∙◌, ap, arith, suc, zero}
+use Rattle.std.proofs.Common.{◌≡◌, ◌≤◌, ◌+◌, ℕ, Bool, true, false, Option, Some, None, option_map, List, [], length, slice_get, is_some, cond, refl, sym, ◌∙◌, ap, arith, suc, zero}
 use Rattle.std.proofs.lemmas.List.{length-map}
 use Rattle.std.proofs.lemmas.Option.{slice_get_within}
 use Rattle.strm_msg.specs.declared.words.End.{End}
@@ -10,11 +10,16 @@ use Rattle.strm_module.specs.declared.driver.Driver.{Driver}
 use Rattle.strm_module.specs.declared.driver.Driver.TheVariants.{Echo, Loop, Line, Wire}
 use Rattle.strm_module.specs.Driver.{is_serviced, partner}
 use Rattle.strm_qpair.specs.Pair.{QueuePair}
-use Rattle.strm_qpair.specs.End.{pair_at, list_found}
+use Rattle.strm_msg.specs.Message.{Msg}
+use Rattle.strm_qpair.specs.End.{pair_at, list_at}
 use Rattle.strm_qpair.specs.Modules.{Identity, identity_of, HoldsCalm}
 use Rattle.strm_qpair.specs.Canput.{head_fill, driver_fill}
 use Rattle.strm_qpair.specs.Next.{marks_at, identity_at, has_queue, next_below, next_above, queue_at, or_at}
-use Rattle.strm_qpair.proofs.NextLemmas.{below_is, above_is, queue_at_marks, next_below_once, next_above_once, next_above_last, has_queue_front}
+use Rattle.strm_qpair.proofs.NextLemmas.{below_is, above_is, queue_at_marks, next_below_once, next_above_once, next_above_last, offer_is, if_some_there}
+use Rattle.strm_module.specs.Kinds.{Meaning}
+use Rattle.strm_qpair.specs.Offer.{offered, first_offer, offer_by, offer_found, turn_at}
+use Rattle.strm_ends.specs.Count.{is_place}
+use Rattle.strm_ends.specs.Flow.{offer_of, turn_of}
 use Rattle.strm_ends.specs.declared.place.Place.{Place}
 use Rattle.strm_ends.specs.declared.place.Place.TheVariants as Places
 use Rattle.strm_ends.specs.declared.place.NextQueue.{NextQueue}
@@ -142,42 +147,42 @@ end_ordinary image A h = h.on_a
 end_ordinary image B h = h.on_b
 
 -- what the driver's place has next no read queue of a module has
-last_meets : {K : Type 0} (image : Image K) (e f : End) (j : ℕ) (q : NextQueue) → AreCalm image → is_some (front_of image (Places.Rd f j)) ≡ true → next_up (end_of image e).is_open e (next_above (modules_at image e) (count_of image e + 1)) ≡ Some q → next_of image (Places.Rd f j) ≡ Some q → ⊥
-last_meets image e f j q h y m n =
+last_meets : {K : Type 0} (image : Image K) (e f : End) (j : ℕ) (q : NextQueue) → is_place image (Places.Rd f j) ≡ true → next_up (end_of image e).is_open e (next_above (modules_at image e) (count_of image e + 1)) ≡ Some q → next_of image (Places.Rd f j) ≡ Some q → ⊥
+last_meets image e f j q y m n =
     let both = ups_meet _ _ e f (next_above (modules_at image e) (count_of image e + 1)) (next_above (modules_at image f) j) q m n in
-    let there : has_queue Rd (modules_at image e) j ≡ true = ap (λ k. has_queue Rd (modules_at image k) j) both.0 ∙ has_queue_front (end_of image f) Rd j (end_ordinary image f h) y in
+    let there : has_queue Rd (modules_at image e) j ≡ true = ap (λ k. has_queue Rd (modules_at image k) j) both.0 ∙ y in
     let count : length (modules_at image e) ≡ count_of image e = length-map (end_of image e).modules identity in
     let same : next_above (modules_at image e) (length (modules_at image e) + 1) ≡ next_above (modules_at image e) j =
     ap (λ k. next_above (modules_at image e) (k + 1)) count ∙ both.1 ∙ ap (λ k. next_above (modules_at image k) j) (sym both.0) in
     next_above_last (modules_at image e) j same there
 
 -- two places that hold messages and have one next queue are one
-pub next_once : {K : Type 0} (image : Image K) (p r : Place) (q : NextQueue) → AreCalm image → is_some (front_of image p) ≡ true → is_some (front_of image r) ≡ true → next_of image p ≡ Some q → next_of image r ≡ Some q → p ≡ r
-next_once image (Place.Wr e i) (Place.Wr f j) q h x y m n =
+pub next_once : {K : Type 0} (image : Image K) (p r : Place) (q : NextQueue) → is_place image p ≡ true → is_place image r ≡ true → next_of image p ≡ Some q → next_of image r ≡ Some q → p ≡ r
+next_once image (Place.Wr e i) (Place.Wr f j) q x y m n =
     let both = downs_meet image.driver e f (next_below (modules_at image e) i) (next_below (modules_at image f) j) q m n in
-    let a = has_queue_front (end_of image e) Wr i (end_ordinary image e h) x in
-    let b : has_queue Wr (modules_at image e) j ≡ true = ap (λ k. has_queue Wr (modules_at image k) j) both.0 ∙ has_queue_front (end_of image f) Wr j (end_ordinary image f h) y in
+    let a : has_queue Wr (modules_at image e) i ≡ true = x in
+    let b : has_queue Wr (modules_at image e) j ≡ true = ap (λ k. has_queue Wr (modules_at image k) j) both.0 ∙ y in
     let same : next_below (modules_at image e) i ≡ next_below (modules_at image e) j = both.1 ∙ ap (λ k. next_below (modules_at image k) j) (sym both.0) in
     rw (both.0, next_below_once (modules_at image e) i j a b same) refl
-next_once image (Place.Wr e i) (Place.Drv f) q h x y m n =
+next_once image (Place.Wr e i) (Place.Drv f) q x y m n =
     apart image.driver _ e (partner image.driver f) (next_below (modules_at image e) i) _ q (Places.Wr e i ≡ Places.Drv f) m n
-next_once image (Place.Wr e i) (Place.Rd f j) q h x y m n =
+next_once image (Place.Wr e i) (Place.Rd f j) q x y m n =
     apart image.driver _ e f (next_below (modules_at image e) i) _ q (Places.Wr e i ≡ Places.Rd f j) m n
-next_once image (Place.Drv e) (Place.Wr f j) q h x y m n =
+next_once image (Place.Drv e) (Place.Wr f j) q x y m n =
     apart image.driver _ f (partner image.driver e) (next_below (modules_at image f) j) _ q (Places.Drv e ≡ Places.Wr f j) n m
-next_once image (Place.Drv e) (Place.Drv f) q h x y m n =
+next_once image (Place.Drv e) (Place.Drv f) q x y m n =
     let both = ups_meet _ _ (partner image.driver e) (partner image.driver f) _ _ q m n in
     ap Places.Drv (partners_meet image.driver e f both.0)
-next_once image (Place.Drv e) (Place.Rd f j) q h x y m n =
-    absurd (last_meets image (partner image.driver e) f j q h y m n)
-next_once image (Place.Rd e i) (Place.Wr f j) q h x y m n =
+next_once image (Place.Drv e) (Place.Rd f j) q x y m n =
+    absurd (last_meets image (partner image.driver e) f j q y m n)
+next_once image (Place.Rd e i) (Place.Wr f j) q x y m n =
     apart image.driver _ f e (next_below (modules_at image f) j) _ q (Places.Rd e i ≡ Places.Wr f j) n m
-next_once image (Place.Rd e i) (Place.Drv f) q h x y m n =
-    absurd (last_meets image (partner image.driver f) e i q h x n m)
-next_once image (Place.Rd e i) (Place.Rd f j) q h x y m n =
+next_once image (Place.Rd e i) (Place.Drv f) q x y m n =
+    absurd (last_meets image (partner image.driver f) e i q x n m)
+next_once image (Place.Rd e i) (Place.Rd f j) q x y m n =
     let both = ups_meet _ _ e f (next_above (modules_at image e) i) (next_above (modules_at image f) j) q m n in
-    let a = has_queue_front (end_of image e) Rd i (end_ordinary image e h) x in
-    let b : has_queue Rd (modules_at image e) j ≡ true = ap (λ k. has_queue Rd (modules_at image k) j) both.0 ∙ has_queue_front (end_of image f) Rd j (end_ordinary image f h) y in
+    let a : has_queue Rd (modules_at image e) i ≡ true = x in
+    let b : has_queue Rd (modules_at image e) j ≡ true = ap (λ k. has_queue Rd (modules_at image k) j) both.0 ∙ y in
     let same : next_above (modules_at image e) i ≡ next_above (modules_at image e) j = both.1 ∙ ap (λ k. next_above (modules_at image k) j) (sym both.0) in
     rw (both.0, next_above_once (modules_at image e) i j a b same) refl
 
@@ -191,20 +196,40 @@ ways_of_same x y s =
       modules = λ e. elim e as (λ e. modules_at y e ≡ modules_at x e) [ A ↦ s.on_a.modules | B ↦ s.on_b.modules ];
     }
 
--- a place that holds a message is that of a module that is there, or the driver's
-found_few : {K : Type 0} (modules : List (QueuePair K)) (i : ℕ) (side : Side) → length modules ≤ 8 → is_some (slice_get (list_found (pair_at modules i) side) 0) ≡ true → i ≤ 8
-found_few modules zero side few h = omega arith
-found_few {K = K} modules (suc i) side few h =
-    elim (slice_get modules i) as (λ (o : Option (QueuePair K)). slice_get modules i ≡ o → is_some (slice_get (list_found o side) 0) ≡ true → suc i ≤ 8) [
+-- a place that offers something is that of a module that is there, or the driver's
+found_few : {K : Type 0} (means : Meaning K) (modules : List (QueuePair K)) (i : ℕ) (side : Side) → length modules ≤ 8 → is_some (offer_found means (pair_at modules i) side) ≡ true → i ≤ 8
+found_few means modules zero side few h = omega arith
+found_few {K = K} means modules (suc i) side few h =
+    elim (slice_get modules i) as (λ (o : Option (QueuePair K)). slice_get modules i ≡ o → is_some (offer_found means o side) ≡ true → suc i ≤ 8) [
       | None ↦ λ e k. cc
       | Some s ↦ λ e k. let less = slice_get_within modules i s e in omega arith
     ] refl h
+
+offers_driver : (b : Bool) (q : List Msg) → is_some (first_offer (cond b q [])) ≡ true → b ≡ true
+offers_driver true q h = refl
+offers_driver false q h = cc
 
 few_at : {K : Type 0} (image : Image K) (e : End) → count_of image A ≤ 8 → count_of image B ≤ 8 → count_of image e ≤ 8
 few_at image A a b = a
 few_at image B a b = b
 
-pub front_counted : {K : Type 0} (image : Image K) (p : Place) → count_of image A ≤ 8 → count_of image B ≤ 8 → is_some (front_of image p) ≡ true → IsCounted (Of p)
-front_counted image (Place.Wr e i) a b h = found_few (end_of image e).modules i Wr (few_at image e a b) h
-front_counted image (Place.Drv e) a b h = tt
-front_counted image (Place.Rd e i) a b h = found_few (end_of image e).modules i Rd (few_at image e a b) h
+pub front_counted : {K : Type 0} (means : Meaning K) (image : Image K) (p : Place) → count_of image A ≤ 8 → count_of image B ≤ 8 → is_some (offer_of means image p) ≡ true → IsCounted (Of p)
+front_counted means image (Place.Wr e i) a b h = found_few means (end_of image e).modules i Wr (few_at image e a b) h
+front_counted means image (Place.Drv e) a b h = tt
+front_counted means image (Place.Rd e i) a b h = found_few means (end_of image e).modules i Rd (few_at image e a b) h
+
+-- and it is there
+pub offers_there : {K : Type 0} (means : Meaning K) (image : Image K) (p : Place) → is_some (offer_of means image p) ≡ true → is_place image p ≡ true
+offers_there means image (Place.Wr e i) h =
+    if_some_there (has_queue Wr (modules_at image e) i) (offer_by (turn_at means (end_of image e) i Wr) (list_at (end_of image e) i Wr)) (ap is_some (sym (offer_is means (end_of image e) Wr i)) ∙ h)
+offers_there means image (Place.Drv e) h = offers_driver (is_serviced image.driver e) (end_of image e).drv h
+offers_there means image (Place.Rd e i) h =
+    if_some_there (has_queue Rd (modules_at image e) i) (offer_by (turn_at means (end_of image e) i Rd) (list_at (end_of image e) i Rd)) (ap is_some (sym (offer_is means (end_of image e) Rd i)) ∙ h)
+
+-- what a place offers rests on what waits there, and on what its service would do
+pub offer_same : {K : Type 0} (means : Meaning K) (x y : Image K) (p : Place) → SameWays x y → turn_of means y p ≡ turn_of means x p → held_by y (Of p) ≡ held_by x (Of p) → offer_of means y p ≡ offer_of means x p
+offer_same means x y (Place.Wr e i) s turn held =
+    offer_is means (end_of y e) Wr i ∙ ap (λ ids. cond (has_queue Wr ids i) (offer_by (turn_at means (end_of y e) i Wr) (list_at (end_of y e) i Wr)) None) (s.modules e) ∙ ap (λ t. cond (has_queue Wr (modules_at x e) i) (offer_by t (list_at (end_of y e) i Wr)) None) turn ∙ ap (λ q. cond (has_queue Wr (modules_at x e) i) (offer_by (turn_at means (end_of x e) i Wr) q) None) held ∙ sym (offer_is means (end_of x e) Wr i)
+offer_same means x y (Place.Drv e) s turn held = ap (λ m. option_map offered m) (front_same x y (Places.Drv e) s held)
+offer_same means x y (Place.Rd e i) s turn held =
+    offer_is means (end_of y e) Rd i ∙ ap (λ ids. cond (has_queue Rd ids i) (offer_by (turn_at means (end_of y e) i Rd) (list_at (end_of y e) i Rd)) None) (s.modules e) ∙ ap (λ t. cond (has_queue Rd (modules_at x e) i) (offer_by t (list_at (end_of y e) i Rd)) None) turn ∙ ap (λ q. cond (has_queue Rd (modules_at x e) i) (offer_by (turn_at means (end_of x e) i Rd) q) None) held ∙ sym (offer_is means (end_of x e) Rd i)

@@ -1,6 +1,5 @@
 -- The places that are there, and how many of them there are.
-use Rattle.std.proofs.Common.{◌⊎◌, inl, inr, ◌≡◌, ◌+◌, ℕ, Bool, true, false, cond, List, [], ◌∷◌, ◌++◌, slice_get, is_some, refl, ap, suc, zero, arith}
-use Rattle.strm_msg.specs.Message.{Msg}
+use Rattle.std.proofs.Common.{◌⊎◌, inl, inr, ◌≡◌, ◌+◌, ℕ, Bool, true, false, cond, List, [], ◌∷◌, ◌++◌, is_some, refl, ap, suc, zero, arith}
 use Rattle.strm_msg.specs.declared.words.End.{End}
 use Rattle.strm_msg.specs.declared.words.End.TheVariants.{A, B}
 use Rattle.strm_msg.specs.declared.words.Side.{Side}
@@ -8,15 +7,12 @@ use Rattle.strm_msg.specs.declared.words.Side.TheVariants.{Rd, Wr}
 use Rattle.strm_module.specs.Driver.{is_serviced}
 use Rattle.strm_qpair.specs.Modules.{Identity}
 use Rattle.strm_qpair.specs.Next.{has_queue}
-use Rattle.strm_qpair.proofs.NextLemmas.{has_queue_front}
 use Rattle.strm_ends.specs.declared.place.Place.{Place}
 use Rattle.strm_ends.specs.declared.place.Place.TheVariants as Places
-use Rattle.strm_ends.specs.Path.{front_of}
-use Rattle.strm_ends.specs.Held.{module_place, AreCalm}
+use Rattle.strm_ends.specs.Held.{module_place}
 use Rattle.strm_ends.specs.Next.{modules_at, SameWays}
 use Rattle.strm_ends.specs.Count.{is_place, places_in, places_at, places_of}
-use Rattle.strm_ends.proofs.NextLemmas.{end_ordinary}
-use Rattle.strm_ends.specs.Image.{Image, end_of}
+use Rattle.strm_ends.specs.Image.{Image}
 
 -- a place is in a list if it is one of its elements
 abbrev pub IsIn : Place → List Place → Type 0
@@ -71,13 +67,3 @@ pub place_same : {K : Type 0} (x y : Image K) (p : Place) → SameWays x y → i
 place_same x y (Place.Wr e i) s = ap (λ ids. has_queue Wr ids i) (s.modules e)
 place_same x y (Place.Rd e i) s = ap (λ ids. has_queue Rd ids i) (s.modules e)
 place_same x y (Place.Drv e) s = ap (λ d. is_serviced d e) s.driver
-
-drv_there : (b : Bool) (q : List Msg) → is_some (slice_get (cond b q []) 0) ≡ true → b ≡ true
-drv_there true q h = refl
-drv_there false q h = cc
-
--- a place that holds a message is there
-pub holds_there : {K : Type 0} (image : Image K) (p : Place) → AreCalm image → is_some (front_of image p) ≡ true → is_place image p ≡ true
-holds_there image (Place.Wr e i) o h = has_queue_front (end_of image e) Wr i (end_ordinary image e o) h
-holds_there image (Place.Rd e i) o h = has_queue_front (end_of image e) Rd i (end_ordinary image e o) h
-holds_there image (Place.Drv e) o h = drv_there (is_serviced image.driver e) (end_of image e).drv h

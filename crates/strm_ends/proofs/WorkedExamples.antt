@@ -14,6 +14,7 @@ use Rattle.strm_qpair.specs.Change.{fresh_record}
 use Rattle.strm_ends.specs.declared.place.Place.TheVariants as Place
 use Rattle.strm_ends.specs.declared.place.NextQueue.TheVariants.{Of, Head}
 use Rattle.strm_ends.specs.Image.{Image, driven}
+use Rattle.strm_module.specs.Builtin.{builtin}
 use Rattle.strm_ends.specs.Flow.{may, is_due}
 use Rattle.strm_ends.specs.Next.{next_of}
 use Rattle.strm_ends.specs.Count.{place_count, message_count}
@@ -79,13 +80,13 @@ write_side_of_a_line = refl
 write_side_of_a_wire : next_of (stream Wire (empty (queued ∷ [])) (empty [])) (Place.Wr A 1) ≡ Some (Of (Place.Drv A))
 write_side_of_a_wire = refl
 
-behind_a_full_wire : may (stream Wire (end_with [] (waiting ∷ []) bytes) (empty [])) (Place.Wr A 1) ≡ false
+behind_a_full_wire : may builtin (stream Wire (end_with [] (waiting ∷ []) bytes) (empty [])) (Place.Wr A 1) ≡ false
 behind_a_full_wire = refl
 
-behind_a_slack_wire : is_due (stream Wire (end_with [] (waiting ∷ []) four) (empty [])) (Place.Wr A 1) ≡ true
+behind_a_slack_wire : is_due builtin (stream Wire (end_with [] (waiting ∷ []) four) (empty [])) (Place.Wr A 1) ≡ true
 behind_a_slack_wire = refl
 
-outlet_of_a_wire : may (stream Wire (end_with [] [] bytes) (empty [])) (Place.Drv A) ≡ false
+outlet_of_a_wire : may builtin (stream Wire (end_with [] [] bytes) (empty [])) (Place.Drv A) ≡ false
 outlet_of_a_wire = refl
 
 -- what came in waits in the list of the far end, and goes up end A
@@ -104,10 +105,10 @@ closed_end : next_of (stream Loop (empty []) (record (empty []) { is_open = fals
 closed_end = refl
 
 -- five bytes fill the head, so what waits in the driver may not move; four are the low mark, and then it must
-behind_a_full_head : may (stream Echo (end_with bytes [] bytes) (empty [])) (Place.Drv A) ≡ false
+behind_a_full_head : may builtin (stream Echo (end_with bytes [] bytes) (empty [])) (Place.Drv A) ≡ false
 behind_a_full_head = refl
 
-behind_a_slack_head : is_due (stream Echo (end_with four [] bytes) (empty [])) (Place.Drv A) ≡ true
+behind_a_slack_head : is_due builtin (stream Echo (end_with four [] bytes) (empty [])) (Place.Drv A) ≡ true
 behind_a_slack_head = refl
 
 -- an echo with eight modules with queues on both sides has 17 places; those of an end that the driver lacks are none

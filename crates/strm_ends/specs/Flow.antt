@@ -1,33 +1,52 @@
 -- Flow control: when a place may move, when it must, and when nothing must (Programmer's Guide: STREAMS, "Service Procedures"
 -- and "Flow Control"; getq(9F), bcanput(9F)).
 use Rattle.std.specs.Prelude.{◌≡◌, ◌||◌, not, Bool, false, Option, Some, None}
-use Rattle.strm_msg.specs.Message.{Msg}
-use Rattle.strm_msg.specs.Kind.{is_high}
+use Rattle.strm_msg.specs.declared.words.Side.TheVariants.{Rd, Wr}
+use Rattle.strm_module.specs.Kinds.{Meaning}
+use Rattle.strm_module.specs.declared.turn.Turn.{Turn}
+use Rattle.strm_module.specs.declared.turn.Turn.TheVariants.{Serves}
 use Rattle.strm_qpair.specs.Canput.{full_in, slack_in}
+use Rattle.strm_qpair.specs.Offer.{first_offer, turn_at, offer_at}
+use Rattle.strm_qpair.specs.declared.offer.Offer.{Offer}
 use Rattle.strm_ends.specs.declared.place.Place.{Place}
-use Rattle.strm_ends.specs.Image.{Image}
-use Rattle.strm_ends.specs.Path.{ahead, front_of}
+use Rattle.strm_ends.specs.declared.place.Place.TheVariants as Places
+use Rattle.strm_ends.specs.Image.{Image, end_of}
+use Rattle.strm_ends.specs.Path.{ahead, messages_at}
 
-abbrev pub may_front : {K : Type 0} → Image K → Place → Option Msg → Bool
+abbrev pub may_front : {K : Type 0} → Image K → Place → Option Offer → Bool
 may_front image place None = false
-may_front image place (Some m) = is_high m.kind || not (full_in (ahead image place) m.band)
+may_front image place (Some o) = o.is_high || not (full_in (ahead image place) o.band)
 
--- whether a place may move: its front is high, or the queue ahead is not full in the front's band
-abbrev pub may : {K : Type 0} → Image K → Place → Bool
-may image place = may_front image place (front_of image place)
-
-abbrev pub due_front : {K : Type 0} → Image K → Place → Option Msg → Bool
+abbrev pub due_front : {K : Type 0} → Image K → Place → Option Offer → Bool
 due_front image place None = false
-due_front image place (Some m) = is_high m.kind || slack_in (ahead image place) m.band
+due_front image place (Some o) = o.is_high || slack_in (ahead image place) o.band
 
--- whether a place must move: its front is high, or the queue ahead has drained to its low mark in the front's band
-abbrev pub is_due : {K : Type 0} → Image K → Place → Bool
-is_due image place = due_front image place (front_of image place)
+-- for kinds of any meaning
+module _ {K : Type 0} (means : Meaning K) where
+  -- what a place would move now: a driver what waits, a module as its service would
+  abbrev pub offer_of : Image K → Place → Option Offer
+  offer_of image (Place.Wr e i) = offer_at means (end_of image e) i Wr
+  offer_of image (Place.Drv e) = first_offer (messages_at image (Places.Drv e))
+  offer_of image (Place.Rd e i) = offer_at means (end_of image e) i Rd
 
--- no place must move
-abbrev pub IsQuiet : {K : Type 0} → Image K → Type 0
-IsQuiet image = (place : Place) → is_due image place ≡ false
+  -- what the service of a place would do: a driver's takes what waits
+  abbrev pub turn_of : Image K → Place → Turn
+  turn_of image (Place.Wr e i) = turn_at means (end_of image e) i Wr
+  turn_of image (Place.Drv e) = Serves
+  turn_of image (Place.Rd e i) = turn_at means (end_of image e) i Rd
 
--- no place may move
-abbrev pub NoneMay : {K : Type 0} → Image K → Type 0
-NoneMay image = (place : Place) → may image place ≡ false
+  -- whether a place may move: what it would move is high, or the queue ahead is not full in its band
+  abbrev pub may : Image K → Place → Bool
+  may image place = may_front image place (offer_of image place)
+
+  -- whether a place must move: what it would move is high, or the queue ahead has drained to its low mark in its band
+  abbrev pub is_due : Image K → Place → Bool
+  is_due image place = due_front image place (offer_of image place)
+
+  -- no place must move
+  abbrev pub IsQuiet : Image K → Type 0
+  IsQuiet image = (place : Place) → is_due image place ≡ false
+
+  -- no place may move
+  abbrev pub NoneMay : Image K → Type 0
+  NoneMay image = (place : Place) → may image place ≡ false

@@ -5,3 +5,5 @@ pub mod Flow
 pub mod Held
 pub mod Next
 pub mod Count
+pub mod Serving
+pub mod Order

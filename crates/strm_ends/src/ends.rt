@@ -5,12 +5,13 @@ ghost use Rattle.strm_qpair.specs.End.{shapes_of};
 ghost use Rattle.strm_qpair.specs.Modules.{IsFitEnd, HoldsCalm};
 ghost use Rattle.strm_qpair.specs.Change.{has_room, inserted, removed, closed};
 ghost use Rattle.strm_ends.specs.Image.{end_of, with_end, count_of, room_of, KeepsHeadRoom, fresh};
+ghost use Rattle.strm_ends.specs.Order.{comes_back, goes_round};
 
 use arrayvec::ArrayVec;
 use std::alloc::Global;
 use std::marker::Model;
-use strm_module::{Boxed, Driver, MOST_MODULES, ModuleOf};
-use strm_msg::{End, Marks, NoMem};
+use strm_module::{Boxed, Driver, MOST_MODULES, ModuleOf, Shape};
+use strm_msg::{End, Marks, NoMem, Side};
 use strm_qpair::StreamEnd;
 
 mod flow;
@@ -103,6 +104,28 @@ impl<M: ModuleOf> Ends<M> {
         ensures ordinary { HoldsCalm (end_of self.now.image end) }
     {
         self.end(end).count()
+    }
+
+    /// Whether the driver brings what goes down an end up there again: an echo does, and a loop at whose other end a module answers
+    /// what comes up.
+    fn comes_back(&self, end: End) -> bool
+        ensures { result ≡ comes_back M.Kind.means self.now.image.driver self.now.image end }
+    {
+        match (self.driver, end) {
+            (Driver::Echo, _) => true,
+            (Driver::Loop, End::A) => self.b.answers(Side::Rd),
+            (Driver::Loop, End::B) => self.a.answers(Side::Rd),
+            (Driver::Line | Driver::Wire, _) => false,
+        }
+    }
+
+    /// Whether messages could go round a circle, answered again and again, with a module of this shape just below the head (I_PUSH):
+    /// the module answers what comes up, and one below it answers what goes down, or the driver is an echo, or it is a loop at whose
+    /// other end a module answers what comes up too.
+    pub fn goes_round(&self, end: End, shape: &Shape<M::Kind>) -> bool
+        ensures { result ≡ goes_round M.Kind.means self.now.image end shape.now }
+    {
+        shape.answers(Side::Rd) && (self.comes_back(end) || self.end(end).answers(Side::Wr))
     }
 
     /// Puts a module just below the head, with empty queues (I_PUSH). Takes no memory, and no list

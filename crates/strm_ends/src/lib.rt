@@ -6,7 +6,9 @@
 #![tactic(auto)]
 
 mod ends;
+mod laws;
 mod place;
 
 pub use ends::Ends;
+pub use laws::builtin_serve_what_waits;
 pub use place::{NextQueue, Place};

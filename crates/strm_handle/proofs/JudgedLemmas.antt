@@ -20,6 +20,7 @@ use Rattle.strm_call.specs.declared.refusal.Refusal.{Refusal}
 use Rattle.strm_call.specs.declared.refusal.Refusal.TheVariants.{Closed, Broken, Invalid, NoMemory}
 use Rattle.strm_call.specs.declared.answer.Answer.{Answer}
 use Rattle.strm_call.specs.declared.answer.Answer.TheVariants.{Refused}
+use Rattle.strm_module.specs.Builtin.{builtin}
 use Rattle.strm_head.specs.Begin.{error_refusals, refusal_of, takes_no_memory_at, can_lack_memory, is_no_memory}
 use Rattle.strm_head.specs.Step.{IsRefusedBy}
 use Rattle.strm_abi.specs.Numbers.{end_of}
@@ -36,7 +37,7 @@ costs_none_at old e (Requests.Putpmsg band flag parts) none = absurd cc
 costs_none_at old e request none = none
 
 -- the step of a request that is refused with the first refusal that holds
-refused_step : (old : Image Kind) (e : End) (request : Request (Shape Kind)) (refusal : Refusal) → IsRefusedBy (refusal_of old e request) request refusal → (costs_no_memory old e request ≡ true → is_no_memory refusal ≡ false) → Fits request (Refused refusal) → IsStep old e request (Refused refusal) old
+refused_step : (old : Image Kind) (e : End) (request : Request (Shape Kind)) (refusal : Refusal) → IsRefusedBy (refusal_of builtin old e request) request refusal → (costs_no_memory old e request ≡ true → is_no_memory refusal ≡ false) → Fits request (Refused refusal) → IsStep old e request (Refused refusal) old
 refused_step old e request refusal first memory fits =
     record {
       moves = [];
@@ -49,20 +50,20 @@ refused_step old e request refusal first memory fits =
 -- what is known of a request: no refusal of it gives bytes, and none that holds is want of memory where it takes none
 pub record IsPlain (old : Image Kind) (e : End) (request : Request (Shape Kind)) : Type 0 where
   pub fits : (refusal : Refusal) → Fits request (Refused refusal)
-  pub memory : (refusal : Refusal) → refusal_of old e request ≡ Some refusal → costs_no_memory old e request ≡ true → is_no_memory refusal ≡ false
+  pub memory : (refusal : Refusal) → refusal_of builtin old e request ≡ Some refusal → costs_no_memory old e request ≡ true → is_no_memory refusal ≡ false
 
 -- the step of a request that a refusal of its own refuses
-first_step : (old : Image Kind) (e : End) (request : Request (Shape Kind)) (refusal : Refusal) → IsPlain old e request → refusal_of old e request ≡ Some refusal → IsStep old e request (Refused refusal) old
+first_step : (old : Image Kind) (e : End) (request : Request (Shape Kind)) (refusal : Refusal) → IsPlain old e request → refusal_of builtin old e request ≡ Some refusal → IsStep old e request (Refused refusal) old
 first_step old e request refusal plain first =
     refused_step old e request refusal (subst (λ found. IsRefusedBy found request refusal) (sym first) refl) (plain.memory refusal first) (plain.fits refusal)
 
 -- the step of one for which memory is wanting
-lacking_step : (old : Image Kind) (e : End) (request : Request (Shape Kind)) → IsPlain old e request → can_lack_memory request ≡ true → costs_no_memory old e request ≡ false → refusal_of old e request ≡ None → IsStep old e request (Refused NoMemory) old
+lacking_step : (old : Image Kind) (e : End) (request : Request (Shape Kind)) → IsPlain old e request → can_lack_memory request ≡ true → costs_no_memory old e request ≡ false → refusal_of builtin old e request ≡ None → IsStep old e request (Refused NoMemory) old
 lacking_step old e request plain can takes none =
     refused_step old e request NoMemory (subst (λ found. IsRefusedBy found request NoMemory) (sym none) (refl, can)) (λ is. absurd cc) (plain.fits NoMemory)
 
 -- either, where want of memory is a refusal of the model's
-either_step : (old : Image Kind) (e : End) (request : Request (Shape Kind)) (found : Option Refusal) → IsPlain old e request → can_lack_memory request ≡ true → costs_no_memory old e request ≡ false → refusal_of old e request ≡ found → IsStep old e request (Refused (unwrap_or found NoMemory)) old
+either_step : (old : Image Kind) (e : End) (request : Request (Shape Kind)) (found : Option Refusal) → IsPlain old e request → can_lack_memory request ≡ true → costs_no_memory old e request ≡ false → refusal_of builtin old e request ≡ found → IsStep old e request (Refused (unwrap_or found NoMemory)) old
 either_step old e request None plain can takes is = lacking_step old e request plain can takes is
 either_step old e request (Some refusal) plain can takes is = first_step old e request refusal plain is
 
@@ -79,7 +80,7 @@ LacksAt old (Err refusal) = Unit {0}
 told_answers : (old : Image Kind) (end : Option End) (asked : Asked) → IsPlainAt old end asked → LacksAt old asked → Answers old (admitted end asked) (Refused (refused_at old end asked)) old
 told_answers old None asked plain lacks = (refl, refl)
 told_answers old (Some e) (Err refusal) plain lacks = (refl, refl)
-told_answers old (Some e) (Ok request) plain lacks = either_step old e request (refusal_of old e request) plain lacks.0 (lacks.1 e) refl
+told_answers old (Some e) (Ok request) plain lacks = either_step old e request (refusal_of builtin old e request) plain lacks.0 (lacks.1 e) refl
 
 -- what is told stands for itself
 told_is_admitted : (old : Image Kind) (end : Option End) (asked : Asked) → admitted end (Err (refused_at old end asked)) ≡ Err (refused_at old end asked)
@@ -112,7 +113,7 @@ abbrev IsLacking : Image Kind → Image Kind → Option End → Asked → Answer
 IsLacking old new end asked answer = (refused_at old end asked ≡ NoMemory) × (answer ≡ Refused NoMemory) × (new ≡ old)
 
 -- what was told in the place of a request that has these refusals
-found_or_lacking : (old new : Image Kind) (e : End) (request : Request (Shape Kind)) (found : Option Refusal) (answer : Answer) → IsPlain old e request → refusal_of old e request ≡ found → (answer ≡ Refused (unwrap_or found NoMemory)) × (new ≡ old) → IsStep old e request answer new ⊎ ((unwrap_or found NoMemory ≡ NoMemory) × (answer ≡ Refused NoMemory) × (new ≡ old))
+found_or_lacking : (old new : Image Kind) (e : End) (request : Request (Shape Kind)) (found : Option Refusal) (answer : Answer) → IsPlain old e request → refusal_of builtin old e request ≡ found → (answer ≡ Refused (unwrap_or found NoMemory)) × (new ≡ old) → IsStep old e request answer new ⊎ ((unwrap_or found NoMemory ≡ NoMemory) × (answer ≡ Refused NoMemory) × (new ≡ old))
 found_or_lacking old new e request None answer plain first is = inr (refl, is.0, is.1)
 found_or_lacking old new e request (Some refusal) answer plain first is =
     inl (subst (λ after. IsStep old e request answer after) (sym is.1) (subst (λ said. IsStep old e request said old) (sym is.0) (first_step old e request refusal plain first)))
@@ -120,7 +121,7 @@ found_or_lacking old new e request (Some refusal) answer plain first is =
 answers_or_lacks : (old new : Image Kind) (end : Option End) (asked : Asked) (answer : Answer) → IsPlainAt old end asked → Answers old (admitted end (Err (refused_at old end asked))) answer new → Answers old (admitted end asked) answer new ⊎ IsLacking old new end asked answer
 answers_or_lacks old new None asked answer plain answers = inl answers
 answers_or_lacks old new (Some e) (Err refusal) answer plain answers = inl answers
-answers_or_lacks old new (Some e) (Ok request) answer plain answers = found_or_lacking old new e request (refusal_of old e request) answer plain refl answers
+answers_or_lacks old new (Some e) (Ok request) answer plain answers = found_or_lacking old new e request (refusal_of builtin old e request) answer plain refl answers
 
 -- a call by its answer, or want of memory for its copy
 copied : (old new : Image Kind) (n : ℕ) (asked made : Asked) (writes : Answer → Type 0) (code : ℤ) (calls : Calls old n made writes code new) → Answers old (admitted (end_of n) asked) calls.answer new ⊎ IsLacking old new (end_of n) asked calls.answer → CopiesAndCalls old n asked writes code new
@@ -201,7 +202,7 @@ rows_want_none false true wrong rd wr = refl
 rows_want_none false false true rd wr = errors_want_none (true, true) rd wr ((true, Invalid) ∷ []) refl
 rows_want_none false false false rd wr = errors_want_none (true, true) rd wr ((false, Invalid) ∷ []) refl
 
-find_wants_none : (old : Image Kind) (e : End) (name : List ℕ) (refusal : Refusal) → refusal_of old e (Requests.Find name) ≡ Some refusal → is_no_memory refusal ≡ false
+find_wants_none : (old : Image Kind) (e : End) (name : List ℕ) (refusal : Refusal) → refusal_of builtin old e (Requests.Find name) ≡ Some refusal → is_no_memory refusal ≡ false
 find_wants_none old e name refusal first =
     let state = (Ends.end_of old e).state in
     subst (λ found. wants found ≡ false) first (rows_want_none (not (Ends.end_of old e).is_open) old.broken (not (nat_le 1 (length name) && nat_le (length name) LONGEST_NAME)) state.rd_errno state.wr_errno)
@@ -211,7 +212,7 @@ find_is_plain old None name = tt
 find_is_plain old (Some e) name = record { fits = λ refusal. tt; memory = λ refusal first takes. find_wants_none old e name refusal first }
 
 -- what is told in the place of a request that has these refusals
-pub told_made : (old : Image Kind) (n : ℕ) (e : End) (request : Request (Shape Kind)) (asked : Asked) (found : Option Refusal) → end_of n ≡ Some e → asked ≡ Ok request → refusal_of old e request ≡ found → IsMade old (end_of n) asked (Err (unwrap_or found NoMemory))
+pub told_made : (old : Image Kind) (n : ℕ) (e : End) (request : Request (Shape Kind)) (asked : Asked) (found : Option Refusal) → end_of n ≡ Some e → asked ≡ Ok request → refusal_of builtin old e request ≡ found → IsMade old (end_of n) asked (Err (unwrap_or found NoMemory))
 told_made old n e request asked found at is first =
     inr (sym (ap (λ (end : Option End). Err (refused_at old end asked)) at ∙ ap (λ (a : Asked). Err (refused_at old (Some e) a)) is ∙ ap (λ (f : Option Refusal). Err (unwrap_or f NoMemory)) first))
 

@@ -13,6 +13,7 @@ use Rattle.strm_call.specs.declared.request.PutFlag.TheVariants as PutFlags
 use Rattle.strm_call.specs.declared.refusal.Refusal.{Refusal}
 use Rattle.strm_call.specs.declared.refusal.Refusal.TheVariants.{Closed, Broken, Invalid, TooLong, HungUp, WouldWait}
 use Rattle.strm_call.specs.Refusal.{first_that_holds}
+use Rattle.strm_module.specs.Builtin.{builtin}
 use Rattle.strm_head.specs.Begin.{error_refusals, common_refusals, refusal_of}
 use Rattle.strm_head.proofs.RefusalLemmas.{first_of_both}
 use Rattle.strm_handle.specs.Asked.{part_of, parts_of}
@@ -80,7 +81,7 @@ send_looks image e invalid long band =
     let waits = would_wait image e band in
     sym (behind_common (not (end_of image e).is_open) image.broken (false, true) state.rd_errno state.wr_errno long TooLong ((invalid, Invalid) ∷ (long, TooLong) ∷ waiting_refusals image e band) ((invalid, Invalid) ∷ (false, TooLong) ∷ waiting_refusals image e band) (sends invalid long hung waits))
 
-pub putmsg_looks : (image : Image Kind) (e : End) (flag : Priority) (has_ctl : Bool) (ctl : List ℕ) (has_dat : Bool) (dat : List ℕ) → or_length (is_too_long (part_of has_ctl ctl) (part_of has_dat dat)) TooLong (refusal_of image e (Requests.Putmsg flag (parts_of has_ctl [] has_dat []))) ≡ refusal_of image e (Requests.Putmsg flag (parts_of has_ctl ctl has_dat dat))
+pub putmsg_looks : (image : Image Kind) (e : End) (flag : Priority) (has_ctl : Bool) (ctl : List ℕ) (has_dat : Bool) (dat : List ℕ) → or_length (is_too_long (part_of has_ctl ctl) (part_of has_dat dat)) TooLong (refusal_of builtin image e (Requests.Putmsg flag (parts_of has_ctl [] has_dat []))) ≡ refusal_of builtin image e (Requests.Putmsg flag (parts_of has_ctl ctl has_dat dat))
 putmsg_looks image e Priorities.Norm true ctl true dat = send_looks image e false (is_too_long (Some ctl) (Some dat)) (Some 0)
 putmsg_looks image e Priorities.Norm true ctl false dat = send_looks image e false (is_too_long (Some ctl) None) (Some 0)
 putmsg_looks image e Priorities.Norm false ctl true dat = send_looks image e false (is_too_long None (Some dat)) (Some 0)
@@ -90,7 +91,7 @@ putmsg_looks image e Priorities.Hipri true ctl false dat = send_looks image e fa
 putmsg_looks image e Priorities.Hipri false ctl true dat = send_looks image e true (is_too_long None (Some dat)) None
 putmsg_looks image e Priorities.Hipri false ctl false dat = send_looks image e true false None
 
-pub putpmsg_looks : (image : Image Kind) (e : End) (band : ℕ) (flag : PutFlag) (has_ctl : Bool) (ctl : List ℕ) (has_dat : Bool) (dat : List ℕ) → or_length (is_too_long (part_of has_ctl ctl) (part_of has_dat dat)) TooLong (refusal_of image e (Requests.Putpmsg band flag (parts_of has_ctl [] has_dat []))) ≡ refusal_of image e (Requests.Putpmsg band flag (parts_of has_ctl ctl has_dat dat))
+pub putpmsg_looks : (image : Image Kind) (e : End) (band : ℕ) (flag : PutFlag) (has_ctl : Bool) (ctl : List ℕ) (has_dat : Bool) (dat : List ℕ) → or_length (is_too_long (part_of has_ctl ctl) (part_of has_dat dat)) TooLong (refusal_of builtin image e (Requests.Putpmsg band flag (parts_of has_ctl [] has_dat []))) ≡ refusal_of builtin image e (Requests.Putpmsg band flag (parts_of has_ctl ctl has_dat dat))
 putpmsg_looks image e band PutFlags.Zero true ctl true dat = send_looks image e true (is_too_long (Some ctl) (Some dat)) None
 putpmsg_looks image e band PutFlags.Zero true ctl false dat = send_looks image e true (is_too_long (Some ctl) None) None
 putpmsg_looks image e band PutFlags.Zero false ctl true dat = send_looks image e true (is_too_long None (Some dat)) None

@@ -64,7 +64,7 @@ reply_is : (old : Image Kind) (e : End) (q : List Msg) (kept : Option Msg) → r
 reply_is old e [] kept = refl
 reply_is old e (m ∷ q) kept = refl
 
-output_is : (old : Image Kind) (e : End) → refusal_of old e Requests.Take ≡ None → first_output old e ≡ slice_get (Ends.end_of old e).drv 0
+output_is : (old : Image Kind) (e : End) → refusal_of builtin old e Requests.Take ≡ None → first_output old e ≡ slice_get (Ends.end_of old e).drv 0
 output_is old e none =
     let s = Ends.end_of old e in
     let has = negated (has_output old e) (has_one (not (has_output old e)) (not s.is_open) old.broken (is_empty s.drv && s.is_open) none) in
@@ -80,5 +80,5 @@ next_is old new e (Done reply) taken fits =
     let none = taken.step.0 in
     let kept = (Ends.end_of taken.step.2.settled e).state.kept in
     ap (λ (r : Reply). Done r) (taken.step.2.replies ∙ reply_is old e (Ends.end_of old e).drv kept ∙ ap (λ (m : Option Msg). reply_next m) (sym (output_is old e none))) ∙ ap (λ (found : Option Refusal). answer_next found (first_output old e)) (sym none)
-next_is old new e (Refused refusal) taken fits = refused_is Requests.Take (refusal_of old e Requests.Take) (first_output old e) refusal taken.step.is_first fits
+next_is old new e (Refused refusal) taken fits = refused_is Requests.Take (refusal_of builtin old e Requests.Take) (first_output old e) refusal taken.step.is_first fits
 next_is old new e Broke taken fits = absurd cc

@@ -5,6 +5,7 @@ use Rattle.strm_module.specs.declared.kind.Kind.{Kind}
 use Rattle.strm_ends.specs.Image.{Image}
 use Rattle.strm_call.specs.declared.refusal.Refusal.{Refusal}
 use Rattle.strm_call.specs.declared.refusal.Refusal.TheVariants.{Closed, Broken, ReadError, WriteError, Invalid, NoMemory}
+use Rattle.strm_module.specs.Builtin.{builtin}
 use Rattle.strm_head.specs.Begin.{refusal_of}
 use Rattle.strm_handle.specs.Asked.{Asked}
 
@@ -13,7 +14,7 @@ use Rattle.strm_handle.specs.Asked.{Asked}
 abbrev pub refused_at : Image Kind → Option End → Asked → Refusal
 refused_at old None asked = Closed
 refused_at old (Some e) (Err refusal) = refusal
-refused_at old (Some e) (Ok request) = unwrap_or (refusal_of old e request) NoMemory
+refused_at old (Some e) (Ok request) = unwrap_or (refusal_of builtin old e request) NoMemory
 
 -- what is made of what was asked: all of it, with its bytes, or what is told in its place
 abbrev pub IsMade : Image Kind → Option End → Asked → Asked → Type 0

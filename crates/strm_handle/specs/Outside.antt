@@ -11,6 +11,7 @@ use Rattle.strm_call.specs.declared.request.Request.TheVariants as Requests
 use Rattle.strm_call.specs.declared.answer.Answer.{Answer}
 use Rattle.strm_call.specs.declared.answer.Answer.TheVariants.{Done, Refused}
 use Rattle.strm_ioctl.specs.Outside.{first_output}
+use Rattle.strm_module.specs.Builtin.{builtin}
 use Rattle.strm_head.specs.Begin.{refusal_of, wants_memory}
 use Rattle.strm_abi.specs.Numbers.{number_of}
 use Rattle.strm_handle.specs.declared.told.Got.{Got}
@@ -39,7 +40,7 @@ stays_at refusal ctl dat first = is_none refusal && lacks_room ctl dat first
 
 abbrev pub stays_for_room : Image Kind → Option End → Option ℕ → Option ℕ → Bool
 stays_for_room old None ctl dat = false
-stays_for_room old (Some e) ctl dat = stays_at (refusal_of old e Requests.Take) ctl dat (first_output old e)
+stays_for_room old (Some e) ctl dat = stays_at (refusal_of builtin old e Requests.Take) ctl dat (first_output old e)
 
 -- the message stays for want of room, and nothing is written
 pub record Stays (old : Image Kind) (writes : Answer → Type 0) (code : ℤ) (new : Image Kind) : Type 0 where
@@ -60,7 +61,7 @@ answer_next None first = Done (reply_next first)
 -- what a take answers where there is room for what it gives, and memory for what moves behind it
 abbrev pub next_at : Image Kind → Option End → Answer
 next_at old None = Refused Closed
-next_at old (Some e) = answer_next (refusal_of old e Requests.Take) (first_output old e)
+next_at old (Some e) = answer_next (refusal_of builtin old e Requests.Take) (first_output old e)
 
 -- so it is of each take, unless memory is wanting
 abbrev pub NextForetells : Type 0

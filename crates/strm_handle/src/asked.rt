@@ -380,7 +380,7 @@ pub fn push_of(
         return Err(Refusal::Closed);
     };
     let held = s.take(alloc);
-    let refusal = held.stream.push_refusal(end);
+    let refusal = held.stream.push_refusal(end, &shape);
     s.put(held);
     if let Some(refusal) = refusal {
         return Err(refusal);

@@ -6,6 +6,7 @@ ghost use Rattle.std.specs.Prelude.{◌≡◌, ◌&&◌, not, [], nat_le, nat_lt
 ghost use Rattle.strm_msg.specs.Message.{part_len};
 ghost use Rattle.strm_call.specs.declared.request.Request.TheVariants as Requests;
 ghost use Rattle.strm_msgio.specs.Send.{is_too_long};
+ghost use Rattle.strm_module.specs.Builtin.{builtin};
 ghost use Rattle.strm_head.specs.Begin.{refusal_of};
 ghost use Rattle.strm_handle.specs.Asked as asks;
 ghost use Rattle.strm_handle.specs.Judged as judged;
@@ -89,7 +90,7 @@ pub fn putmsg_refusal(
     dat: &[u8],
     flag: Priority,
 ) -> Option<Refusal>
-    ensures { result ≡ refusal_of stream.now end (Requests.Putmsg flag (asks.parts_of has_ctl ctl.now has_dat dat.now)) }
+    ensures { result ≡ refusal_of builtin stream.now end (Requests.Putmsg flag (asks.parts_of has_ctl ctl.now has_dat dat.now)) }
 {
     let parts = Parts {
         ctl: emptied(alloc, has_ctl),
@@ -113,7 +114,7 @@ pub fn putpmsg_refusal(
     band: u8,
     flag: PutFlag,
 ) -> Option<Refusal>
-    ensures { result ≡ refusal_of stream.now end (Requests.Putpmsg band flag (asks.parts_of has_ctl ctl.now has_dat dat.now)) }
+    ensures { result ≡ refusal_of builtin stream.now end (Requests.Putpmsg band flag (asks.parts_of has_ctl ctl.now has_dat dat.now)) }
 {
     let parts = Parts {
         ctl: emptied(alloc, has_ctl),
@@ -132,7 +133,7 @@ pub fn write_refusal(
     end: End,
     bytes: &[u8],
 ) -> Option<Refusal>
-    ensures { result ≡ refusal_of stream.now end (Requests.Write bytes.now) }
+    ensures { result ≡ refusal_of builtin stream.now end (Requests.Write bytes.now) }
 {
     let request = Request::Write {
         dat: Bytes::from(Vec::new(alloc)),
@@ -151,7 +152,7 @@ pub fn str_refusal(
     has_dat: bool,
     dat: &[u8],
 ) -> Option<Refusal>
-    ensures { result ≡ refusal_of stream.now end (Requests.Str cmd (asks.part_of has_dat dat.now)) }
+    ensures { result ≡ refusal_of builtin stream.now end (Requests.Str cmd (asks.part_of has_dat dat.now)) }
 {
     let request = Request::Str {
         cmd,
@@ -165,7 +166,7 @@ pub fn str_refusal(
 
 /// What refuses a find of this name, of which a getread shares the refusals that are not its own.
 pub fn find_refusal(stream: &Stream<Plain>, end: End, name: &[u8]) -> Option<Refusal>
-    ensures { result ≡ refusal_of stream.now end (Requests.Find name.now) }
+    ensures { result ≡ refusal_of builtin stream.now end (Requests.Find name.now) }
 {
     let refusal = stream.refusal(end, &Request::GetRead);
     or_length(is_wrong_name(name), Refusal::Invalid, refusal)

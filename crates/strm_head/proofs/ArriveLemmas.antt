@@ -14,7 +14,7 @@ use Rattle.strm_head.proofs.KeptLemmas.{landed_kept}
 
 -- for kinds of any meaning
 module _ {K : Type 0} (means : Meaning K) where
-  pub arrived_kept : (image : Image K) (m : Msg) (arrived : Arrived) (after : Image K) → IsKept image → Arrives means image m arrived after → IsKept after
+  pub arrived_kept : (image : Image K) (m : Msg) (arrived : Arrived) (after : Image K) → IsKept means image → Arrives means image m arrived after → IsKept means after
   arrived_kept image m (Taken moves looks) after kept arrives =
       landed_kept means image A m (Answers.Done Line) moves [] after kept arrives.0
   arrived_kept image m (Full same) after kept arrives = rw arrives.2 kept

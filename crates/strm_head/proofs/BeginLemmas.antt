@@ -1,7 +1,6 @@
 -- What a call that is not refused may count on when it begins.
-use Rattle.std.proofs.Common.{◌≡◌, not, Bool, true, false, Option, Some, None, List, ◌∷◌, Result, Ok, Err, IfOk, IsOk, OnOk, IfErr, OnErr, refl, sym, ◌∙◌, rules}
+use Rattle.std.proofs.Common.{◌≡◌, not, Bool, true, false, None, List, ◌∷◌, Result, Ok, Err, IfOk, IsOk, OnOk, IfErr, OnErr, refl, sym, ◌∙◌, rules}
 use Rattle.std.proofs.lemmas.Bool.{false_from_ne_true}
-use Rattle.std.specs.Option.{option_or}
 use Rattle.strm_msg.specs.declared.words.End.{End}
 use Rattle.strm_module.specs.declared.shape.Shape.{Shape}
 use Rattle.strm_module.specs.Driver.{has_end}
@@ -30,39 +29,25 @@ open_if : (opened broken : Bool) (errors : List (Bool × Refusal)) → first_tha
 open_if true broken errors h = refl
 open_if false broken errors h = cc
 
-none_behind : (first later : Option Refusal) → option_or first later ≡ None → later ≡ None
-none_behind None later h = h
-none_behind (Some refusal) later h = cc
-
 there_of : {K : Type 0} (image : Image K) (e : End) → has_end image.driver e ≡ true → is_there image (Down e 1) ≡ true
 there_of image e h = rw h (search rules)
 
 -- none of those that all calls but a close share, and none of its own
-ready_of : {K : Type 0} (image : Image K) (e : End) (request : Request (Shape K)) → IsKept image → refusal_of image e request ≡ None → is_common request ≡ true → finds_whole request ≡ true → IsReady image e
-ready_of image e request kept h other finds =
-    let whole = whole_of image e request h finds in
-    let common = none_before (first_that_holds (common_refusals image e request)) (first_that_holds (own_refusals image e request)) (sym (first_of_all image e request other) ∙ h) in
+ready_of : {K : Type 0} (means : Meaning K) (image : Image K) (e : End) (request : Request (Shape K)) → IsKept means image → refusal_of means image e request ≡ None → is_common request ≡ true → finds_whole request ≡ true → IsReady image e
+ready_of means image e request kept h other finds =
+    let whole = whole_of means image e request h finds in
+    let common = none_before (first_that_holds (common_refusals image e request)) (first_that_holds (own_refusals means image e request)) (sym (first_of_all means image e request other) ∙ h) in
     record {
       there = there_of image e (kept.ends e (open_if (end_of image e).is_open image.broken (errors_at image e request) common));
       whole = whole;
       idle = kept.idle whole e;
     }
 
-own_of : {K : Type 0} (image : Image K) (e : End) (request : Request (Shape K)) → refusal_of image e request ≡ None → is_common request ≡ true → first_that_holds (own_refusals image e request) ≡ None
-own_of image e request h other =
-    none_behind (first_that_holds (common_refusals image e request)) (first_that_holds (own_refusals image e request)) (sym (first_of_all image e request other) ∙ h)
-
-pub may_begin : {K : Type 0} (image : Image K) (e : End) (request : Request (Shape K)) → IsKept image → refusal_of image e request ≡ None → MayBegin image e request
-may_begin image e Close kept h = kept.ends
-may_begin image e Take kept h = tt
-may_begin image e Poll kept h = tt
-may_begin image e request kept h = ready_of image e request kept h refl refl
-
-pub own_none : {K : Type 0} (image : Image K) (e : End) (request : Request (Shape K)) → refusal_of image e request ≡ None → first_that_holds (own_refusals image e request) ≡ None
-own_none image e Close h = refl
-own_none image e Take h = h
-own_none image e Poll h = refl
-own_none image e request h = own_of image e request h refl
+pub may_begin : {K : Type 0} (means : Meaning K) (image : Image K) (e : End) (request : Request (Shape K)) → IsKept means image → refusal_of means image e request ≡ None → MayBegin image e request
+may_begin means image e Close kept h = kept.ends
+may_begin means image e Take kept h = tt
+may_begin means image e Poll kept h = tt
+may_begin means image e request kept h = ready_of means image e request kept h refl refl
 
 -- what is promised where something is none, and was not met
 is_given : (none : Bool) → (none ≡ true → false ≡ true) → none ≡ false

@@ -149,9 +149,9 @@ module _ {K : Type 0} (means : Meaning K) where
   awaits_finds (Str cmd dat) awaits = refl
   awaits_finds request awaits = cc
 
-  pub ioctl_whole : (image : Image K) (e : End) (request : Request (Shape K)) (new : Image K) → refusal_of image e request ≡ None → awaits_answer request ≡ true → new ≡ (begun_of means image e request).image → new.broken ≡ false
+  pub ioctl_whole : (image : Image K) (e : End) (request : Request (Shape K)) (new : Image K) → refusal_of means image e request ≡ None → awaits_answer request ≡ true → new ≡ (begun_of means image e request).image → new.broken ≡ false
   ioctl_whole image e request new unrefused awaits is =
-      ap (λ (i : Image K). i.broken) is ∙ (begun_opens means image e request).broken ∙ whole_of image e request unrefused (awaits_finds request awaits)
+      ap (λ (i : Image K). i.broken) is ∙ (begun_opens means image e request).broken ∙ whole_of means image e request unrefused (awaits_finds request awaits)
 
   plain_reply : (b : Begun (Image K) K) (kept : Option Msg) → b.awaits ≡ false → reply_after b kept ≡ b.reply
   plain_reply b kept h = rw h refl
@@ -178,40 +178,40 @@ module _ {K : Type 0} (means : Meaning K) where
       subst (λ o. Finishes means e b answer moves (serials_of o) after) (sym none)
       (subst (λ x. Finishes means e x answer moves [] after) same finishes)
 
-  from_begun : (image : Image K) (e : End) (request : Request (Shape K)) (answer : Answer) (moves : List Place) (after : Image K) → refusal_of image e request ≡ None → changes_no_queue request ≡ false → (answer ≡ Broke → image.broken ≡ false) → Finishes means e (begun_of means image e request) answer moves (serials_of (begun_of means image e request).out) after → Answers means image e request answer moves (out_of means image e request answer) after
+  from_begun : (image : Image K) (e : End) (request : Request (Shape K)) (answer : Answer) (moves : List Place) (after : Image K) → refusal_of means image e request ≡ None → changes_no_queue request ≡ false → (answer ≡ Broke → image.broken ≡ false) → Finishes means e (begun_of means image e request) answer moves (serials_of (begun_of means image e request).out) after → Answers means image e request answer moves (out_of means image e request answer) after
   from_begun image e request (Refused refusal) moves after unrefused changes whole finishes = absurd finishes
   from_begun image e request (Done reply) moves after unrefused changes whole finishes =
       (unrefused, (λ quiet. absurd (let no : true ≡ false = sym quiet ∙ changes in cc)), finishes)
   from_begun image e request Broke moves after unrefused changes whole finishes = (unrefused, changes, whole refl, finishes)
 
   -- a call that was begun and finished
-  pub finished_answers : (image : Image K) (e : End) (request : Request (Shape K)) (new : Image K) (reply : Reply) (answer : Answer) (moves : List Place) (after : Image K) → refusal_of image e request ≡ None → changes_no_queue request ≡ false → awaits_answer request ≡ false → new ≡ (begun_of means image e request).image → reply ≡ (begun_of means image e request).reply → (answer ≡ Broke → new.broken ≡ false) → Finishes means e (begun new reply) answer moves [] after → Answers means image e request answer moves (out_of means image e request answer) after
+  pub finished_answers : (image : Image K) (e : End) (request : Request (Shape K)) (new : Image K) (reply : Reply) (answer : Answer) (moves : List Place) (after : Image K) → refusal_of means image e request ≡ None → changes_no_queue request ≡ false → awaits_answer request ≡ false → new ≡ (begun_of means image e request).image → reply ≡ (begun_of means image e request).reply → (answer ≡ Broke → new.broken ≡ false) → Finishes means e (begun new reply) answer moves [] after → Answers means image e request answer moves (out_of means image e request answer) after
   finished_answers image e request new reply answer moves after unrefused changes plain i r whole finishes =
       from_begun image e request answer moves after unrefused changes
       (λ broke. sym (begun_opens means image e request).broken ∙ ap (λ (x : Image K). x.broken) (sym i) ∙ whole broke)
       (with_out e (begun_of means image e request) new reply answer moves after i r (awaits_of image e request ∙ plain) finishes)
 
   -- an ioctl that was sent and has its answer
-  pub ioctl_answers : (image : Image K) (e : End) (request : Request (Shape K)) (new : Image K) (answer : Answer) (moves : List Place) (after : Image K) → refusal_of image e request ≡ None → changes_no_queue request ≡ false → awaits_answer request ≡ true → new ≡ (begun_of means image e request).image → Finishes means e (begun_ioctl new) answer moves [] after → Answers means image e request answer moves (out_of means image e request answer) after
+  pub ioctl_answers : (image : Image K) (e : End) (request : Request (Shape K)) (new : Image K) (answer : Answer) (moves : List Place) (after : Image K) → refusal_of means image e request ≡ None → changes_no_queue request ≡ false → awaits_answer request ≡ true → new ≡ (begun_of means image e request).image → Finishes means e (begun_ioctl new) answer moves [] after → Answers means image e request answer moves (out_of means image e request answer) after
   ioctl_answers image e request new answer moves after unrefused changes awaits i finishes =
       from_begun image e request answer moves after unrefused changes
-      (λ broke. whole_of image e request unrefused (awaits_finds request awaits))
+      (λ broke. whole_of means image e request unrefused (awaits_finds request awaits))
       (ioctl_out e (begun_of means image e request) new answer moves after i (ioctl_of image e request awaits) finishes)
 
   -- a stream where nothing happens is quiet, or broken as it was
-  still_if : (image : Image K) (broken : Bool) → image.broken ≡ broken → IsKept image → SettlesUnless means broken image [] image
+  still_if : (image : Image K) (broken : Bool) → image.broken ≡ broken → IsKept means image → SettlesUnless means broken image [] image
   still_if image true is kept = record { stays = refl; unchanged = refl }
   still_if image false is kept = record { leads = refl; quiet = kept.quiet is }
 
   -- a call that no service follows is finished when it was begun
-  pub quiet_answers : (image : Image K) (e : End) (request : Request (Shape K)) (reply : Reply) (answer : Answer) (moves : List Place) (after : Image K) → IsKept image → refusal_of image e request ≡ None → needs_no_service image e request ≡ true → after ≡ (begun_of means image e request).image → reply ≡ (begun_of means image e request).reply → answer ≡ Done reply → moves ≡ [] → Answers means image e request answer moves (out_of means image e request answer) after
+  pub quiet_answers : (image : Image K) (e : End) (request : Request (Shape K)) (reply : Reply) (answer : Answer) (moves : List Place) (after : Image K) → IsKept means image → refusal_of means image e request ≡ None → needs_no_service image e request ≡ true → after ≡ (begun_of means image e request).image → reply ≡ (begun_of means image e request).reply → answer ≡ Done reply → moves ≡ [] → Answers means image e request answer moves (out_of means image e request answer) after
   quiet_answers image e Close reply answer moves after kept unrefused is i r a m = cc
   quiet_answers image e Poll reply answer moves after kept unrefused is i r a m =
       let settles : SettlesUnless means image.broken image [] image = still_if image image.broken refl kept in
       rw (a, m, i)
       (unrefused, (λ quiet. refl), record { settled = image; settles = settles; replies = r; leaves = refl; takes = refl })
   quiet_answers image e request reply answer moves after kept unrefused is i r a m =
-      let whole = whole_of image e request unrefused refl in
+      let whole = whole_of means image e request unrefused refl in
       let b = begun_of means image e request in
       let quiet = unserved_begun means image e request is (kept.quiet whole) in
       let settles : SettlesUnless means b.image.broken b.image [] b.image = subst (λ (x : Bool). SettlesUnless means x b.image [] b.image) (sym (quiet.broken ∙ whole)) (record { leads = refl; quiet = quiet.quiet }) in
@@ -240,9 +240,9 @@ module _ {K : Type 0} (means : Meaning K) where
       let no : true ≡ false = sym sends ∙ ioctl_sends image e request awaits in cc
 
   -- where no place may move once a call has begun, its services break nothing
-  pub finished_still : (image : Image K) (e : End) (request : Request (Shape K)) (new : Image K) (answer : Answer) → new ≡ (begun_of means image e request).image → (NoneMay new → answer ≡ Broke → ⊥) → BreaksNone means image e request answer
+  pub finished_still : (image : Image K) (e : End) (request : Request (Shape K)) (new : Image K) (answer : Answer) → new ≡ (begun_of means image e request).image → (NoneMay means new → answer ≡ Broke → ⊥) → BreaksNone means image e request answer
   finished_still image e request new answer is still sends none =
-      still (subst (λ (i : Image K). NoneMay i) (sym is) none)
+      still (subst (λ (i : Image K). NoneMay means i) (sym is) none)
 
 -- a refusal that is not for want of memory, if it is one
 abbrev IsNotMemory : Option Refusal → Type 0
@@ -274,16 +274,16 @@ error_are_other looks None (Some errno) = refl
 error_are_other looks (Some errno) None = refl
 error_are_other looks (Some errno) (Some other) = refl
 
-own_are_other : {K : Type 0} (image : Image K) (e : End) (request : Request (Shape K)) → are_other (own_refusals image e request) ≡ true
-own_are_other image e (Read zero) = refl
-own_are_other image e (Read (suc n)) = refl
-own_are_other image e request = refl
+own_are_other : {K : Type 0} (means : Meaning K) (image : Image K) (e : End) (request : Request (Shape K)) → are_other (own_refusals means image e request) ≡ true
+own_are_other means image e (Read zero) = refl
+own_are_other means image e (Read (suc n)) = refl
+own_are_other means image e request = refl
 
 -- the first refusal that holds of a call is not want of memory
-pub refused_memory : {K : Type 0} (image : Image K) (e : End) (request : Request (Shape K)) (refusal : Refusal) → refusal_of image e request ≡ Some refusal → wants_memory (Refused refusal) ≡ false
-refused_memory image e Close refusal is = rows_not_memory (closed_refusals image e) refl refusal is
-refused_memory image e Take refusal is = rows_not_memory (take_refusals image e) refl refusal is
-refused_memory image e Poll refusal is = cc
-refused_memory image e request refusal is =
+pub refused_memory : {K : Type 0} (means : Meaning K) (image : Image K) (e : End) (request : Request (Shape K)) (refusal : Refusal) → refusal_of means image e request ≡ Some refusal → wants_memory (Refused refusal) ≡ false
+refused_memory means image e Close refusal is = rows_not_memory (closed_refusals image e) refl refusal is
+refused_memory means image e Take refusal is = rows_not_memory (take_refusals image e) refl refusal is
+refused_memory means image e Poll refusal is = cc
+refused_memory means image e request refusal is =
     let state = (end_of image e).state in
-    or_not_memory (first_that_holds (common_refusals image e request)) (first_that_holds (own_refusals image e request)) (rows_not_memory (common_refusals image e request) (error_are_other (errors_looked_at request) state.rd_errno state.wr_errno)) (rows_not_memory (own_refusals image e request) (own_are_other image e request)) refusal (sym (first_of_all image e request refl) ∙ is)
+    or_not_memory (first_that_holds (common_refusals image e request)) (first_that_holds (own_refusals means image e request)) (rows_not_memory (common_refusals image e request) (error_are_other (errors_looked_at request) state.rd_errno state.wr_errno)) (rows_not_memory (own_refusals means image e request) (own_are_other means image e request)) refusal (sym (first_of_all means image e request refl) ∙ is)

@@ -5,7 +5,7 @@ use Rattle.strm_msg.specs.Message.{Msg, Part}
 use Rattle.strm_msg.specs.Kind.{is_high}
 use Rattle.strm_msg.specs.declared.words.End.{End}
 use Rattle.strm_msg.specs.declared.words.End.TheVariants.{A, B}
-use Rattle.strm_module.specs.Kinds.{Meaning}
+use Rattle.strm_module.specs.Kinds.{Meaning, AnswersStay}
 use Rattle.strm_module.specs.declared.shape.Shape.{Shape}
 use Rattle.strm_queue.specs.Queue.{put_in}
 use Rattle.strm_module.specs.Driver.{partner, has_end, input_end}
@@ -14,24 +14,28 @@ use Rattle.strm_ioctl.specs.Ask.{is_empty}
 use Rattle.strm_qpair.specs.End.{EndState, in_drv}
 use Rattle.strm_qpair.specs.Modules.{SameEnd}
 use Rattle.strm_qpair.specs.Canput.{above, slack_in}
-use Rattle.strm_qpair.specs.Change.{with_mode, inserted, removed, closed, begun_with, ended}
+use Rattle.strm_qpair.specs.Change.{with_mode, has_room, inserted, removed, closed, begun_with, ended}
 use Rattle.strm_qpair.specs.declared.record.Record.{Record}
 use Rattle.strm_ends.specs.declared.place.Place.{Place}
 use Rattle.strm_ends.specs.declared.place.Place.TheVariants as Places
 use Rattle.strm_ends.specs.Image.{Image, end_of, with_end, with_head, with_state, count_of}
 use Rattle.strm_chain.specs.declared.spot.Spot.TheVariants.{Down, Up}
-use Rattle.strm_ends.specs.Path.{ahead, front_of}
-use Rattle.strm_ends.specs.Flow.{is_due, due_front, IsQuiet}
+use Rattle.strm_ends.specs.Path.{ahead}
+use Rattle.strm_ends.specs.Flow.{offer_of, is_due, due_front, IsQuiet}
+use Rattle.strm_qpair.specs.declared.offer.Offer.{Offer}
 use Rattle.strm_ends.specs.Same.{SameModules}
+use Rattle.strm_ends.specs.Order.{goes_round, IsOrdered}
+use Rattle.strm_ends.proofs.OrderLemmas.{end_ordered, pushed_ordered, popped_ordered, closed_ordered}
 use Rattle.strm_chain.specs.Fault.{Breaks}
 use Rattle.strm_chain.specs.Deliver.{deliver}
 use Rattle.strm_chain.proofs.QuietLemmas.{same_end}
 use Rattle.strm_chain.proofs.SameLemmas.{deliver_keeps, leads_keeps, with_end_keeps}
+use Rattle.strm_chain.proofs.OrderLemmas.{delivered_ordered, led_ordered}
 use Rattle.strm_call.specs.declared.request.Request.{Request}
 use Rattle.strm_call.specs.declared.request.Request.TheVariants.{Putmsg, Putpmsg, Getmsg, Getpmsg, Read, Write, Push, Nread, Peek, SetRead, GetRead, Canput, Ckband, Getband, Pop, Look, Find, Str, Flush, FlushBand, Close, Take, Poll}
 use Rattle.strm_call.specs.declared.request.Request.TheVariants as Requests
 use Rattle.strm_call.specs.declared.refusal.Refusal.{Refusal}
-use Rattle.strm_call.specs.declared.refusal.Refusal.TheVariants.{Closed, Broken, Invalid, WouldWait}
+use Rattle.strm_call.specs.declared.refusal.Refusal.TheVariants.{Closed, Broken, Invalid, HungUp, WouldWait}
 use Rattle.strm_call.specs.declared.answer.Reply.{Reply}
 use Rattle.strm_call.specs.declared.answer.Answer.{Answer}
 use Rattle.strm_call.specs.declared.answer.Answer.TheVariants.{Done, Refused, Broke}
@@ -39,11 +43,11 @@ use Rattle.strm_call.specs.Refusal.{first_that_holds}
 use Rattle.strm_call.specs.Begun.{Begun}
 use Rattle.strm_msgio.specs.Send.{sent_of, putmsg_message, putpmsg_message, ordinary_message}
 use Rattle.strm_ioctl.specs.Ioctl.{asked_of}
-use Rattle.strm_ioctl.specs.Close.{closed_image, after_close}
+use Rattle.strm_ioctl.specs.Close.{closed_image, hung_up_if, after_close}
 use Rattle.strm_ioctl.proofs.CloseLemmas.{hung_up_keeps}
 use Rattle.strm_call.specs.Request.{changes_no_queue}
 use Rattle.strm_head.specs.Begin.{begun_of, refusal_of, errors_at, finds_whole, common_refusals, own_refusals}
-use Rattle.strm_head.proofs.RefusalLemmas.{first_of_all}
+use Rattle.strm_head.proofs.RefusalLemmas.{first_of_all, own_none}
 use Rattle.strm_head.specs.Inside.{HasItsEnds, IsIdle, AreIdle, IsKept, OpensNone}
 use Rattle.strm_head.specs.Step.{Answers, IsDone, IsBroken, SettlesUnless, Lands, arrival, arrived_of, answered_if}
 
@@ -97,13 +101,13 @@ take_whole image e h =
     second_false (not (has_output image e) && not (end_of image e).is_open) image.broken Closed Broken
     ((not (has_output image e), Invalid) ∷ ((is_empty (end_of image e).drv && (end_of image e).is_open, WouldWait) ∷ [])) h
 
-pub whole_of : {K : Type 0} (image : Image K) (e : End) (request : Request (Shape K)) → refusal_of image e request ≡ None → finds_whole request ≡ true → image.broken ≡ false
-whole_of image e Close h finds = cc
-whole_of image e Poll h finds = cc
-whole_of image e Take h finds = take_whole image e h
-whole_of image e request h finds =
+pub whole_of : {K : Type 0} (means : Meaning K) (image : Image K) (e : End) (request : Request (Shape K)) → refusal_of means image e request ≡ None → finds_whole request ≡ true → image.broken ≡ false
+whole_of means image e Close h finds = cc
+whole_of means image e Poll h finds = cc
+whole_of means image e Take h finds = take_whole image e h
+whole_of means image e request h finds =
     whole_if (end_of image e).is_open image.broken (errors_at image e request)
-    (none_before (first_that_holds (common_refusals image e request)) (first_that_holds (own_refusals image e request)) (sym (first_of_all image e request refl) ∙ h))
+    (none_before (first_that_holds (common_refusals image e request)) (first_that_holds (own_refusals means image e request)) (sym (first_of_all means image e request refl) ∙ h))
 
 -- the record of a head is no part of what moves
 same_above : {K : Type 0} (image : Image K) (e : End) (r : Record) (p : End) → above (end_of (with_state image e r) p) (count_of (with_state image e r) p + 1) ≡ above (end_of image p) (count_of image p + 1)
@@ -124,30 +128,30 @@ same_ahead image A r (Places.Rd B i) = refl
 same_ahead image B r (Places.Rd A i) = refl
 same_ahead image B r (Places.Rd B i) = refl
 
-same_front : {K : Type 0} (image : Image K) (e : End) (r : Record) (place : Place) → front_of (with_state image e r) place ≡ front_of image place
-same_front image A r (Places.Wr A i) = refl
-same_front image A r (Places.Wr B i) = refl
-same_front image B r (Places.Wr A i) = refl
-same_front image B r (Places.Wr B i) = refl
-same_front image A r (Places.Drv A) = refl
-same_front image A r (Places.Drv B) = refl
-same_front image B r (Places.Drv A) = refl
-same_front image B r (Places.Drv B) = refl
-same_front image A r (Places.Rd A i) = refl
-same_front image A r (Places.Rd B i) = refl
-same_front image B r (Places.Rd A i) = refl
-same_front image B r (Places.Rd B i) = refl
-
-due_by : {K : Type 0} (old new : Image K) (place : Place) (front : Option Msg) → ahead new place ≡ ahead old place → due_front new place front ≡ due_front old place front
+due_by : {K : Type 0} (old new : Image K) (place : Place) (front : Option Offer) → ahead new place ≡ ahead old place → due_front new place front ≡ due_front old place front
 due_by old new place None h = refl
-due_by old new place (Some m) h = ap (λ fill. is_high m.kind || slack_in fill m.band) h
+due_by old new place (Some m) h = ap (λ fill. m.is_high || slack_in fill m.band) h
 
-same_due : {K : Type 0} (image : Image K) (e : End) (r : Record) (place : Place) → is_due (with_state image e r) place ≡ is_due image place
-same_due image e r place =
-    ap (due_front (with_state image e r) place) (same_front image e r place) ∙ due_by image (with_state image e r) place (front_of image place) (same_ahead image e r place)
+same_offer : {K : Type 0} (means : Meaning K) (image : Image K) (e : End) (r : Record) (place : Place) → offer_of means (with_state image e r) place ≡ offer_of means image place
+same_offer means image A r (Places.Wr A i) = refl
+same_offer means image A r (Places.Wr B i) = refl
+same_offer means image B r (Places.Wr A i) = refl
+same_offer means image B r (Places.Wr B i) = refl
+same_offer means image A r (Places.Drv A) = refl
+same_offer means image A r (Places.Drv B) = refl
+same_offer means image B r (Places.Drv A) = refl
+same_offer means image B r (Places.Drv B) = refl
+same_offer means image A r (Places.Rd A i) = refl
+same_offer means image A r (Places.Rd B i) = refl
+same_offer means image B r (Places.Rd A i) = refl
+same_offer means image B r (Places.Rd B i) = refl
 
-state_quiet : {K : Type 0} (image : Image K) (e : End) (r : Record) → IsQuiet image → IsQuiet (with_state image e r)
-state_quiet image e r quiet place = same_due image e r place ∙ quiet place
+same_due : {K : Type 0} (means : Meaning K) (image : Image K) (e : End) (r : Record) (place : Place) → is_due means (with_state image e r) place ≡ is_due means image place
+same_due means image e r place =
+    ap (due_front (with_state image e r) place) (same_offer means image e r place) ∙ due_by image (with_state image e r) place (offer_of means image place) (same_ahead image e r place)
+
+state_quiet : {K : Type 0} (means : Meaning K) (image : Image K) (e : End) (r : Record) → IsQuiet means image → IsQuiet means (with_state image e r)
+state_quiet means image e r quiet place = same_due means image e r place ∙ quiet place
 
 opens_trans : {K : Type 0} (old mid new : Image K) → OpensNone old mid → OpensNone mid new → OpensNone old new
 opens_trans old mid new p q =
@@ -201,9 +205,9 @@ answered_idle true A old new same idle B = idle_end old.b new.b same.on_b (idle 
 answered_idle true B old new same idle A = idle_end old.a new.a same.on_a (idle A)
 answered_idle true B old new same idle B = record { pending = refl; kept = refl }
 
-answered_quiet : {K : Type 0} (awaits : Bool) (e : End) (image : Image K) → IsQuiet image → IsQuiet (answered_if awaits e image)
-answered_quiet false e image quiet = quiet
-answered_quiet true e image quiet = state_quiet image e (ended (end_of image e).state) quiet
+answered_quiet : {K : Type 0} (means : Meaning K) (awaits : Bool) (e : End) (image : Image K) → IsQuiet means image → IsQuiet means (answered_if awaits e image)
+answered_quiet means false e image quiet = quiet
+answered_quiet means true e image quiet = state_quiet means image e (ended (end_of image e).state) quiet
 
 answered_opens : {K : Type 0} (awaits : Bool) (e : End) (image : Image K) → OpensNone image (answered_if awaits e image)
 answered_opens false e image = none_opens image
@@ -219,8 +223,8 @@ same_but_drv e q =
     }
 
 -- what a call that changes no queue has done
-pub record IsQuietly {K : Type 0} (image : Image K) (begun : Begun (Image K) K) : Type 0 where
-  pub quiet : IsQuiet begun.image
+pub record IsQuietly {K : Type 0} (means : Meaning K) (image : Image K) (begun : Begun (Image K) K) : Type 0 where
+  pub quiet : IsQuiet means begun.image
   pub broken : begun.image.broken ≡ image.broken
   pub awaits : begun.awaits ≡ false
 
@@ -275,7 +279,7 @@ module _ {K : Type 0} (means : Meaning K) where
       opens_trans image (closed_image image e) _ (closed_opens image e) (same_opens (closed_image image e) _ (after_keeps image.broken (closed_image image e) e))
 
   -- a call that changes no queue leaves a quiet stream quiet, awaits nothing and takes no module out
-  pub quiet_begun : (image : Image K) (e : End) (request : Request (Shape K)) → changes_no_queue request ≡ true → IsQuiet image → IsQuietly image (begun_of means image e request)
+  pub quiet_begun : (image : Image K) (e : End) (request : Request (Shape K)) → changes_no_queue request ≡ true → IsQuiet means image → IsQuietly means image (begun_of means image e request)
   quiet_begun image e (Putmsg flag parts) is quiet = cc
   quiet_begun image e (Putpmsg band flag parts) is quiet = cc
   quiet_begun image e (Getmsg maxctl maxdat flag) is quiet = cc
@@ -287,7 +291,7 @@ module _ {K : Type 0} (means : Meaning K) where
   quiet_begun image e (Peek maxctl maxdat flag) is quiet = record { quiet = quiet; broken = refl; awaits = refl }
   quiet_begun image e (SetRead mode prot) is quiet =
       let r = with_mode (end_of image e).state mode prot in
-      record { quiet = state_quiet image e r quiet; broken = (state_opens image e r).broken; awaits = refl }
+      record { quiet = state_quiet means image e r quiet; broken = (state_opens image e r).broken; awaits = refl }
   quiet_begun image e GetRead is quiet = record { quiet = quiet; broken = refl; awaits = refl }
   quiet_begun image e (Canput band) is quiet = record { quiet = quiet; broken = refl; awaits = refl }
   quiet_begun image e (Ckband band) is quiet = record { quiet = quiet; broken = refl; awaits = refl }
@@ -348,53 +352,139 @@ module _ {K : Type 0} (means : Meaning K) where
   begun_idle image e Close idle =
       idle_same (closed_image image e) _ (after_keeps image.broken (closed_image image e) e) (idle_with image e (closed (end_of image e)) (idle e) idle)
 
+  -- what changes no module keeps messages from going round
+  head_ordered : (image : Image K) (e : End) (q : List Msg) → IsOrdered means image → IsOrdered means (with_head image e q)
+  head_ordered image e q = end_ordered means image e (record (end_of image e) { head = q }) refl
+
+  state_ordered : (image : Image K) (e : End) (r : Record) → IsOrdered means image → IsOrdered means (with_state image e r)
+  state_ordered image e r = end_ordered means image e (record (end_of image e) { state = r }) refl
+
+  answered_ordered : (awaits : Bool) (e : End) (image : Image K) → IsOrdered means image → IsOrdered means (answered_if awaits e image)
+  answered_ordered false e image ordered = ordered
+  answered_ordered true e image ordered = state_ordered image e (ended (end_of image e).state) ordered
+
+  taken_ordered : (image : Image K) (e : End) (q : List Msg) → IsOrdered means image → IsOrdered means (taken_out image e q).image
+  taken_ordered image e [] ordered = ordered
+  taken_ordered image e (m ∷ q) ordered = end_ordered means image e (in_drv (end_of image e) q) refl ordered
+
+  -- nor does what a message leaves, where kinds answer as they did
+  module _ (stay : AnswersStay means) where
+    sent_ordered : (image : Image K) (e : End) (m : Option Msg) → IsOrdered means image → IsOrdered means (sent_of means image e m)
+    sent_ordered image e None ordered = ordered
+    sent_ordered image e (Some m) ordered = delivered_ordered means stay image (Down e 1) m ordered
+
+    asked_ordered : (image : Image K) (e : End) (cmd : ℕ) (dat : Part) (id : Option ℕ) → IsOrdered means image → IsOrdered means (asked_of means image e cmd dat id)
+    asked_ordered image e cmd dat None ordered = ordered
+    asked_ordered image e cmd dat (Some id) ordered =
+        let r = begun_with (end_of image e).state (Some id) in
+        delivered_ordered means stay (with_state image e r) (Down e 1) _ (state_ordered image e r ordered)
+
+    hangup_ordered : (opened : Bool) (image : Image K) (e : End) → IsOrdered means image → IsOrdered means (hung_up_if means opened image e)
+    hangup_ordered false image e ordered = ordered
+    hangup_ordered true image e ordered = delivered_ordered means stay image (Up e (count_of image e)) _ ordered
+
+    after_ordered : (broken : Bool) (image : Image K) (e : End) → IsOrdered means image → IsOrdered means (after_close means broken image e)
+    after_ordered true image e ordered = ordered
+    after_ordered false image e ordered =
+        let p = partner image.driver e in hangup_ordered (end_of image p).is_open image p ordered
+
+    -- a push that is not refused closes no circle
+    push_ordered : (image : Image K) (e : End) (shape : Shape K) → refusal_of means image e (Push shape) ≡ None → IsOrdered means image → IsOrdered means (with_end image e (inserted (end_of image e) shape))
+    push_ordered image e shape h ordered =
+        let none = own_none means image e (Push shape) h in
+        pushed_ordered means image e shape (second_false (not (has_room (end_of image e))) (goes_round means image e shape) Invalid Invalid (((end_of image e).state.hung, HungUp) ∷ []) none) ordered
+
+    -- so a call that is not refused keeps messages from going round
+    begun_ordered : (image : Image K) (e : End) (request : Request (Shape K)) → refusal_of means image e request ≡ None → IsOrdered means image → IsOrdered means (begun_of means image e request).image
+    begun_ordered image e (Putmsg flag parts) h ordered = sent_ordered image e (putmsg_message parts.ctl parts.dat flag) ordered
+    begun_ordered image e (Putpmsg band flag parts) h ordered = sent_ordered image e (putpmsg_message parts.ctl parts.dat band flag) ordered
+    begun_ordered image e (Getmsg maxctl maxdat flag) h ordered = head_ordered image e _ ordered
+    begun_ordered image e (Getpmsg maxctl maxdat band flag) h ordered = head_ordered image e _ ordered
+    begun_ordered image e (Read zero) h ordered = ordered
+    begun_ordered image e (Read (suc n)) h ordered = head_ordered image e _ ordered
+    begun_ordered image e (Write dat) h ordered = sent_ordered image e (ordinary_message 0 None (Some dat)) ordered
+    begun_ordered image e (Push shape) h ordered = push_ordered image e shape h ordered
+    begun_ordered image e Nread h ordered = ordered
+    begun_ordered image e (Peek maxctl maxdat flag) h ordered = ordered
+    begun_ordered image e (SetRead mode prot) h ordered = state_ordered image e (with_mode (end_of image e).state mode prot) ordered
+    begun_ordered image e GetRead h ordered = ordered
+    begun_ordered image e (Canput band) h ordered = ordered
+    begun_ordered image e (Ckband band) h ordered = ordered
+    begun_ordered image e Getband h ordered = ordered
+    begun_ordered image e Pop h ordered = popped_ordered means image e ordered
+    begun_ordered image e Look h ordered = ordered
+    begun_ordered image e Requests.List h ordered = ordered
+    begun_ordered image e (Find name) h ordered = ordered
+    begun_ordered image e (Str cmd dat) h ordered = asked_ordered image e cmd dat (end_of image e).state.next ordered
+    begun_ordered image e (Flush r w) h ordered = delivered_ordered means stay image (Down e 1) _ ordered
+    begun_ordered image e (FlushBand band r w) h ordered = delivered_ordered means stay image (Down e 1) _ ordered
+    begun_ordered image e Take h ordered = taken_ordered image e (end_of image e).drv ordered
+    begun_ordered image e Poll h ordered = ordered
+    begun_ordered image e Close h ordered =
+        after_ordered image.broken (closed_image image e) e (closed_ordered means image e ordered)
+
+    arrived_ordered_if : (high : Bool) (image : Image K) (e at : End) (m : Msg) → IsOrdered means image → IsOrdered means (if high then deliver means image (Up e (count_of image e)) m else with_end image at (in_drv (end_of image at) (put_in (end_of image at).drv m)))
+    arrived_ordered_if true image e at m ordered = delivered_ordered means stay image (Up e (count_of image e)) m ordered
+    arrived_ordered_if false image e at m ordered =
+        end_ordered means image at (in_drv (end_of image at) (put_in (end_of image at).drv m)) refl ordered
+
+    arrived_ordered : (image : Image K) (e : End) (m : Msg) → IsOrdered means image → IsOrdered means (arrived_of means image e m)
+    arrived_ordered image e m = arrived_ordered_if (is_high m.kind) image e (input_end image.driver) m
+
   broken_opens : (old new : Image K) → Breaks old new → (e : End) → (end_of new e).is_open ≡ true → (end_of old e).is_open ≡ true
   broken_opens old new breaks A h = sym breaks.on_a.is_open ∙ h
   broken_opens old new breaks B h = sym breaks.on_b.is_open ∙ h
 
   -- a stream that broke keeps the ends
-  broken_kept : (begun : Begun (Image K) K) (moves : List Place) (out : List ℕ) (after : Image K) → HasItsEnds begun.image → IsBroken begun moves out after → IsKept after
+  broken_kept : (begun : Begun (Image K) K) (moves : List Place) (out : List ℕ) (after : Image K) → HasItsEnds begun.image → IsBroken begun moves out after → IsKept means after
   broken_kept begun moves out after ends broke =
       record {
         quiet = λ whole. absurd (let no : true ≡ false = sym broke.breaks.is_broken ∙ whole in cc);
         idle = λ whole. absurd (let no : true ≡ false = sym broke.breaks.is_broken ∙ whole in cc);
+        order = λ whole. absurd (let no : true ≡ false = sym broke.breaks.is_broken ∙ whole in cc);
         ends = λ e h. ap (λ d. has_end d e) broke.breaks.driver ∙ ends e (broken_opens begun.image after broke.breaks e h);
       }
 
-  settled_kept : (broken : Bool) (e : End) (begun : Begun (Image K) K) (moves : List Place) (settled : Image K) → begun.image.broken ≡ broken → SettlesUnless means broken begun.image moves settled → HasItsEnds begun.image → (begun.image.broken ≡ false → AreIdle (answered_if begun.awaits e begun.image)) → IsKept (answered_if begun.awaits e settled)
-  settled_kept false e begun moves settled whole settles ends idle =
+  settled_kept : (broken : Bool) (e : End) (begun : Begun (Image K) K) (moves : List Place) (settled : Image K) → begun.image.broken ≡ broken → SettlesUnless means broken begun.image moves settled → HasItsEnds begun.image → (begun.image.broken ≡ false → AreIdle (answered_if begun.awaits e begun.image)) → (begun.image.broken ≡ false → AnswersStay means → IsOrdered means begun.image) → IsKept means (answered_if begun.awaits e settled)
+  settled_kept false e begun moves settled whole settles ends idle order =
       let same = leads_keeps means begun.image moves settled settles.leads in
       record {
-        quiet = λ whole. answered_quiet begun.awaits e settled settles.quiet;
+        quiet = λ whole. answered_quiet means begun.awaits e settled settles.quiet;
         idle = λ still. answered_idle begun.awaits e begun.image settled same (idle whole);
+        order = λ still stay. answered_ordered begun.awaits e settled (led_ordered means stay begun.image moves settled settles.leads (order whole stay));
         ends = ends_stay begun.image _ (opens_trans begun.image settled _ (same_opens begun.image settled same) (answered_opens begun.awaits e settled)) ends;
       }
-  settled_kept true e begun moves settled broken still ends idle =
+  settled_kept true e begun moves settled broken still ends idle order =
       let opens = answered_opens begun.awaits e settled in
       let is : settled.broken ≡ true = subst (λ (i : Image K). i.broken ≡ true) (sym still.unchanged) broken in
       record {
         quiet = λ whole. absurd (let no : true ≡ false = sym is ∙ sym opens.broken ∙ whole in cc);
         idle = λ whole. absurd (let no : true ≡ false = sym is ∙ sym opens.broken ∙ whole in cc);
+        order = λ whole. absurd (let no : true ≡ false = sym is ∙ sym opens.broken ∙ whole in cc);
         ends = ends_stay settled _ opens (subst (λ (i : Image K). HasItsEnds i) (sym still.unchanged) ends);
       }
 
-  done_kept : (e : End) (begun : Begun (Image K) K) (reply : Reply) (moves : List Place) (out : List ℕ) (after : Image K) → HasItsEnds begun.image → (begun.image.broken ≡ false → AreIdle (answered_if begun.awaits e begun.image)) → IsDone means e begun reply moves out after → IsKept after
-  done_kept e begun reply moves out after ends idle done =
-      rw done.leaves (settled_kept begun.image.broken e begun moves done.settled refl done.settles ends idle)
+  done_kept : (e : End) (begun : Begun (Image K) K) (reply : Reply) (moves : List Place) (out : List ℕ) (after : Image K) → HasItsEnds begun.image → (begun.image.broken ≡ false → AreIdle (answered_if begun.awaits e begun.image)) → (begun.image.broken ≡ false → AnswersStay means → IsOrdered means begun.image) → IsDone means e begun reply moves out after → IsKept means after
+  done_kept e begun reply moves out after ends idle order done =
+      rw done.leaves (settled_kept begun.image.broken e begun moves done.settled refl done.settles ends idle order)
 
-  begun_ends : (image : Image K) (e : End) (request : Request (Shape K)) → IsKept image → HasItsEnds (begun_of means image e request).image
+  begun_ends : (image : Image K) (e : End) (request : Request (Shape K)) → IsKept means image → HasItsEnds (begun_of means image e request).image
   begun_ends image e request kept =
       ends_stay image (begun_of means image e request).image (begun_opens image e request) kept.ends
 
-  idle_once : (image : Image K) (e : End) (request : Request (Shape K)) → IsKept image → (begun_of means image e request).image.broken ≡ false → AreIdle (answered_if (begun_of means image e request).awaits e (begun_of means image e request).image)
+  idle_once : (image : Image K) (e : End) (request : Request (Shape K)) → IsKept means image → (begun_of means image e request).image.broken ≡ false → AreIdle (answered_if (begun_of means image e request).awaits e (begun_of means image e request).image)
   idle_once image e request kept whole =
       begun_idle image e request (kept.idle (sym (begun_opens image e request).broken ∙ whole))
 
+  order_once : (image : Image K) (e : End) (request : Request (Shape K)) → IsKept means image → refusal_of means image e request ≡ None → (begun_of means image e request).image.broken ≡ false → AnswersStay means → IsOrdered means (begun_of means image e request).image
+  order_once image e request kept h whole stay =
+      begun_ordered stay image e request h (kept.order (sym (begun_opens image e request).broken ∙ whole) stay)
+
   -- a call keeps what a stream keeps
-  pub answered_kept : (image : Image K) (e : End) (request : Request (Shape K)) (answer : Answer) (moves : List Place) (out : List ℕ) (after : Image K) → IsKept image → Answers means image e request answer moves out after → IsKept after
+  pub answered_kept : (image : Image K) (e : End) (request : Request (Shape K)) (answer : Answer) (moves : List Place) (out : List ℕ) (after : Image K) → IsKept means image → Answers means image e request answer moves out after → IsKept means after
   answered_kept image e request (Refused refusal) moves out after kept answers = rw answers.unchanged kept
   answered_kept image e request (Done reply) moves out after kept answers =
-      done_kept e (begun_of means image e request) reply moves out after (begun_ends image e request kept) (idle_once image e request kept) answers.2
+      done_kept e (begun_of means image e request) reply moves out after (begun_ends image e request kept) (idle_once image e request kept) (order_once image e request kept answers.0) answers.2
   answered_kept image e request Broke moves out after kept answers =
       broken_kept (begun_of means image e request) moves out after (begun_ends image e request kept) answers.3
 
@@ -408,10 +498,10 @@ module _ {K : Type 0} (means : Meaning K) where
   arrived_keeps image e m = arrived_if (is_high m.kind) image e (input_end image.driver) m
 
   -- and so what a stream keeps
-  pub landed_kept : (image : Image K) (e : End) (m : Msg) (answer : Answer) (moves : List Place) (out : List ℕ) (after : Image K) → IsKept image → Lands means image e m answer moves out after → IsKept after
+  pub landed_kept : (image : Image K) (e : End) (m : Msg) (answer : Answer) (moves : List Place) (out : List ℕ) (after : Image K) → IsKept means image → Lands means image e m answer moves out after → IsKept means after
   landed_kept image e m (Refused refusal) moves out after kept lands = absurd lands
   landed_kept image e m (Done reply) moves out after kept lands =
       let same = arrived_keeps image e m in
-      done_kept e (arrival (arrived_of means image e m)) reply moves out after (ends_stay image _ (same_opens image _ same) kept.ends) (λ whole. idle_same image _ same (kept.idle (sym same.broken ∙ whole))) lands.1
+      done_kept e (arrival (arrived_of means image e m)) reply moves out after (ends_stay image _ (same_opens image _ same) kept.ends) (λ whole. idle_same image _ same (kept.idle (sym same.broken ∙ whole))) (λ whole stay. arrived_ordered stay image e m (kept.order (sym same.broken ∙ whole) stay)) lands.1
   landed_kept image e m Broke moves out after kept lands =
       broken_kept (arrival (arrived_of means image e m)) moves out after (ends_stay image _ (same_opens image _ (arrived_keeps image e m)) kept.ends) lands.1

@@ -102,10 +102,10 @@ none_read mode prot n [] none = refl
 none_read mode prot n (m ∷ q) none = absurd cc
 
 -- a call that has left the image as it was
-left_quiet : {K : Type 0} (image after : Image K) (reply : Reply) → after ≡ image → IsQuiet image → IsQuietly image (begun after reply)
-left_quiet {K} image after reply same quiet =
+left_quiet : {K : Type 0} (means : Meaning K) (image after : Image K) (reply : Reply) → after ≡ image → IsQuiet means image → IsQuietly means image (begun after reply)
+left_quiet {K} means image after reply same quiet =
     record {
-      quiet = subst (λ (i : Image K). IsQuiet i) (sym same) quiet;
+      quiet = subst (λ (i : Image K). IsQuiet means i) (sym same) quiet;
       broken = ap (λ (i : Image K). i.broken) same;
       awaits = refl;
     }
@@ -129,35 +129,35 @@ module _ {K : Type 0} (means : Meaning K) where
   unsent : (image : Image K) (e : End) (m : Option Msg) → m ≡ None → sent_of means image e m ≡ image
   unsent image e m none = ap (λ found. sent_of means image e found) none
 
-  untaken : (image : Image K) (e : End) (q : List Msg) → is_empty q ≡ true → IsQuiet image → IsQuietly image (taken_out image e q)
-  untaken image e [] none quiet = left_quiet image image Replies.Hangup refl quiet
+  untaken : (image : Image K) (e : End) (q : List Msg) → is_empty q ≡ true → IsQuiet means image → IsQuietly means image (taken_out image e q)
+  untaken image e [] none quiet = left_quiet means image image Replies.Hangup refl quiet
   untaken image e (m ∷ q) none quiet = absurd cc
 
   -- a call that has nothing to do leaves a quiet stream as it was
-  nothing_begun : (image : Image K) (e : End) (request : Request (Shape K)) → has_nothing_to_do image e request ≡ true → IsQuiet image → IsQuietly image (begun_of means image e request)
+  nothing_begun : (image : Image K) (e : End) (request : Request (Shape K)) → has_nothing_to_do image e request ≡ true → IsQuiet means image → IsQuietly means image (begun_of means image e request)
   nothing_begun image e (Putmsg flag parts) none quiet =
-      left_quiet image _ Replies.Putmsg (unsent image e (putmsg_message parts.ctl parts.dat flag) (putmsg_none parts.ctl parts.dat flag none)) quiet
+      left_quiet means image _ Replies.Putmsg (unsent image e (putmsg_message parts.ctl parts.dat flag) (putmsg_none parts.ctl parts.dat flag none)) quiet
   nothing_begun image e (Putpmsg band flag parts) none quiet =
-      left_quiet image _ Replies.Putpmsg (unsent image e (putpmsg_message parts.ctl parts.dat band flag) (putpmsg_none parts.ctl parts.dat band flag none)) quiet
+      left_quiet means image _ Replies.Putpmsg (unsent image e (putpmsg_message parts.ctl parts.dat band flag) (putpmsg_none parts.ctl parts.dat band flag none)) quiet
   nothing_begun image e (Getmsg maxctl maxdat flag) none quiet =
       let q = (end_of image e).head in
-      left_quiet image _ _ (stayed image e (taken_from q maxctl maxdat) (none_taken q maxctl maxdat none)) quiet
+      left_quiet means image _ _ (stayed image e (taken_from q maxctl maxdat) (none_taken q maxctl maxdat none)) quiet
   nothing_begun image e (Getpmsg maxctl maxdat band flag) none quiet =
       let q = (end_of image e).head in
-      left_quiet image _ _ (stayed image e (taken_from q maxctl maxdat) (none_taken q maxctl maxdat none)) quiet
-  nothing_begun image e (Read zero) none quiet = left_quiet image image (Replies.Read []) refl quiet
+      left_quiet means image _ _ (stayed image e (taken_from q maxctl maxdat) (none_taken q maxctl maxdat none)) quiet
+  nothing_begun image e (Read zero) none quiet = left_quiet means image image (Replies.Read []) refl quiet
   nothing_begun image e (Read (suc n)) none quiet =
       let end = end_of image e in
-      left_quiet image _ _ (stayed image e (read_of end.state.mode end.state.prot (suc n) end.head).stays (none_read end.state.mode end.state.prot (suc n) end.head none)) quiet
+      left_quiet means image _ _ (stayed image e (read_of end.state.mode end.state.prot (suc n) end.head).stays (none_read end.state.mode end.state.prot (suc n) end.head none)) quiet
   nothing_begun image e Take none quiet = untaken image e (end_of image e).drv none quiet
   nothing_begun image e request none quiet = absurd cc
 
-  unserved_by : (image : Image K) (e : End) (request : Request (Shape K)) (quietly nothing : Bool) → changes_no_queue request ≡ quietly → has_nothing_to_do image e request ≡ nothing → (quietly || nothing) ≡ true → IsQuiet image → IsQuietly image (begun_of means image e request)
+  unserved_by : (image : Image K) (e : End) (request : Request (Shape K)) (quietly nothing : Bool) → changes_no_queue request ≡ quietly → has_nothing_to_do image e request ≡ nothing → (quietly || nothing) ≡ true → IsQuiet means image → IsQuietly means image (begun_of means image e request)
   unserved_by image e request true nothing changes has needs quiet = quiet_begun means image e request changes quiet
   unserved_by image e request false true changes has needs quiet = nothing_begun image e request has quiet
   unserved_by image e request false false changes has needs quiet = absurd cc
 
   -- a call that no service follows leaves a quiet stream quiet, awaits nothing and takes no module out
-  pub unserved_begun : (image : Image K) (e : End) (request : Request (Shape K)) → needs_no_service image e request ≡ true → IsQuiet image → IsQuietly image (begun_of means image e request)
+  pub unserved_begun : (image : Image K) (e : End) (request : Request (Shape K)) → needs_no_service image e request ≡ true → IsQuiet means image → IsQuietly means image (begun_of means image e request)
   unserved_begun image e request needs quiet =
       unserved_by image e request (changes_no_queue request) (has_nothing_to_do image e request) refl refl needs quiet

@@ -5,6 +5,7 @@ use Rattle.strm_msg.specs.Kind.{is_high}
 use Rattle.strm_msg.specs.declared.errno.Errno.{Errno}
 use Rattle.strm_msg.specs.declared.words.End.{End}
 use Rattle.strm_qpair.specs.Canput.{below, full_in}
+use Rattle.strm_module.specs.Kinds.{Meaning}
 use Rattle.strm_ends.specs.Image.{Image, end_of}
 use Rattle.strm_call.specs.declared.refusal.Refusal.TheVariants.{TooLong, HungUp, WouldWait}
 use Rattle.strm_call.specs.Refusal.{first_that_holds}
@@ -50,8 +51,8 @@ plain image e =
 plain_is : {K : Type 0} (image : Image K) (e : End) → (end_of image e).is_open ≡ true → image.broken ≡ false → (end_of image e).state.rd_errno ≡ None → (end_of image e).state.wr_errno ≡ None → polled image e ≡ plain image e
 plain_is image e opened whole rd wr = rw (opened, rd, wr, whole) refl
 
-agrees_open : {K : Type 0} (image : Image K) (e : End) → (end_of image e).is_open ≡ true → image.broken ≡ false → (end_of image e).state.rd_errno ≡ None → (end_of image e).state.wr_errno ≡ None → AgreesWithCalls image e (polled image e)
-agrees_open image e opened whole rd wr =
+agrees_open : {K : Type 0} (means : Meaning K) (image : Image K) (e : End) → (end_of image e).is_open ≡ true → image.broken ≡ false → (end_of image e).state.rd_errno ≡ None → (end_of image e).state.wr_errno ≡ None → AgreesWithCalls means image e (polled image e)
+agrees_open means image e opened whole rd wr =
     let s = end_of image e in
     let is : polled image e ≡ plain image e = plain_is image e opened whole rd wr in
     record {
@@ -60,13 +61,13 @@ agrees_open image e opened whole rd wr =
       writes = λ dat fits. ap (λ (p : Polled). p.out) is ∙ rw (opened, rd, wr, whole) (sends (is_too_long None (Some dat)) s.state.hung (full_in (below image.driver s 0) 0) fits);
     }
 
-agrees_at : {K : Type 0} (image : Image K) (e : End) (opened broken : Bool) (rd wr : Option Errno) → (end_of image e).is_open ≡ opened → image.broken ≡ broken → (end_of image e).state.rd_errno ≡ rd → (end_of image e).state.wr_errno ≡ wr → (polled image e).nval ≡ false → (polled image e).err ≡ false → AgreesWithCalls image e (polled image e)
-agrees_at image e false broken rd wr o b r w nval err = absurd (let no : true ≡ false = rw o at nval in cc)
-agrees_at image e true true rd wr o b r w nval err = absurd (let no : true ≡ false = rw (o, b) at err in cc)
-agrees_at image e true false (Some x) wr o b r w nval err = absurd (let no : true ≡ false = rw (o, b, r) at err in cc)
-agrees_at image e true false None (Some y) o b r w nval err = absurd (let no : true ≡ false = rw (o, b, r, w) at err in cc)
-agrees_at image e true false None None o b r w nval err = agrees_open image e o b r w
+agrees_at : {K : Type 0} (means : Meaning K) (image : Image K) (e : End) (opened broken : Bool) (rd wr : Option Errno) → (end_of image e).is_open ≡ opened → image.broken ≡ broken → (end_of image e).state.rd_errno ≡ rd → (end_of image e).state.wr_errno ≡ wr → (polled image e).nval ≡ false → (polled image e).err ≡ false → AgreesWithCalls means image e (polled image e)
+agrees_at means image e false broken rd wr o b r w nval err = absurd (let no : true ≡ false = rw o at nval in cc)
+agrees_at means image e true true rd wr o b r w nval err = absurd (let no : true ≡ false = rw (o, b) at err in cc)
+agrees_at means image e true false (Some x) wr o b r w nval err = absurd (let no : true ≡ false = rw (o, b, r) at err in cc)
+agrees_at means image e true false None (Some y) o b r w nval err = absurd (let no : true ≡ false = rw (o, b, r, w) at err in cc)
+agrees_at means image e true false None None o b r w nval err = agrees_open means image e o b r w
 
-pub tells : {K : Type 0} (image : Image K) (e : End) → (polled image e).nval ≡ false → (polled image e).err ≡ false → AgreesWithCalls image e (polled image e)
-tells image e nval err =
-    agrees_at image e (end_of image e).is_open image.broken (end_of image e).state.rd_errno (end_of image e).state.wr_errno refl refl refl refl nval err
+pub tells : {K : Type 0} (means : Meaning K) (image : Image K) (e : End) → (polled image e).nval ≡ false → (polled image e).err ≡ false → AgreesWithCalls means image e (polled image e)
+tells means image e nval err =
+    agrees_at means image e (end_of image e).is_open image.broken (end_of image e).state.rd_errno (end_of image e).state.wr_errno refl refl refl refl nval err

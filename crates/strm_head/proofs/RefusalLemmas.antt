@@ -1,8 +1,9 @@
 -- The first refusal that holds, of those that all calls share and those of a call of its kind.
-use Rattle.std.proofs.Common.{◌≡◌, Bool, true, false, List, [], ◌∷◌, ◌++◌, refl}
+use Rattle.std.proofs.Common.{◌≡◌, ◌∙◌, Bool, true, false, Option, Some, None, List, [], ◌∷◌, ◌++◌, refl, sym}
 use Rattle.std.specs.Option.{option_or}
 use Rattle.strm_msg.specs.declared.words.End.{End}
 use Rattle.strm_module.specs.declared.shape.Shape.{Shape}
+use Rattle.strm_module.specs.Kinds.{Meaning}
 use Rattle.strm_ends.specs.Image.{Image}
 use Rattle.strm_call.specs.declared.request.Request.{Request}
 use Rattle.strm_call.specs.declared.request.Request.TheVariants.{Close, Take, Poll}
@@ -17,14 +18,29 @@ first_of_both ((true, refusal) ∷ first) later = refl
 first_of_both ((false, refusal) ∷ first) later = first_of_both first later
 
 -- of all that may refuse a call that is refused by what refuses most
-pub first_of_all : {K : Type 0} (image : Image K) (e : End) (request : Request (Shape K)) → is_common request ≡ true → refusal_of image e request ≡ option_or (first_that_holds (common_refusals image e request)) (first_that_holds (own_refusals image e request))
-first_of_all image e Close other = cc
-first_of_all image e Take other = cc
-first_of_all image e Poll other = cc
-first_of_all image e request other = first_of_both (common_refusals image e request) (own_refusals image e request)
+pub first_of_all : {K : Type 0} (means : Meaning K) (image : Image K) (e : End) (request : Request (Shape K)) → is_common request ≡ true → refusal_of means image e request ≡ option_or (first_that_holds (common_refusals image e request)) (first_that_holds (own_refusals means image e request))
+first_of_all means image e Close other = cc
+first_of_all means image e Take other = cc
+first_of_all means image e Poll other = cc
+first_of_all means image e request other = first_of_both (common_refusals image e request) (own_refusals means image e request)
 
 pub common_of : {P : Type 0} (request : Request P) → (request ≡ Close → ⊥) → (request ≡ Take → ⊥) → (request ≡ Poll → ⊥) → is_common request ≡ true
 common_of Close c t p = absurd (c refl)
 common_of Take c t p = absurd (t refl)
 common_of Poll c t p = absurd (p refl)
 common_of request c t p = refl
+
+none_behind : (first later : Option Refusal) → option_or first later ≡ None → later ≡ None
+none_behind None later h = h
+none_behind (Some refusal) later h = cc
+
+-- of a call that is not refused none of its own holds
+own_of : {K : Type 0} (means : Meaning K) (image : Image K) (e : End) (request : Request (Shape K)) → refusal_of means image e request ≡ None → is_common request ≡ true → first_that_holds (own_refusals means image e request) ≡ None
+own_of means image e request h other =
+    none_behind (first_that_holds (common_refusals image e request)) (first_that_holds (own_refusals means image e request)) (sym (first_of_all means image e request other) ∙ h)
+
+pub own_none : {K : Type 0} (means : Meaning K) (image : Image K) (e : End) (request : Request (Shape K)) → refusal_of means image e request ≡ None → first_that_holds (own_refusals means image e request) ≡ None
+own_none means image e Close h = refl
+own_none means image e Take h = h
+own_none means image e Poll h = refl
+own_none means image e request h = own_of means image e request h refl

@@ -30,23 +30,23 @@ use Rattle.strm_ioctl.specs.Outside.{take_refusals, take_begun}
 use Rattle.strm_ioctl.specs.Poll.{poll_begun}
 
 -- what may refuse a call of its kind alone, in the order in which it is looked for: whether it holds, and the refusal
-abbrev pub own_refusals : {K : Type 0} → Image K → End → Request (Shape K) → List (Bool × Refusal)
-own_refusals image e (Putmsg flag parts) = putmsg_refusals image e parts.ctl parts.dat flag
-own_refusals image e (Putpmsg band flag parts) = putpmsg_refusals image e parts.ctl parts.dat band flag
-own_refusals image e (Getmsg maxctl maxdat flag) = getmsg_refusals image e flag
-own_refusals image e (Getpmsg maxctl maxdat band flag) = getpmsg_refusals image e band flag
-own_refusals image e (Read max) = read_refusals image e max
-own_refusals image e (Write dat) = write_refusals image e dat
-own_refusals image e (Push shape) = push_refusals image e
-own_refusals image e Getband = getband_refusals image e
-own_refusals image e Pop = pop_refusals image e
-own_refusals image e Look = look_refusals image e
-own_refusals image e (Find name) = find_refusals name
-own_refusals image e (Str cmd dat) = str_refusals image e dat
-own_refusals image e (Flush r w) = flush_refusals image e r w
-own_refusals image e (FlushBand band r w) = flush_refusals image e r w
-own_refusals image e Take = take_refusals image e
-own_refusals image e request = []
+abbrev pub own_refusals : {K : Type 0} → Meaning K → Image K → End → Request (Shape K) → List (Bool × Refusal)
+own_refusals means image e (Putmsg flag parts) = putmsg_refusals image e parts.ctl parts.dat flag
+own_refusals means image e (Putpmsg band flag parts) = putpmsg_refusals image e parts.ctl parts.dat band flag
+own_refusals means image e (Getmsg maxctl maxdat flag) = getmsg_refusals image e flag
+own_refusals means image e (Getpmsg maxctl maxdat band flag) = getpmsg_refusals image e band flag
+own_refusals means image e (Read max) = read_refusals image e max
+own_refusals means image e (Write dat) = write_refusals image e dat
+own_refusals means image e (Push shape) = push_refusals means image e shape
+own_refusals means image e Getband = getband_refusals image e
+own_refusals means image e Pop = pop_refusals image e
+own_refusals means image e Look = look_refusals image e
+own_refusals means image e (Find name) = find_refusals name
+own_refusals means image e (Str cmd dat) = str_refusals image e dat
+own_refusals means image e (Flush r w) = flush_refusals image e r w
+own_refusals means image e (FlushBand band r w) = flush_refusals image e r w
+own_refusals means image e Take = take_refusals image e
+own_refusals means image e request = []
 
 -- which errors a call looks at, that of the read side and that of the write side: calls that receive look at the first, calls
 -- that send at the second, a close, a take and a poll at neither, and all others at both
@@ -92,11 +92,11 @@ common_refusals image e request =
 
 -- all that may refuse a call, in the order in which it is looked for. An end is closed also after an error, and on a broken stream;
 -- a take is made outside of the stream, and a poll tells what would refuse the others
-abbrev pub refusals : {K : Type 0} → Image K → End → Request (Shape K) → List (Bool × Refusal)
-refusals image e Close = closed_refusals image e
-refusals image e Take = take_refusals image e
-refusals image e Poll = []
-refusals image e request = common_refusals image e request ++ own_refusals image e request
+abbrev pub refusals : {K : Type 0} → Meaning K → Image K → End → Request (Shape K) → List (Bool × Refusal)
+refusals means image e Close = closed_refusals image e
+refusals means image e Take = take_refusals image e
+refusals means image e Poll = []
+refusals means image e request = common_refusals image e request ++ own_refusals means image e request
 
 -- the calls that are refused by what refuses most: all but a close, a take and a poll
 abbrev pub is_common : {P : Type 0} → Request P → Bool
@@ -112,13 +112,13 @@ finds_whole Poll = false
 finds_whole request = true
 
 -- the refusal of a call: the first that holds
-abbrev pub refusal_of : {K : Type 0} → Image K → End → Request (Shape K) → Option Refusal
-refusal_of image e request = first_that_holds (refusals image e request)
+abbrev pub refusal_of : {K : Type 0} → Meaning K → Image K → End → Request (Shape K) → Option Refusal
+refusal_of means image e request = first_that_holds (refusals means image e request)
 
--- each refusal is looked for after those before it
+-- no refusal is looked for before one that stands before it
 abbrev pub are_in_order : List (Bool × Refusal) → Bool
 are_in_order [] = true
-are_in_order (row ∷ rows) = list_all (λ later. is_before row.1 later.1) rows && are_in_order rows
+are_in_order (row ∷ rows) = list_all (λ later. not (is_before later.1 row.1)) rows && are_in_order rows
 
 -- what a call has done
 abbrev pub begun_of : {K : Type 0} → Meaning K → Image K → End → Request (Shape K) → Begun (Image K) K
@@ -238,8 +238,8 @@ wants_memory Broke = true
 -- a call that sends no message breaks no stream on which no place may move once it has begun
 abbrev pub BreaksNone : {K : Type 0} → Meaning K → Image K → End → Request (Shape K) → Answer → Type 0
 BreaksNone means image e request answer =
-    sends_nothing image e request ≡ true → NoneMay (begun_of means image e request).image → answer ≢ Broke
+    sends_nothing image e request ≡ true → NoneMay means (begun_of means image e request).image → answer ≢ Broke
 
 -- what may refuse a call is looked for in the one order of all refusals (`looking_order`)
-abbrev pub AreRefusalsInOrder : Type 0 → Type 0
-AreRefusalsInOrder K = (image : Image K) (e : End) (request : Request (Shape K)) → are_in_order (refusals image e request) ≡ true
+abbrev pub AreRefusalsInOrder : {K : Type 0} → Meaning K → Type 0
+AreRefusalsInOrder {K = K} means = (image : Image K) (e : End) (request : Request (Shape K)) → are_in_order (refusals means image e request) ≡ true

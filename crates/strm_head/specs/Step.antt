@@ -75,7 +75,7 @@ module _ {K : Type 0} (means : Meaning K) where
   -- these moves are made from an image, each of a place that may move, until no place must
   pub record Settles (image : Image K) (moves : List Place) (after : Image K) : Type 0 where
     pub leads : Leads means image moves after
-    pub quiet : IsQuiet after
+    pub quiet : IsQuiet means after
 
   -- what must move has moved, unless the stream is broken: then nothing does
   abbrev pub SettlesUnless : Bool → Image K → List Place → Image K → Type 0
@@ -101,11 +101,11 @@ module _ {K : Type 0} (means : Meaning K) where
   -- does one on a broken stream, where only an end is closed
   abbrev pub Answers : Image K → End → Request (Shape K) → Answer → List Place → List ℕ → Image K → Type 0
   Answers image e request (Refused refusal) moves out after =
-      IsRefused (refusal_of image e request) request refusal image moves out after
+      IsRefused (refusal_of means image e request) request refusal image moves out after
   Answers image e request (Done reply) moves out after =
-      (refusal_of image e request ≡ None) × (changes_no_queue request ≡ true → moves ≡ []) × Finishes e (begun_of means image e request) (Done reply) moves out after
+      (refusal_of means image e request ≡ None) × (changes_no_queue request ≡ true → moves ≡ []) × Finishes e (begun_of means image e request) (Done reply) moves out after
   Answers image e request Broke moves out after =
-      (refusal_of image e request ≡ None) × (changes_no_queue request ≡ false) × (image.broken ≡ false) × Finishes e (begun_of means image e request) Broke moves out after
+      (refusal_of means image e request ≡ None) × (changes_no_queue request ≡ false) × (image.broken ≡ false) × Finishes e (begun_of means image e request) Broke moves out after
 
   -- an ordinary message that came in from a line waits in the list of what came in, a high one goes up at once
   abbrev pub arrived_of : Image K → End → Msg → Image K

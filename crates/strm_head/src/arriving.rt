@@ -81,7 +81,7 @@ fn take_in<M: ModuleOf>(chain: &mut Chain<M>, m: Message) -> Result<(), Arrived>
 /// A message comes in from a line, and what must move moves.
 pub(crate) fn arrive<M: ModuleOf>(chain: &mut Chain<M>, m: Message) -> Arrived
     requires line { is_from_line m.kind ≡ true }
-    requires kept { IsKept chain.old.image }
+    requires kept { IsKept M.Kind.means chain.old.image }
     ensures arrives { Arrives M.Kind.means chain.old.image m result chain.new.image }
     ensures given { HasGiven result chain.new.run.given }
 {

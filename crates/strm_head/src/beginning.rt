@@ -95,7 +95,7 @@ fn begin_pop<M: ModuleOf, A: Replied>(
     end: End,
     back: &mut Back<M>,
 ) -> Result<A, ChainFault>
-    requires own { first_that_holds (own_refusals chain.old.image end Requests.Pop) ≡ None }
+    requires own { first_that_holds (own_refusals M.Kind.means chain.old.image end Requests.Pop) ≡ None }
     requires empty { back.old.items ≡ [] }
     ensures begins { Begins M.Kind.means chain.old.image end Requests.Pop (said A.says result) chain.new.image }
     ensures back { back.new.items ≡ handed_out (begun_of M.Kind.means chain.old.image end Requests.Pop).out }
@@ -226,7 +226,7 @@ fn begin_peek<M: ModuleOf, A: Replied>(
 /// Begins a take.
 #[inline(never)]
 fn begin_take<M: ModuleOf, A: Replied>(chain: &mut Chain<M>, end: End) -> Result<A, ChainFault>
-    requires { first_that_holds (own_refusals chain.old.image end Requests.Take) ≡ None }
+    requires { first_that_holds (own_refusals M.Kind.means chain.old.image end Requests.Take) ≡ None }
     ensures { Begins M.Kind.means chain.old.image end Requests.Take (said A.says result) chain.new.image }
 {
     taken(take(chain, end))
@@ -241,7 +241,7 @@ fn begin_str<M: ModuleOf, A: Replied>(
     dat: Option<Bytes>,
 ) -> Result<A, ChainFault>
     requires ready { IsReady chain.old.image end }
-    requires own { first_that_holds (own_refusals chain.old.image end (Requests.Str cmd dat)) ≡ None }
+    requires own { first_that_holds (own_refusals M.Kind.means chain.old.image end (Requests.Str cmd dat)) ≡ None }
     ensures { Begins M.Kind.means chain.old.image end (Requests.Str cmd dat) (said A.says result) chain.new.image }
 {
     done(send_ioctl(chain, end, cmd, dat), unanswered())
@@ -283,7 +283,7 @@ fn begin_flush_band<M: ModuleOf, A: Replied>(
 #[inline(never)]
 fn told<M: ModuleOf>(chain: &mut Chain<M>, end: End, request: &Request<Boxed<M>>) -> Reply
     requires tells { takes_no_memory request.now ≡ true }
-    requires own { first_that_holds (own_refusals chain.old.image end request.now) ≡ None }
+    requires own { first_that_holds (own_refusals M.Kind.means chain.old.image end request.now) ≡ None }
     ensures reply { result ≡ (begun_of M.Kind.means chain.old.image end request.now).reply }
     ensures image { chain.new.image ≡ (begun_of M.Kind.means chain.old.image end request.now).image }
     ensures bare { has_bytes result ≡ false }
@@ -311,7 +311,7 @@ fn begin_telling<M: ModuleOf, A: Replied>(
     request: Request<Boxed<M>>,
 ) -> Result<A, ChainFault>
     requires tells { takes_no_memory request ≡ true }
-    requires own { first_that_holds (own_refusals chain.old.image end request) ≡ None }
+    requires own { first_that_holds (own_refusals M.Kind.means chain.old.image end request) ≡ None }
     ensures begins { Begins M.Kind.means chain.old.image end request (said A.says result) chain.new.image }
 {
     let reply = told(chain, end, &request);
@@ -328,7 +328,7 @@ pub(crate) fn begin<M: ModuleOf, A: Replied>(
     back: &mut Back<M>,
 ) -> Result<A, ChainFault>
     requires may { MayBegin chain.old.image end request }
-    requires own { first_that_holds (own_refusals chain.old.image end request) ≡ None }
+    requires own { first_that_holds (own_refusals M.Kind.means chain.old.image end request) ≡ None }
     requires empty { back.old.items ≡ [] }
     ensures begins { Begins M.Kind.means chain.old.image end request (said A.says result) chain.new.image }
     ensures back { back.new.items ≡ handed_out (begun_of M.Kind.means chain.old.image end request).out }

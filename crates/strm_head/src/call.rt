@@ -32,13 +32,13 @@ use strm_read::read_refusal;
 
 /// A law, which nothing is done for: what may refuse a call is looked for in the order of the refusals.
 pub fn refusals_are_in_order<M: ModuleOf>()
-    ensures { AreRefusalsInOrder M.Kind }
+    ensures { AreRefusalsInOrder M.Kind.means }
 {}
 
 /// A law, which nothing is done for: of an end of which a poll tells neither that it is closed nor an error, what it tells and
 /// what would refuse calls there are one thing.
 pub fn poll_tells<M: ModuleOf>()
-    ensures { PollTells M.Kind }
+    ensures { PollTells M.Kind.means }
 {}
 
 /// The modules that come back of a call, each as `Some`, topmost first.
@@ -112,7 +112,7 @@ fn own_refusal<M: ModuleOf>(
     end: End,
     request: &Request<Boxed<M>>,
 ) -> Option<Refusal>
-    ensures { result ≡ first_that_holds (own_refusals chain.now.image end request.now) }
+    ensures { result ≡ first_that_holds (own_refusals M.Kind.means chain.now.image end request.now) }
 {
     match request {
         Request::Putmsg { flag, parts } => putmsg_refusal(chain, end, parts, *flag),
@@ -123,7 +123,7 @@ fn own_refusal<M: ModuleOf>(
         Request::Getpmsg { band, flag, .. } => getpmsg_refusal(chain, end, *band, *flag),
         Request::Read { max } => read_refusal(chain, end, *max),
         Request::Write { dat } => write_refusal(chain, end, dat),
-        Request::Push { .. } => push_refusal(chain, end),
+        Request::Push { instance } => push_refusal(chain, end, instance.shape()),
         Request::Getband => getband_refusal(chain, end),
         Request::Pop => pop_refusal(chain, end),
         Request::Take => take_refusal(chain, end),
@@ -143,7 +143,7 @@ pub(crate) fn first_refusal<M: ModuleOf>(
     end: End,
     request: &Request<Boxed<M>>,
 ) -> Option<Refusal>
-    ensures { result ≡ refusal_of chain.now.image end request.now }
+    ensures { result ≡ refusal_of M.Kind.means chain.now.image end request.now }
 {
     match request {
         Request::Close => closed_refusal(chain, end),
@@ -220,7 +220,7 @@ fn broken<M: ModuleOf, A: Replied>(chain: &mut Chain<M>) -> Answered<A>
 fn finish<M: ModuleOf, A: Replied>(chain: &mut Chain<M>, end: End, reply: A) -> Answered<A>
     ensures finishes { Finishes M.Kind.means end (begun chain.old.image (A.says reply)) result.answer result.moves [] chain.new.image }
     ensures broken { result.answer ≡ Answer.Broke → chain.old.image.broken ≡ false }
-    ensures still { NoneMay chain.old.image → result.answer ≢ Answer.Broke }
+    ensures still { NoneMay M.Kind.means chain.old.image → result.answer ≢ Answer.Broke }
     ensures looks { IsLooked result.answer result.moves result.looks }
     ensures given { AreGiven chain.old.image.broken result.answer result.looks chain.new.run.given }
     ensures bound { IsCalm M.Kind.means → IsBounded chain.old.image result.answer result.moves result.looks chain.new.image }
@@ -278,8 +278,8 @@ pub(crate) fn perform<M: ModuleOf, A: Replied>(
     request: Request<Boxed<M>>,
     back: &mut Back<M>,
 ) -> Answered<A>
-    requires kept { IsKept chain.old.image }
-    requires unrefused { refusal_of chain.old.image end request ≡ None }
+    requires kept { IsKept M.Kind.means chain.old.image }
+    requires unrefused { refusal_of M.Kind.means chain.old.image end request ≡ None }
     requires empty { back.old.items ≡ [] }
     ensures answers { Answers M.Kind.means chain.old.image end request result.answer result.moves (out_of M.Kind.means chain.old.image end request result.answer) chain.new.image }
     ensures back { back.new.items ≡ back_of M.Kind.means chain.old.image end request result.answer }
@@ -310,7 +310,7 @@ pub(crate) fn answer<M: ModuleOf, A: Replied>(
     request: Request<Boxed<M>>,
     back: &mut Back<M>,
 ) -> Answered<A>
-    requires kept { IsKept chain.old.image }
+    requires kept { IsKept M.Kind.means chain.old.image }
     requires empty { back.old.items ≡ [] }
     ensures answers { Answers M.Kind.means chain.old.image end request result.answer result.moves (out_of M.Kind.means chain.old.image end request result.answer) chain.new.image }
     ensures back { back.new.items ≡ back_of M.Kind.means chain.old.image end request result.answer }

@@ -4,14 +4,15 @@ ghost use Rattle.strm_msg.specs.Kind.{is_from_line};
 ghost use Rattle.strm_msg.specs.declared.words.End.TheVariants as Ends;
 ghost use Rattle.strm_qpair.specs.End.{pair_at};
 ghost use Rattle.strm_ends.specs.Image.{end_of, fresh};
+ghost use Rattle.strm_ends.specs.Order.{IsOrdered};
 ghost use Rattle.strm_call.specs.Setup.{are_marks};
 ghost use Rattle.strm_ioctl.specs.Names.{names_of};
 ghost use Rattle.strm_ioctl.specs.Outside.{first_output};
-ghost use Rattle.strm_module.specs.declared.shape.Shape.{Shape};
 ghost use Rattle.strm_call.specs.declared.request.Request.TheVariants as Requests;
 ghost use Rattle.strm_call.specs.declared.event.Event.TheVariants as Events;
 ghost use Rattle.strm_head.specs.Begin.{refusal_of, begun_of, takes_no_memory_at, back_of, out_of, wants_memory, BreaksNone};
 ghost use Rattle.strm_module.specs.Calm.{IsCalm};
+ghost use Rattle.strm_module.specs.Kinds.{AnswersStay};
 ghost use Rattle.strm_head.specs.Answered.{IsLooked, IsBounded};
 ghost use Rattle.strm_head.specs.Step.{can_arrive, Step};
 ghost use Rattle.strm_head.specs.Arrive.{Arrives};
@@ -49,7 +50,7 @@ impl<M: ModuleOf> Model for Stream<M> {
 
     ghost view = { λ s. s.chain.value.image };
 
-    ghost invariant = { λ s. IsKept s.chain.value.image };
+    ghost invariant = { λ s. IsKept M.Kind.means s.chain.value.image };
 }
 
 /// The marks, from the high one and the low one.
@@ -100,9 +101,11 @@ impl<M: ModuleOf> Stream<M> {
         self.chain.is_open(end)
     }
 
-    /// Whether memory ran out after a change, so that every later call but a close is refused.
+    /// Whether memory ran out after a change, so that every later call but a close is refused. Where it did not, no message goes round
+    /// a circle, if no message changes what the kinds answer.
     pub fn is_broken(&self) -> bool
-        ensures { result ≡ self.now.broken }
+        ensures value { result ≡ self.now.broken }
+        ensures ordered { result ≡ false → AnswersStay M.Kind.means → IsOrdered M.Kind.means self.now }
     {
         self.chain.is_broken()
     }
@@ -124,14 +127,14 @@ impl<M: ModuleOf> Stream<M> {
     /// What would refuse a call if it were made now: the first refusal that holds, but for want of
     /// memory. Nothing is done, and no memory is taken.
     pub fn refusal(&self, end: End, request: &Request<Boxed<M>>) -> Option<Refusal>
-        ensures { result ≡ refusal_of self.now end request.now }
+        ensures { result ≡ refusal_of M.Kind.means self.now end request.now }
     {
         first_refusal(&self.chain, end, request)
     }
 
     /// What would refuse a putmsg of these parts, as `refusal`. It looks at their lengths alone.
     pub fn putmsg_refusal(&self, end: End, parts: &Parts, flag: Priority) -> Option<Refusal>
-        ensures { result ≡ refusal_of self.now end (Requests.Putmsg flag parts.now) }
+        ensures { result ≡ refusal_of M.Kind.means self.now end (Requests.Putmsg flag parts.now) }
     {
         refusal_of_putmsg(&self.chain, end, parts, flag)
     }
@@ -144,16 +147,16 @@ impl<M: ModuleOf> Stream<M> {
         band: u8,
         flag: PutFlag,
     ) -> Option<Refusal>
-        ensures { result ≡ refusal_of self.now end (Requests.Putpmsg band flag parts.now) }
+        ensures { result ≡ refusal_of M.Kind.means self.now end (Requests.Putpmsg band flag parts.now) }
     {
         refusal_of_putpmsg(&self.chain, end, parts, band, flag)
     }
 
-    /// What would refuse a push of any module, as `refusal`.
-    pub fn push_refusal(&self, end: End) -> Option<Refusal>
-        ensures { (shape : Shape M.Kind) → result ≡ refusal_of self.now end (Requests.Push shape) }
+    /// What would refuse a push of a module of this shape, as `refusal`.
+    pub fn push_refusal(&self, end: End, shape: &Shape<M::Kind>) -> Option<Refusal>
+        ensures { result ≡ refusal_of M.Kind.means self.now end (Requests.Push shape.now) }
     {
-        refusal_of_push(&self.chain, end)
+        refusal_of_push(&self.chain, end, shape)
     }
 
     /// The shape of a module, counted from 1 for the topmost; `None` where there is none. A stream that

@@ -11,6 +11,7 @@ use strm_head::{
 use strm_module::{Boxed, Instance, Kind, Module, ModuleOf, Plain, Shape};
 use strm_msg::{BoxedMessage, Bytes, End, Errno, Message, NoMem};
 
+mod circles;
 mod histories;
 mod owners;
 mod tables;

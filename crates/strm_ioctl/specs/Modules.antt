@@ -2,19 +2,23 @@
 use Rattle.std.specs.Prelude.{ℕ, not, Bool, List, [], ◌∷◌, take}
 use Rattle.arrayvec.specs.ArrayVec.{ArrayVec}
 use Rattle.strm_msg.specs.declared.words.End.{End}
+use Rattle.strm_module.specs.Kinds.{Meaning}
 use Rattle.strm_module.specs.declared.shape.Shape.{Shape}
 use Rattle.strm_qpair.specs.Pair.{QueuePair}
 use Rattle.strm_qpair.specs.End.{shapes_of}
 use Rattle.strm_qpair.specs.Change.{has_room, inserted, removed}
 use Rattle.strm_ends.specs.Image.{Image, end_of, with_end}
+use Rattle.strm_ends.specs.Order.{goes_round}
 use Rattle.strm_call.specs.declared.refusal.Refusal.{Refusal}
 use Rattle.strm_call.specs.declared.refusal.Refusal.TheVariants.{Invalid, HungUp}
 use Rattle.strm_call.specs.declared.answer.Reply.TheVariants.{Push, Pop, Look}
 use Rattle.strm_call.specs.Begun.{Begun, begun, begun_taking}
 use Rattle.strm_ioctl.specs.Ask.{is_empty}
 
-abbrev pub push_refusals : {K : Type 0} → Image K → End → List (Bool × Refusal)
-push_refusals image e = (not (has_room (end_of image e)), Invalid) ∷ ((end_of image e).state.hung, HungUp) ∷ []
+-- there is no room for the module, or messages could go round a circle with it; or the end is hung up
+abbrev pub push_refusals : {K : Type 0} → Meaning K → Image K → End → Shape K → List (Bool × Refusal)
+push_refusals means image e shape =
+    (not (has_room (end_of image e)), Invalid) ∷ (goes_round means image e shape, Invalid) ∷ ((end_of image e).state.hung, HungUp) ∷ []
 
 -- just below the head, with empty queues
 abbrev pub push_begun : {K : Type 0} → Image K → End → Shape K → Begun (Image K) K

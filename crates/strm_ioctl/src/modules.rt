@@ -8,16 +8,20 @@ ghost use Rattle.strm_ioctl.specs.Modules.{push_refusals, pop_refusals, push_beg
 
 use strm_call::{Name, Refusal, Reply};
 use strm_chain::Chain;
-use strm_module::{Boxed, ModuleOf};
+use strm_module::{Boxed, ModuleOf, Shape};
 use strm_msg::End;
 
 /// The first of a push's own refusals that holds: EINVAL where as many modules stand there as may, or
-/// the end is closed, which is refused before; and ENXIO for an end that is hung up (streamio(7),
-/// I_PUSH).
-pub fn push_refusal<M: ModuleOf>(chain: &Chain<M>, end: End) -> Option<Refusal>
-    ensures { result ≡ first_that_holds (push_refusals chain.now.image end) }
+/// the end is closed, which is refused before; EINVAL where messages could go round a circle with a module of this shape
+/// (`Chain::goes_round`); and ENXIO for an end that is hung up (streamio(7), I_PUSH).
+pub fn push_refusal<M: ModuleOf>(
+    chain: &Chain<M>,
+    end: End,
+    shape: &Shape<M::Kind>,
+) -> Option<Refusal>
+    ensures { result ≡ first_that_holds (push_refusals M.Kind.means chain.now.image end shape.now) }
 {
-    if !chain.has_room(end) {
+    if !chain.has_room(end) || chain.goes_round(end, shape) {
         return Some(Refusal::Invalid);
     }
     if chain.state(end).hung {

@@ -3,9 +3,10 @@
 //! Without a word it says how much it puts through queues, rings and streams, with `--time` also how long that takes.
 //! `script FILE WORKERS` says how long the script of a file takes, `moves FILE` how many queues moved after each of its
 //! calls, and at how many places service looked. `retry FILE OFFERS` makes its calls one after another, and again where
-//! memory was wanting.
+//! memory was wanting. `echo` plays a discipline that answers what is typed.
 #![tactic(auto)]
 
+mod echo;
 mod feed;
 mod history;
 mod queue;
@@ -19,7 +20,8 @@ use std::sync::Wait;
 use std::thread::Threads;
 
 /// How the program is called.
-const USAGE: &str = "strm_measure [--time | script FILE WORKERS | moves FILE | retry FILE OFFERS]";
+const USAGE: &str =
+    "strm_measure [--time | script FILE WORKERS | moves FILE | retry FILE OFFERS | echo]";
 
 /// What a word of the command line is.
 fn word(words: &[String], i: usize) -> &str {
@@ -45,6 +47,9 @@ fn measure<R: Files + Print + Clock + Threads + Wait + AllocGlobal + Sync>(
     }
     if first == "retry" && many == 4 {
         return retry::play(rt, word(words, 2), word(words, 3));
+    }
+    if first == "echo" && many == 2 {
+        return echo::play(rt);
     }
     if is_timed || many == 1 {
         queue::measure(rt, is_timed)?;

@@ -7,7 +7,7 @@ use Rattle.strm_msg.specs.declared.kind.MsgKind.TheVariants.{MData}
 use Rattle.strm_msg.specs.declared.words.Side.TheVariants.{Rd}
 use Rattle.strm_bytes.specs.Bytes.{rest_len, whole_lines}
 use Rattle.strm_module.specs.Kinds.{OutList, Action, all_go_up}
-use Rattle.strm_module.specs.Builtin.{line_splits, crnl_action, line_action, ordinary_action, builtin}
+use Rattle.strm_module.specs.Builtin.{line_splits, crnl_action, line_action, ordinary_action, builtin_acts}
 use Rattle.strm_module.specs.declared.kind.TheConstants.{MOST_KEPT}
 use Rattle.strm_module.specs.declared.kind.Kind.{Kind}
 use Rattle.strm_module.specs.declared.kind.Kind.TheVariants.{CrNl, Line}
@@ -42,5 +42,5 @@ ordinary_up CrNl m = crnl_up m.kind m
 ordinary_up kind m = refl
 
 -- what comes up is only sent further up
-pub builtin_up : (kind : Kind) (m : Msg) → all_go_up (builtin kind Rd m).outs ≡ true
+pub builtin_up : (kind : Kind) (m : Msg) → all_go_up (builtin_acts kind Rd m).outs ≡ true
 builtin_up kind m = action_if_up (is_high m.kind) _ _ refl (ordinary_up kind m)

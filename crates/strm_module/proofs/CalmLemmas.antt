@@ -9,8 +9,8 @@ use Rattle.strm_msg.specs.declared.words.Side.{Side}
 use Rattle.strm_msg.specs.declared.words.Side.TheVariants.{Rd, Wr}
 use Rattle.strm_bytes.specs.Bytes.{mapped, with_cr, without_cr, rest_len, whole_lines}
 use Rattle.strm_module.specs.Calm.{is_calm, are_calm, puts_calm, options_by, options_of, options_sent, puts_options, IsCalm}
-use Rattle.strm_module.specs.Builtin.{line_splits, table_action, crnl_action, line_action, count_action, band_action, tee_action, mute_action, split_action, ordinary_action, builtin}
-use Rattle.strm_module.specs.Kinds.{OutList, Action, Meaning}
+use Rattle.strm_module.specs.Builtin.{line_splits, table_action, crnl_action, line_action, count_action, band_action, tee_action, mute_action, split_action, ordinary_action, builtin_acts, builtin_answers, builtin}
+use Rattle.strm_module.specs.Kinds.{OutList, Action, Acts, Meaning, serving}
 use Rattle.strm_module.specs.Module.{serve_of, put_of, is_queued}
 use Rattle.strm_module.specs.declared.kind.Kind.{Kind}
 use Rattle.strm_module.specs.declared.kind.Kind.TheVariants.{Pass, Table, CrNl, Line, Count, Band, Tee, Mute, Split}
@@ -26,7 +26,7 @@ ordinary_calm kind e = refl
 
 -- what a service sends of a calm message is calm
 pub serve_calm : {K : Type 0} (means : Meaning K) (s : Shape K) (side : Side) (m : Msg) → IsCalm means → is_calm m.kind ≡ true → are_calm (serve_of means s side m).outs ≡ true
-serve_calm means s side m calm h = calm.calm s.kind side m h
+serve_calm means s side m calm h = calm.makes.calm s.kind side m h
 
 -- and what a put sends at once
 pub put_calm : {K : Type 0} (means : Meaning K) (s : Shape K) (side : Side) (m : Msg) → IsCalm means → is_calm m.kind ≡ true → puts_calm (put_of means s side m).answer ≡ true
@@ -38,7 +38,7 @@ put_calm means s side m calm h =
 
 -- and neither sets more options
 pub serve_keeps : {K : Type 0} (means : Meaning K) (s : Shape K) (side : Side) (m : Msg) (b : Bool) → IsCalm means → options_sent b (serve_of means s side m).outs ≤ options_of b m
-serve_keeps means s side m b calm = calm.options b s.kind side m
+serve_keeps means s side m b calm = calm.makes.options b s.kind side m
 
 pub put_keeps : {K : Type 0} (means : Meaning K) (s : Shape K) (side : Side) (m : Msg) (b : Bool) → IsCalm means → puts_options b (put_of means s side m).answer ≤ options_of b m
 put_keeps means s side m b calm =
@@ -235,11 +235,17 @@ acts_keep b Tee side m = tee_keeps b side m.kind m refl
 acts_keep b Mute side m = mute_keeps b side m.kind m
 acts_keep b (Split n) side m = split_keeps b n side m.kind m
 
+-- kinds that always serve are calm where what they make of a calm message is
+pub serving_calm : {K : Type 0} (acts : Acts K) (answers : K → Side → Bool) → ((kind : K) (side : Side) (m : Msg) → is_calm m.kind ≡ true → are_calm (acts kind side m).outs ≡ true) → ((b : Bool) (kind : K) (side : Side) (m : Msg) → options_sent b (acts kind side m).outs ≤ options_of b m) → IsCalm (serving acts answers)
+serving_calm acts answers calm options =
+    record {
+      makes = record { calm = calm; options = options; own = λ kind side. refl; own_options = λ b kind side. omega arith };
+      steady = record { acts = λ kind side other m. refl; own = λ kind side other. refl };
+    }
+
 -- what the built-in kinds make of a calm message is calm, and sets no more options
 pub builtin_calm : IsCalm builtin
 builtin_calm =
-    record {
-      calm = λ kind side m h.
-          action_if_calm (is_high m.kind) _ _ (one_calm (is_calm m.kind) h) (acts_calm kind side m h);
-      options = λ b kind side m. action_if_keeps b (is_high m.kind) m _ _ (same_keeps b side m) (acts_keep b kind side m);
-    }
+    serving_calm builtin_acts builtin_answers
+    (λ kind side m h. action_if_calm (is_high m.kind) _ _ (one_calm (is_calm m.kind) h) (acts_calm kind side m h))
+    (λ b kind side m. action_if_keeps b (is_high m.kind) m _ _ (same_keeps b side m) (acts_keep b kind side m))

@@ -1,3 +1,4 @@
 pub mod ProcedureLemmas
 pub mod BuiltinLemmas
 pub mod CalmLemmas
+pub mod AnswerLemmas

@@ -5,7 +5,7 @@ use Rattle.strm_msg.specs.Message.{Msg}
 use Rattle.strm_msg.specs.declared.words.Side.{Side}
 use Rattle.strm_module.specs.Kinds.{Meaning}
 use Rattle.strm_module.specs.Shape.{queues_on, IsSameModule}
-use Rattle.strm_module.specs.Module.{serve_of, Taken, put_of, is_queued, IsQueued}
+use Rattle.strm_module.specs.Module.{serve_of, own_of, Taken, put_of, is_queued, IsQueued}
 use Rattle.strm_module.specs.declared.shape.Shape.{Shape}
 use Rattle.strm_module.specs.declared.outs.Put.{Put}
 use Rattle.strm_module.specs.declared.outs.Put.TheVariants.{Queue, Sent}
@@ -56,3 +56,7 @@ module _ {K : Type 0} (means : Meaning K) where
   pub put_queues : {E : Type 0} (r : Result Put E) (old new : Shape K) (side : Side) (m : Msg) → IfOk r (λ put. put ≡ (put_of means old side m).answer) → OnOk r (new ≡ (put_of means old side m).shape) → IfOk r (λ put. IsQueued put side m old new)
   put_queues (Ok put) old new side m answer after = rw (answer, after) (put_of_queued old side m)
   put_queues (Err fault) old new side m answer after = answer
+
+  pub own_keeps : {T F : Type 0} (r : Result T F) (old new : Shape K) (side : Side) → OnOk r (new ≡ (own_of means old side).shape) → OnErr r (new ≡ old) → IsSameModule old new
+  own_keeps (Ok outs) old new side after err = rw after (record { serial = refl; name = refl; rd = refl; wr = refl })
+  own_keeps (Err fault) old new side after err = rw err (record { serial = refl; name = refl; rd = refl; wr = refl })

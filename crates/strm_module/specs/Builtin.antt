@@ -1,6 +1,6 @@
 -- What each of the built-in kinds makes of a message that it doesn't queue (Programmer's Guide: STREAMS,
 -- "Modules" and "Message Types").
-use Rattle.std.specs.Prelude.{ℕ, ◌==◌, nat_lt, true, Some, None, List, [], ◌∷◌, ◌++◌, if◌then◌else◌, length, take, drop, option_map, unwrap_or}
+use Rattle.std.specs.Prelude.{ℕ, ◌==◌, nat_lt, Bool, true, false, Some, None, List, [], ◌∷◌, ◌++◌, if◌then◌else◌, length, take, drop, option_map, unwrap_or}
 use Rattle.strm_msg.specs.Count.{one_more}
 use Rattle.strm_msg.specs.Kind.{is_high}
 use Rattle.strm_msg.specs.Message.{Msg, part_len, data_msg}
@@ -8,7 +8,7 @@ use Rattle.strm_msg.specs.declared.kind.MsgKind.{MsgKind}
 use Rattle.strm_msg.specs.declared.kind.MsgKind.TheVariants.{MData, MProto, MIoctl, MFlush}
 use Rattle.strm_msg.specs.declared.words.Side.{Side}
 use Rattle.strm_msg.specs.declared.words.Side.TheVariants.{Rd, Wr}
-use Rattle.strm_module.specs.Kinds.{OutList, Action, Meaning, kept, passed_on, replied, answered}
+use Rattle.strm_module.specs.Kinds.{OutList, Action, Acts, Meaning, serving, kept, passed_on, replied, answered}
 use Rattle.strm_module.specs.declared.kind.TheConstants.{MOST_KEPT}
 use Rattle.strm_bytes.specs.Bytes.{mapped, with_cr, without_cr, rest_len, whole_lines, rest_of_line}
 use Rattle.strm_module.specs.declared.kind.Kind.{Kind}
@@ -102,7 +102,16 @@ flushed_kind (Line partial) (MFlush true w (Some band)) =
 flushed_kind kind m = kind
 
 -- what the built-in kinds make of any message: a high one goes on as it is, along its side
-abbrev pub builtin : Meaning Kind
-builtin kind side m =
+abbrev pub builtin_acts : Acts Kind
+builtin_acts kind side m =
     if is_high m.kind then passed_on (flushed_kind kind m.kind) side m
     else ordinary_action kind side m
+
+-- what goes down is answered by a tee alone, and what comes up by none
+abbrev pub builtin_answers : Kind → Side → Bool
+builtin_answers Tee Wr = true
+builtin_answers kind side = false
+
+-- the built-in kinds always serve what waits
+abbrev pub builtin : Meaning Kind
+builtin = serving builtin_acts builtin_answers

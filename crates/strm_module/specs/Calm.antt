@@ -47,7 +47,20 @@ abbrev pub puts_options : Bool → Put → ℕ
 puts_options answered (Queue m) = options_of answered m
 puts_options answered (Sent outs) = options_sent answered outs.items
 
--- what the kinds of a vocabulary make of a calm message is calm, and options leave only where they came
+-- what the kinds of a vocabulary make of a calm message is calm, and options leave only where they came; what they send of their own
+-- is calm, and no options
+pub record MakesCalm {K : Type 0} (means : Meaning K) : Type 0 where
+  pub calm : (kind : K) (side : Side) (m : Msg) → is_calm m.kind ≡ true → are_calm (means.acts kind side m).outs ≡ true
+  pub options : (answered : Bool) (kind : K) (side : Side) (m : Msg) → options_sent answered (means.acts kind side m).outs ≤ options_of answered m
+  pub own : (kind : K) (side : Side) → are_calm (means.own kind side).outs ≡ true
+  pub own_options : (answered : Bool) (kind : K) (side : Side) → options_sent answered (means.own kind side).outs ≤ 0
+
+-- no message, and nothing that a kind sends of its own, changes what a service would do
+pub record IsSteady {K : Type 0} (means : Meaning K) : Type 0 where
+  pub acts : (kind : K) (side other : Side) (m : Msg) → means.turn (means.acts kind side m).kind other ≡ means.turn kind other
+  pub own : (kind : K) (side other : Side) → means.turn (means.own kind side).kind other ≡ means.turn kind other
+
+-- service has no more to do after a message than the message itself makes
 pub record IsCalm {K : Type 0} (means : Meaning K) : Type 0 where
-  pub calm : (kind : K) (side : Side) (m : Msg) → is_calm m.kind ≡ true → are_calm (means kind side m).outs ≡ true
-  pub options : (answered : Bool) (kind : K) (side : Side) (m : Msg) → options_sent answered (means kind side m).outs ≤ options_of answered m
+  pub makes : MakesCalm means
+  pub steady : IsSteady means

@@ -1,9 +1,11 @@
 -- What a vocabulary of kinds means, and what holds of every vocabulary (Programmer's Guide: STREAMS, "Modules").
-use Rattle.std.specs.Prelude.{ℕ, Bool, true, false, List, [], ◌∷◌}
+use Rattle.std.specs.Prelude.{◌≡◌, ℕ, Bool, true, false, List, [], ◌∷◌}
 use Rattle.std.specs.List.{list_all}
 use Rattle.strm_msg.specs.Message.{Msg, Part, ack_msg}
 use Rattle.strm_msg.specs.declared.words.Side.{Side}
 use Rattle.strm_msg.specs.declared.words.Side.TheVariants.{Rd, Wr}
+use Rattle.strm_module.specs.declared.turn.Turn.{Turn}
+use Rattle.strm_module.specs.declared.turn.Turn.TheVariants.{Serves}
 
 -- messages in the order in which they leave, each with its side: `Wr` goes down, `Rd` goes up
 abbrev pub OutList : Type 0
@@ -28,8 +30,26 @@ pub record Action (K : Type 0) : Type 0 where
   pub outs : OutList
 
 -- what the kinds of a vocabulary make of a message that is not queued
-abbrev pub Meaning : Type 0 → Type 0
-Meaning K = K → Side → Msg → Action K
+abbrev pub Acts : Type 0 → Type 0
+Acts K = K → Side → Msg → Action K
+
+-- what the kinds of a vocabulary make of a message, what their service would do now on a side, what they send of their own, and
+-- whether ordinary messages of a side may be answered on the other
+pub record Meaning (K : Type 0) : Type 0 where
+  pub acts : Acts K
+  pub turn : K → Side → Turn
+  pub own : K → Side → Action K
+  pub answers : K → Side → Bool
+
+-- kinds that always serve what waits, and send nothing of their own
+abbrev pub serving : {K : Type 0} → Acts K → (K → Side → Bool) → Meaning K
+serving acts answers =
+    record { acts = acts; turn = λ kind side. Serves; own = λ kind side. record { kind = kind; outs = [] }; answers = answers }
+
+-- no message, and nothing that a kind sends of its own, changes on which sides it answers
+pub record AnswersStay {K : Type 0} (means : Meaning K) : Type 0 where
+  pub acts : (kind : K) (side other : Side) (m : Msg) → means.answers (means.acts kind side m).kind other ≡ means.answers kind other
+  pub own : (kind : K) (side other : Side) → means.answers (means.own kind side).kind other ≡ means.answers kind other
 
 -- nothing leaves
 abbrev pub kept : {K : Type 0} → K → Action K

@@ -29,7 +29,13 @@ module _ {K : Type 0} (means : Meaning K) where
   -- a message is served: only what the kind keeps can change
   abbrev pub serve_of : Shape K → Side → Msg → Served K
   serve_of s side m =
-      let action = means s.kind side m in
+      let action = means.acts s.kind side m in
+      record { shape = record s { kind = action.kind }; outs = action.outs }
+
+  -- something of the module's own is sent
+  abbrev pub own_of : Shape K → Side → Served K
+  own_of s side =
+      let action = means.own s.kind side in
       record { shape = record s { kind = action.kind }; outs = action.outs }
 
   -- a message comes to the module: it is queued unchanged and changes nothing, or is served at once

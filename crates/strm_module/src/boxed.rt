@@ -1,7 +1,7 @@
 //! A module in a box of its own, and what a module is and keeps in one.
 ghost use Rattle.std.specs.Prelude.{◌≡◌, IfOk, OnOk, OnErr};
 ghost use Rattle.strm_module.specs.Shape.{IsSameModule};
-ghost use Rattle.strm_module.specs.Module.{put_of, serve_of, IsQueued};
+ghost use Rattle.strm_module.specs.Module.{put_of, serve_of, own_of, IsQueued};
 
 use crate::instance::Instance;
 use crate::kind::Kind;
@@ -70,6 +70,16 @@ impl<M: ModuleOf> Boxed<M> {
         ensures same { IsSameModule self.old self.new }
     {
         self.instance.serve(alloc, side, m)
+    }
+
+    /// The module sends something of its own on a side (srv(9E)). Refused for want of memory alone: then the shape is as before.
+    pub fn own(&mut self, alloc: Global, side: Side) -> Result<Outs, NoMem>
+        ensures outs { IfOk result (λ outs. outs.items ≡ (own_of M.Kind.means self.old side).outs) }
+        ensures after { OnOk result (self.new ≡ (own_of M.Kind.means self.old side).shape) }
+        ensures err { OnErr result (self.new ≡ self.old) }
+        ensures same { IsSameModule self.old self.new }
+    {
+        self.instance.own(alloc, side)
     }
 }
 

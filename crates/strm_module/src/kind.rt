@@ -6,6 +6,7 @@ use crate::acts::{
     act_band, act_count, act_crnl, act_line, act_mute, act_split, act_table, act_tee,
 };
 use crate::outs::{Outs, pass_on};
+use crate::turn::Turn;
 use crate::vocabulary::Kinds;
 use std::alloc::Global;
 use strm_msg::{BoxedMessage, Bytes, Class, MsgKind, NoMem, Side};
@@ -114,6 +115,18 @@ impl Kinds for Kind {
             }
             Class::Ordinary => act(alloc, self, side, m),
         }
+    }
+
+    fn turn(&self, _side: Side) -> Turn {
+        Turn::Serves
+    }
+
+    fn own(&mut self, _alloc: Global, _side: Side) -> Result<Outs, NoMem> {
+        Ok(Outs::new())
+    }
+
+    fn answers(&self, side: Side) -> bool {
+        matches!((self, side), (Kind::Tee, Side::Wr))
     }
 
     fn copy(&self, alloc: Global) -> Result<Kind, NoMem> {

@@ -22,15 +22,17 @@ mod outs;
 mod plain;
 mod procedures;
 mod shape;
+mod turn;
 mod vocabulary;
 
 pub use boxed::{Boxed, BoxedShape};
 pub use driver::{Driver, MOST_MODULES};
 pub use instance::Instance;
 pub use kind::{Kind, MOST_KEPT, MOST_SPLIT};
-pub use laws::builtin_are_calm;
+pub use laws::{builtin_answers_stay, builtin_are_calm};
 pub use module::{Module, ModuleOf};
 pub use outs::{Outs, Put, both, pass_on, reply};
 pub use plain::Plain;
 pub use shape::{LONGEST_NAME, MakeFault, Shape};
+pub use turn::Turn;
 pub use vocabulary::Kinds;

@@ -1,7 +1,7 @@
 //! The interface of a module.
 ghost use Rattle.std.specs.Prelude.{◌≡◌, IfOk, OnOk, OnErr};
 ghost use Rattle.strm_module.specs.Builtin.{builtin};
-ghost use Rattle.strm_module.specs.Module.{put_of, serve_of};
+ghost use Rattle.strm_module.specs.Module.{put_of, serve_of, own_of};
 
 use crate::kind::Kind;
 use crate::outs::{Outs, Put};
@@ -30,7 +30,7 @@ use strm_msg::{BoxedMessage, NoMem, Side};
 /// round from the write side to the read side, as the answer to an ioctl; what comes up is only
 /// sent further up.
 ///
-/// # What the two do
+/// # What they do
 ///
 /// `put` is called for each message that comes. Queueing is an answer and no act: for an ordinary
 /// message of a side with marks it is `Queue`, with the message unchanged, and the shape stays as
@@ -42,13 +42,14 @@ use strm_msg::{BoxedMessage, NoMem, Side};
 /// `serve` is called with a message that was taken from the module's queue, once the queue ahead
 /// is not full in the message's band. It sends what the module makes of it.
 ///
-/// Both are called while another message is on its way, and neither is handed anything to block
-/// on.
+/// `own` is called in the place of `serve` while the kind says that a side sends something of its own.
+///
+/// All are called while another message is on its way, and none is handed anything to block on.
 ///
 /// # What is asked
 ///
-/// After `Ok` the answer and the shape are those that `put_of` and `serve_of` give for the shape
-/// before: `Shape::put` and `Shape::serve` do just that, and so do both procedures where an
+/// After `Ok` the answer and the shape are those that `put_of`, `serve_of` and `own_of` give for the shape
+/// before: `Shape::put`, `Shape::serve` and `Shape::own` do just that, and so do the procedures where an
 /// implementation leaves them out:
 ///
 /// ```
@@ -101,6 +102,22 @@ pub trait ModuleOf: Send + Drop {
     {
         shape.serve(alloc, side, m)
     }
+
+    /// The module sends something of its own on a side (srv(9E)).
+    ///
+    /// Refused for want of memory alone: then the shape is as before.
+    fn own(
+        &mut self,
+        alloc: Global,
+        shape: &mut Shape<Self::Kind>,
+        side: Side,
+    ) -> Result<Outs, NoMem>
+        ensures outs { IfOk result (λ outs. outs.items ≡ (own_of Self.Kind.means shape.old side).outs) }
+        ensures after { OnOk result (shape.new ≡ (own_of Self.Kind.means shape.old side).shape) }
+        ensures err { OnErr result (shape.new ≡ shape.old) }
+    {
+        shape.own(alloc, side)
+    }
 }
 
 /// A module of the built-in kinds, which may be boxed: what `ModuleOf` asks for the vocabulary `Kind`,
@@ -142,6 +159,17 @@ pub trait Module: Send + Drop {
     {
         shape.serve(alloc, side, m)
     }
+
+    /// Something of the module's own is sent on a side (srv(9E)).
+    ///
+    /// Refused for want of memory alone: then the shape is as before.
+    fn own(&mut self, alloc: Global, shape: &mut Shape, side: Side) -> Result<Outs, NoMem>
+        ensures outs { IfOk result (λ outs. outs.items ≡ (own_of builtin shape.old side).outs) }
+        ensures after { OnOk result (shape.new ≡ (own_of builtin shape.old side).shape) }
+        ensures err { OnErr result (shape.new ≡ shape.old) }
+    {
+        shape.own(alloc, side)
+    }
 }
 
 /// A boxed module is a module: each call goes to the object in the box.
@@ -164,6 +192,10 @@ impl Module for Box<dyn Module> {
         m: BoxedMessage,
     ) -> Result<Outs, NoMem> {
         (**self).serve(alloc, shape, side, m)
+    }
+
+    fn own(&mut self, alloc: Global, shape: &mut Shape, side: Side) -> Result<Outs, NoMem> {
+        (**self).own(alloc, shape, side)
     }
 }
 
@@ -189,5 +221,9 @@ impl<M: Module> ModuleOf for M {
         m: BoxedMessage,
     ) -> Result<Outs, NoMem> {
         Module::serve(self, alloc, shape, side, m)
+    }
+
+    fn own(&mut self, alloc: Global, shape: &mut Shape, side: Side) -> Result<Outs, NoMem> {
+        Module::own(self, alloc, shape, side)
     }
 }

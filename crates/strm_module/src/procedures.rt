@@ -3,10 +3,11 @@ ghost use Rattle.std.specs.Prelude.{◌≡◌, IfOk, OnOk, OnErr, IsTrue};
 ghost use Rattle.strm_msg.specs.declared.words.Side.TheVariants as Side;
 ghost use Rattle.strm_module.specs.Kinds.{all_go_up};
 ghost use Rattle.strm_module.specs.Shape.{IsSameModule};
-ghost use Rattle.strm_module.specs.Module.{put_of, serve_of, sends_up};
+ghost use Rattle.strm_module.specs.Module.{put_of, serve_of, own_of, sends_up};
 
 use crate::outs::{Outs, Put};
 use crate::shape::Shape;
+use crate::turn::Turn;
 use crate::vocabulary::Kinds;
 use std::alloc::Global;
 use strm_msg::{BoxedMessage, Class, NoMem, Side as Sides};
@@ -40,5 +41,32 @@ impl<K: Kinds> Shape<K> {
         ensures upward { side ≡ Side.Rd → IfOk result (λ outs. IsTrue (all_go_up outs.items)) }
     {
         self.kind.process(alloc, side, m)
+    }
+
+    /// What a module of this shape sends of its own on a side (srv(9E)).
+    ///
+    /// Refused for want of memory alone: then the shape is as before.
+    pub fn own(&mut self, alloc: Global, side: Sides) -> Result<Outs, NoMem>
+        ensures outs { IfOk result (λ outs. outs.items ≡ (own_of K.means self.old side).outs) }
+        ensures after { OnOk result (self.new ≡ (own_of K.means self.old side).shape) }
+        ensures err { OnErr result (self.new ≡ self.old) }
+        ensures same { IsSameModule self.old self.new }
+        ensures upward { side ≡ Side.Rd → IfOk result (λ outs. IsTrue (all_go_up outs.items)) }
+    {
+        self.kind.own(alloc, side)
+    }
+
+    /// What the service of a side would do now (srv(9E)).
+    pub fn turn(&self, side: Sides) -> Turn
+        ensures { result ≡ K.means.turn self.now.kind side }
+    {
+        self.kind.turn(side)
+    }
+
+    /// Whether a module of this shape may answer ordinary messages of a side on the other side.
+    pub fn answers(&self, side: Sides) -> bool
+        ensures { result ≡ K.means.answers self.now.kind side }
+    {
+        self.kind.answers(side)
     }
 }

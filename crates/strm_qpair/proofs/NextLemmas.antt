@@ -1,5 +1,5 @@
 -- The next queue as the number of a module, and what stands first in it.
-use Rattle.std.proofs.Common.{◌≡◌, ◌≢◌, ◌<◌, ◌≤◌, ◌+◌, ◌-◌, ◌++◌, not, ℕ, Bool, true, false, Option, Some, None, List, [], ◌∷◌, length, take, drop, reverse, slice_get, slice_index_or, nat_le, min, is_some, if◌then◌else◌, option_map, refl, subst, ap, sym, arith, suc, zero}
+use Rattle.std.proofs.Common.{◌≡◌, ◌≢◌, ◌<◌, ◌≤◌, ◌+◌, ◌-◌, ◌++◌, not, ℕ, Bool, true, false, Option, Some, None, List, [], ◌∷◌, length, take, drop, reverse, slice_get, slice_index_or, cond, nat_le, min, is_some, if◌then◌else◌, option_map, refl, subst, ap, sym, arith, suc, zero}
 use Rattle.std.proofs.lemmas.Bool.{leb-true, leb-false}
 use Rattle.std.proofs.lemmas.List.{drop_all, reverse-append, length-map}
 use Rattle.std.proofs.lemmas.Option.{slice_get-map, slice_get_within}
@@ -19,6 +19,8 @@ use Rattle.strm_qpair.specs.End.{EndState, pair_at, list_at, list_found}
 use Rattle.strm_qpair.specs.Modules.{Identity, identity_of, identities_of, are_ordinary, waits_in, waits_well, HoldsCalm}
 use Rattle.strm_qpair.specs.Canput.{Fill, fill_with, fill_on, or_else, first_fill, head_fill, driver_fill, above, below}
 use Rattle.strm_qpair.specs.Next.{marks_for, marks_at, identity_at, has_queue, first_from, last_below, next_below, next_above, queue_found, queue_at, or_at}
+use Rattle.strm_module.specs.Kinds.{Meaning}
+use Rattle.strm_qpair.specs.Offer.{offer_by, offer_found, turn_found, turn_at, offer_at}
 use Rattle.strm_qpair.proofs.EndLemmas.{pair_at-found}
 use Rattle.strm_qpair.proofs.WaitLemmas.{all-at, waits-on, is_low}
 
@@ -300,3 +302,17 @@ last_below-first side ids (suc i) =
           let least : min (suc i - 1) (length ids) + 1 ≡ suc i = omega arith in
           rw least refl
     ] refl
+
+module _ {K : Type 0} (means : Meaning K) where
+  offer_is_found : (side : Side) (o : Option (QueuePair K)) → offer_found means o side ≡ cond (is_some (marks_at side (option_map identity o))) (offer_by (turn_found means o side) (list_found o side)) None
+  offer_is_found side None = refl
+  offer_is_found Rd (Some s) = refl
+  offer_is_found Wr (Some s) = refl
+
+  -- an offer is that of a queue that is there: by what the service would do, and what waits
+  pub offer_is : (e : EndState K) (side : Side) (i : ℕ) → offer_at means e i side ≡ cond (has_queue side (identities_of e.modules) i) (offer_by (turn_at means e i side) (list_at e i side)) None
+  offer_is e side i = rw (identity-found e.modules i) (offer_is_found side (pair_at e.modules i))
+
+pub if_some_there : {X : Type 0} (b : Bool) (o : Option X) → is_some (cond b o None) ≡ true → b ≡ true
+if_some_there true o h = refl
+if_some_there false o h = cc

@@ -5,5 +5,7 @@ pub mod Head
 pub mod Driver
 pub mod Canput
 pub mod Next
+pub mod Offer
 pub mod Change
+pub mod Order
 pub mod Inside

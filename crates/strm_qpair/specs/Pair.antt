@@ -8,7 +8,9 @@ use Rattle.strm_msg.specs.declared.words.Side.TheVariants.{Rd, Wr}
 use Rattle.strm_msg.specs.Marks.{WaterMarks}
 use Rattle.strm_queue.specs.Queue.{Queue, put_in, flush_of, flush_band_of}
 use Rattle.strm_module.specs.Kinds.{OutList, Meaning}
-use Rattle.strm_module.specs.Module.{put_of, serve_of}
+use Rattle.strm_module.specs.Module.{put_of, serve_of, own_of}
+use Rattle.strm_module.specs.declared.turn.Turn.{Turn}
+use Rattle.strm_module.specs.declared.turn.Turn.TheVariants.{Serves, Shut, Sends}
 use Rattle.strm_module.specs.declared.shape.Shape.{Shape}
 use Rattle.strm_module.specs.declared.outs.Put.{Put}
 use Rattle.strm_module.specs.declared.outs.Put.TheVariants.{Queue as Queued, Sent}
@@ -78,5 +80,13 @@ module _ {K : Type 0} (means : Meaning K) where
       let served = serve_of means s.shape side m in
       record { pair = record (with_list s side q) { shape = served.shape }; outs = served.outs }
 
+  -- by what its service would do: nothing may be done, or something of the module's own be sent
+  abbrev pub pair_turns : QueuePair K → Side → Turn → PairStep K
+  pair_turns s side Serves = pair_front s side (list_on s side)
+  pair_turns s side Shut = record { pair = s; outs = [] }
+  pair_turns s side (Sends band) =
+      let sent = own_of means s.shape side in
+      record { pair = record s { shape = sent.shape }; outs = sent.outs }
+
   abbrev pub pair_serves : QueuePair K → Side → PairStep K
-  pair_serves s side = pair_front s side (list_on s side)
+  pair_serves s side = pair_turns s side (means.turn s.shape.kind side)

@@ -2,14 +2,17 @@
 ghost use Rattle.std.specs.Prelude.{◌≡◌, ◌∷◌, [], ◌<◌, ◌≤◌, OnOk, OnErr, IfOk, IfSome, IfNone, Some, true, length, map, option_map, option_copied, slice_get, vec_capacity};
 ghost use Rattle.strm_qpair.specs.End.{KeepsRoom, shapes_of, pair_at, list_at, end_gets, end_serves};
 ghost use Rattle.strm_qpair.specs.Modules.{SameEnd, IsFitEnd, HoldsCalm};
+ghost use Rattle.strm_qpair.specs.Offer.{offer_at, turn_at};
 ghost use Rattle.strm_qpair.specs.Change.{has_room, inserted, removed, closed, fresh_end};
+ghost use Rattle.strm_qpair.specs.Order.{some_answers};
 
+use crate::offer::Offer;
 use crate::pair::Pair;
 use crate::record::Record;
 use arrayvec::ArrayVec;
 use std::alloc::Global;
 use std::marker::Model;
-use strm_module::{Boxed, MOST_MODULES, ModuleOf, Outs, Shape};
+use strm_module::{Boxed, MOST_MODULES, ModuleOf, Outs, Shape, Turn};
 use strm_msg::{BoxedMessage, Message, NoMem, Prot, ReadMode, Side};
 use strm_queue::{BandQueue, Marks};
 
@@ -189,6 +192,42 @@ impl<M: ModuleOf> StreamEnd<M> {
         }
         self.pairs[i - 1].front(side)
     }
+
+    /// What the service of a module's side would do now; one that is not there takes what waits.
+    pub fn turn(&self, i: u8, side: Side) -> Turn
+        ensures { result ≡ turn_at M.Kind.means self.now.state i side }
+    {
+        let i = usize::from(i);
+        if i == 0 || i > self.pairs.len() {
+            return Turn::Serves;
+        }
+        self.pairs[i - 1].shape().turn(side)
+    }
+
+    /// What the service of a module's side would move now.
+    pub fn offer(&self, i: u8, side: Side) -> Option<Offer>
+        ensures { result ≡ offer_at M.Kind.means self.now.state i side }
+    {
+        let i = usize::from(i);
+        if i == 0 || i > self.pairs.len() {
+            return None;
+        }
+        self.pairs[i - 1].offer(side)
+    }
+
+    /// Whether one of the modules may answer ordinary messages of a side on the other side.
+    pub fn answers(&self, side: Side) -> bool
+        ensures { result ≡ some_answers M.Kind.means side self.now.state.modules }
+    {
+        some_answers(&self.pairs, side)
+    }
+}
+
+/// Whether one of these modules may answer ordinary messages of a side on the other side.
+fn some_answers<M: ModuleOf>(pairs: &[Pair<M>], side: Side) -> bool
+    ensures { result ≡ some_answers M.Kind.means side pairs.now }
+{
+    pairs.iter().any(|pair| pair.shape().answers(side))
 }
 
 /// Takes all modules out, topmost first, and drops what their queues hold.

@@ -7,9 +7,11 @@
 
 mod driver;
 mod end;
+mod offer;
 mod pair;
 mod record;
 
 pub use driver::DriverSends;
 pub use end::StreamEnd;
+pub use offer::Offer;
 pub use record::Record;

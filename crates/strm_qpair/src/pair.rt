@@ -2,13 +2,15 @@
 ghost use Rattle.std.specs.Prelude.{◌≡◌, [], ◌∷◌, IfOk, OnOk, OnErr, IsSome, IfSome, IfNone, true, length, option_map, option_copied, slice_get};
 ghost use Rattle.strm_queue.specs.Queue.{put_in};
 ghost use Rattle.strm_module.specs.Shape.{queues_on};
-ghost use Rattle.strm_qpair.specs.Pair.{messages_in, marks_in, list_on, fresh_pair, flushed, flushed_pair, pair_gets, pair_serves};
+ghost use Rattle.strm_qpair.specs.Pair.{messages_in, marks_in, list_on, fresh_pair, flushed, flushed_pair, pair_gets, pair_front, pair_serves};
 ghost use Rattle.strm_qpair.specs.Modules.{identity_of, is_fit, is_fit_module, waits_well};
 ghost use Rattle.strm_qpair.specs.Canput.{fill_of, fill_on};
+ghost use Rattle.strm_qpair.specs.Offer.{first_offer, offer_on};
 
+use crate::offer::Offer;
 use std::alloc::Global;
 use std::marker::Model;
-use strm_module::{Boxed, ModuleOf, Outs, Put, Shape};
+use strm_module::{Boxed, ModuleOf, Outs, Put, Shape, Turn};
 use strm_msg::{BoxedMessage, Message, MsgKind, NoMem, Side};
 use strm_queue::{BandQueue, Marks};
 
@@ -214,10 +216,10 @@ impl<M: ModuleOf> Pair<M> {
         }
     }
 
-    /// The module serves the first message of its queue of a side.
-    pub(crate) fn serve(&mut self, alloc: Global, side: Side) -> Result<Outs, NoMem>
-        ensures outs { IfOk result (λ outs. outs.items ≡ (pair_serves M.Kind.means self.old side).outs) }
-        ensures pair { OnOk result (self.new ≡ (pair_serves M.Kind.means self.old side).pair) }
+    /// The module serves the first message of its queue of a side, if one waits.
+    fn serve_first(&mut self, alloc: Global, side: Side) -> Result<Outs, NoMem>
+        ensures outs { IfOk result (λ outs. outs.items ≡ (pair_front M.Kind.means self.old side (list_on self.old side)).outs) }
+        ensures pair { OnOk result (self.new ≡ (pair_front M.Kind.means self.old side (list_on self.old side)).pair) }
         ensures identity { identity_of self.new.shape ≡ identity_of self.old.shape }
         ensures waits { waits_well self.old ≡ true → waits_well self.new ≡ true }
     {
@@ -228,6 +230,44 @@ impl<M: ModuleOf> Pair<M> {
         match front {
             Some(m) => self.instance.serve(alloc, side, m),
             None => Ok(Outs::new()),
+        }
+    }
+
+    /// The service of a side does what its turn says.
+    pub(crate) fn serve(&mut self, alloc: Global, side: Side) -> Result<Outs, NoMem>
+        ensures outs { IfOk result (λ outs. outs.items ≡ (pair_serves M.Kind.means self.old side).outs) }
+        ensures pair { OnOk result (self.new ≡ (pair_serves M.Kind.means self.old side).pair) }
+        ensures identity { identity_of self.new.shape ≡ identity_of self.old.shape }
+        ensures waits { waits_well self.old ≡ true → waits_well self.new ≡ true }
+    {
+        match self.instance.shape().turn(side) {
+            Turn::Serves => self.serve_first(alloc, side),
+            Turn::Shut => Ok(Outs::new()),
+            Turn::Sends { .. } => self.instance.own(alloc, side),
+        }
+    }
+
+    /// What the first message of the queue of a side is to flow control.
+    fn first_offer(&self, side: Side) -> Option<Offer>
+        ensures { result ≡ first_offer (list_on self.now side) }
+    {
+        match self.front(side) {
+            Some(m) => Some(Offer::of(m)),
+            None => None,
+        }
+    }
+
+    /// What the service of a side would move now.
+    pub(crate) fn offer(&self, side: Side) -> Option<Offer>
+        ensures { result ≡ offer_on M.Kind.means self.now side }
+    {
+        if !self.has_queue(side) {
+            return None;
+        }
+        match self.instance.shape().turn(side) {
+            Turn::Serves => self.first_offer(side),
+            Turn::Shut => None,
+            Turn::Sends { band } => Some(Offer::own(band)),
         }
     }
 }

@@ -60,9 +60,9 @@ close_out modules answer back replies comes = (
 -- for kinds of any meaning
 module _ {K : Type 0} (means : Meaning K) where
   -- what a call that is not refused takes out, by the call
-  hands_out : (image : Image K) (e : End) (request : Request (Shape K)) (answer : Answer) (back : List (Option (Shape K))) (kept : Option Msg) → refusal_of image e request ≡ None → Replies answer (reply_after (begun_of means image e request) kept) → back ≡ handed_out (begun_of means image e request).out → HandsOut request answer back
+  hands_out : (image : Image K) (e : End) (request : Request (Shape K)) (answer : Answer) (back : List (Option (Shape K))) (kept : Option Msg) → refusal_of means image e request ≡ None → Replies answer (reply_after (begun_of means image e request) kept) → back ≡ handed_out (begun_of means image e request).out → HandsOut request answer back
   hands_out image e Requests.Pop answer back kept none replies comes = pop_out (end_of image e).modules (end_of image e).state.hung answer back
-      (second_none (first_that_holds (common_refusals image e Requests.Pop)) (first_that_holds (pop_refusals image e)) (sym (first_of_all image e Requests.Pop refl) ∙ none))
+      (second_none (first_that_holds (common_refusals image e Requests.Pop)) (first_that_holds (pop_refusals image e)) (sym (first_of_all means image e Requests.Pop refl) ∙ none))
       replies comes
   hands_out image e Requests.Close answer back kept none replies comes = close_out (end_of image e).modules answer back replies comes
   hands_out image e (Requests.Putmsg flag parts) answer back kept none replies comes = comes

@@ -58,6 +58,7 @@ impl<M: ModuleOf> Chain<M> {
     fn module_queue(&self, end: End, i: usize, side: Side) -> Option<NextQueue>
         ensures some { IfSome result (λ queue. queue ≡ Of (module_place side end i)) }
         ensures few { IfSome result (λ queue. number_of queue < QUEUES) }
+        ensures small { IfSome result (λ _. i < 256) }
         ensures none { IfNone result (pair_at (end_of self.now.image end).modules i ≡ None) }
         ensures ordinary { HoldsCalm (end_of self.now.image end) }
     {
@@ -144,11 +145,14 @@ impl<M: ModuleOf> Chain<M> {
         };
         let before = self.ends.len(queue);
         let flushes = is_flush(m.kind);
+        let module = i as u8;
+        let turns = self.ends.turns(end, module);
         let answer = self.ends.put_at(end, i, side, m);
         if flushes {
             self.enabling.wake_all(&self.ends);
             return answer;
         }
+        self.enabling.wake_turns(&self.ends, end, module, turns);
         self.enabling.wake(&self.ends, queue, before);
         answer
     }
@@ -165,8 +169,11 @@ impl<M: ModuleOf> Chain<M> {
             return Ok(Outs::new());
         };
         let before = self.ends.len(queue);
+        let module = i as u8;
+        let turns = self.ends.turns(end, module);
         match self.ends.serve_at(end, i, side) {
             Ok(outs) => {
+                self.enabling.wake_turns(&self.ends, end, module, turns);
                 self.enabling.wake(&self.ends, queue, before);
                 Ok(outs)
             }

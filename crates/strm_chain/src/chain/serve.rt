@@ -43,7 +43,7 @@ impl<M: ModuleOf> Chain<M> {
     /// Whether a place may move: it holds a message, and the first is high or the queue ahead is not
     /// full in its band. A place that is not there may not.
     pub fn may(&self, place: Place) -> bool
-        ensures { result ≡ may self.now.image place }
+        ensures { result ≡ may M.Kind.means self.now.image place }
     {
         self.ends.may(place)
     }
@@ -116,7 +116,7 @@ impl<M: ModuleOf> Chain<M> {
     /// Refused for want of memory alone: with `NoMem` nothing is changed, and with `Broken` the chain is broken.
     pub(super) fn serve(&mut self, hops: &mut VecDeque<Hop>, place: Place) -> Result<(), ChainFault>
         requires empty { hops.old.items ≡ [] }
-        requires may { may self.old.image place ≡ true }
+        requires may { may M.Kind.means self.old.image place ≡ true }
         requires whole { self.old.image.broken ≡ false }
         ensures ok { OnOk result (self.new.image ≡ move M.Kind.means self.old.image place) }
         ensures done { OnOk result (hops.new.items ≡ []) }
@@ -140,7 +140,7 @@ impl<M: ModuleOf> Chain<M> {
     /// Refused for want of memory alone: with `NoMem` nothing is changed, and with `Broken` the chain
     /// is broken, or was before.
     pub fn serve_one(&mut self, place: Place) -> Result<(), ChainFault>
-        requires { may self.old.image place ≡ true }
+        requires { may M.Kind.means self.old.image place ≡ true }
         ensures ok { OnOk result (self.new.image ≡ move M.Kind.means self.old.image place) }
         ensures whole { OnOk result (self.old.image.broken ≡ false) }
         ensures same { OnOk result (SameModules self.old.image self.new.image) }

@@ -24,8 +24,8 @@ impl<M: ModuleOf> Chain<M> {
     /// place must move.
     fn look(&mut self) -> Option<(Place, bool)>
         ensures image { self.new.image ≡ self.old.image }
-        ensures may { IfSome result (λ seen. may self.old.image seen.0 ≡ seen.1) }
-        ensures quiet { IfNone result (IsQuiet self.old.image) }
+        ensures may { IfSome result (λ seen. may M.Kind.means self.old.image seen.0 ≡ seen.1) }
+        ensures quiet { IfNone result (IsQuiet M.Kind.means self.old.image) }
         ensures none { IfNone result (self.new.run.items ≡ []) }
         ensures moves { IfSome result (λ seen. seen.1 ≡ true → length self.new.run.items ≤ length self.old.run.items) }
         ensures rests { IfSome result (λ seen. seen.1 ≡ false → length self.new.run.items + 1 ≡ length self.old.run.items) }
@@ -56,7 +56,7 @@ impl<M: ModuleOf> Chain<M> {
     /// is broken, or was before.
     pub fn settle(&mut self) -> Result<Settled, ChainFault>
         ensures moves { IfOk result (λ settled. Leads M.Kind.means self.old.image settled.moves self.new.image) }
-        ensures quiet { OnOk result (IsQuiet self.new.image) }
+        ensures quiet { OnOk result (IsQuiet M.Kind.means self.new.image) }
         ensures looks { IfOk result (λ settled. settled.looks ≡ self.new.run.given) }
         ensures few { IfOk result (λ settled. AreLooks settled.moves settled.looks) }
         ensures most { IfOk result (λ settled. IsCalm M.Kind.means → settled.looks ≤ most_looks self.old.image settled.moves self.new.image) }
@@ -64,7 +64,7 @@ impl<M: ModuleOf> Chain<M> {
         ensures whole { OnOk result (self.old.image.broken ≡ false) }
         ensures same { OnOk result (SameModules self.old.image self.new.image) }
         ensures refused { IfErr result (λ fault. Refuses fault self.old.image self.new.image) }
-        ensures still { self.old.image.broken ≡ false → NoneMay self.old.image → IsOk result }
+        ensures still { self.old.image.broken ≡ false → NoneMay M.Kind.means self.old.image → IsOk result }
     {
         if self.ends.is_broken() {
             return Err(ChainFault::Broken);
@@ -96,7 +96,7 @@ impl<M: ModuleOf> Chain<M> {
         place: Place,
     ) -> Result<(), ChainFault>
         requires empty { hops.old.items ≡ [] }
-        requires may { may self.old.image place ≡ true }
+        requires may { may M.Kind.means self.old.image place ≡ true }
         requires whole { self.old.image.broken ≡ false }
         ensures ok { OnOk result (self.new.image ≡ move M.Kind.means self.old.image place) }
         ensures done { OnOk result (hops.new.items ≡ []) }

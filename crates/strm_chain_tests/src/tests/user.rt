@@ -8,7 +8,7 @@ use super::{Log, boxed_message, held, logged, new_log, shaped};
 use std::alloc::Global;
 use std::process::Abort;
 use std::sync::atomic::Ordering;
-use strm_module::{Instance, Kind, Kinds, Module, ModuleOf, Outs, Put, Shape, reply};
+use strm_module::{Instance, Kind, Kinds, Module, ModuleOf, Outs, Put, Shape, Turn, reply};
 use strm_msg::Side::{Rd, Wr};
 use strm_msg::{BoxedMessage, NoMem, Side};
 use strm_objects::Count;
@@ -203,19 +203,35 @@ fn boxed_count_counts(rt: HostRuntime) {
 
 /// A vocabulary of one kind, which turns each message round.
 #[derive(Debug, Drop, PartialEq, Eq)]
-struct Turn;
+struct Reply;
 
-impl Kinds for Turn {
-    ghost use Rattle.strm_module.specs.Kinds.{replied};
+impl Kinds for Reply {
+    ghost use Rattle.std.specs.Prelude.{not};
+    ghost use Rattle.strm_module.specs.Kinds.{serving, replied, is_up};
 
-    ghost means = { λ kind side m. replied kind m };
+    ghost means = { serving (λ kind side m. replied kind m) (λ kind side. not (is_up side)) };
 
     fn process(&mut self, _: Global, _: Side, m: BoxedMessage) -> Result<Outs, NoMem> {
         Ok(reply(m))
     }
 
-    fn copy(&self, _: Global) -> Result<Turn, NoMem> {
-        Ok(Turn)
+    fn turn(&self, _: Side) -> Turn {
+        Turn::Serves
+    }
+
+    fn own(&mut self, _: Global, _: Side) -> Result<Outs, NoMem> {
+        Ok(Outs::new())
+    }
+
+    fn answers(&self, side: Side) -> bool {
+        match side {
+            Rd => false,
+            Wr => true,
+        }
+    }
+
+    fn copy(&self, _: Global) -> Result<Reply, NoMem> {
+        Ok(Reply)
     }
 }
 
@@ -224,7 +240,7 @@ impl Kinds for Turn {
 struct Turner;
 
 impl ModuleOf for Turner {
-    type Kind = Turn;
+    type Kind = Reply;
 }
 
 /// Whether such a module answers so to what is put.
@@ -247,7 +263,7 @@ fn turns_served(rt: &impl Abort, alloc: Global, it: &mut Instance<Turner>) -> bo
 #[test]
 fn kind_of_another_vocabulary_acts_by_its_meaning(rt: HostRuntime) {
     let alloc = rt.alloc();
-    let shape = shaped(&rt, 4, b"turn", (Some((5, 4)), None), Turn);
+    let shape = shaped(&rt, 4, b"turn", (Some((5, 4)), None), Reply);
     let mut it = Instance::new(shape, Turner);
     let before = it.shape().copy(alloc).expect(&rt, "no memory for a shape");
     let turned = Put::Sent(reply(boxed_message(&rt, alloc, X)));

@@ -3,17 +3,19 @@ ghost use Rattle.std.specs.Prelude.{◌≡◌, ◌≤◌, true, false, IfSome, S
 ghost use Rattle.strm_module.specs.declared.driver.TheConstants.{MOST_MODULES};
 ghost use Rattle.strm_qpair.specs.Canput.{fill_of, below, full_in, slack_in};
 ghost use Rattle.strm_ends.specs.Image.{end_of};
-ghost use Rattle.strm_ends.specs.Path.{ahead, front_of};
-ghost use Rattle.strm_ends.specs.Flow.{may, is_due};
+ghost use Rattle.strm_ends.specs.Path.{ahead};
+ghost use Rattle.strm_ends.specs.Flow.{offer_of, turn_of, may, is_due};
 ghost use Rattle.strm_ends.specs.Held.{held_by};
 ghost use Rattle.strm_ends.specs.Next.{next_of, next_down, next_up, modules_at, IsCounted};
 ghost use Rattle.strm_ends.specs.declared.place.NextQueue.TheVariants.{Of};
+ghost use Rattle.strm_ends.specs.declared.place.Place.TheVariants as Places;
 ghost use Rattle.strm_qpair.specs.Next.{next_above};
 
 use super::Ends;
 use crate::place::{NextQueue, Place};
-use strm_module::{Driver, ModuleOf};
-use strm_msg::{End, Message, Side};
+use strm_module::{Driver, ModuleOf, Turn};
+use strm_msg::{End, Side};
+use strm_qpair::Offer;
 use strm_queue::BandQueue;
 
 /// The queue below a module, where the first write queue below it was looked for.
@@ -128,40 +130,63 @@ impl<M: ModuleOf> Ends<M> {
         }
     }
 
-    /// The message that a place would move.
+    /// What a place would move now.
     #[inline(always)]
-    pub fn front(&self, place: Place) -> Option<&Message>
-        ensures { option_copied result ≡ front_of self.now.image place }
+    pub fn offer(&self, place: Place) -> Option<Offer>
+        ensures { result ≡ offer_of M.Kind.means self.now.image place }
     {
         match place {
-            Place::Wr { end, i } => self.end(end).front(i, Side::Wr),
+            Place::Wr { end, i } => self.end(end).offer(i, Side::Wr),
             Place::Drv { end } => {
-                if self.driver.services(end) {
-                    self.end(end).driver_list().first()
-                } else {
-                    None
+                if !self.driver.services(end) {
+                    return None;
+                }
+                match self.end(end).driver_list().first() {
+                    Some(m) => Some(Offer::of(m)),
+                    None => None,
                 }
             }
-            Place::Rd { end, i } => self.end(end).front(i, Side::Rd),
+            Place::Rd { end, i } => self.end(end).offer(i, Side::Rd),
         }
+    }
+
+    /// What the service of a place would do now.
+    pub fn turn(&self, place: Place) -> Turn
+        ensures { result ≡ turn_of M.Kind.means self.now.image place }
+    {
+        match place {
+            Place::Wr { end, i } => self.end(end).turn(i, Side::Wr),
+            Place::Drv { .. } => Turn::Serves,
+            Place::Rd { end, i } => self.end(end).turn(i, Side::Rd),
+        }
+    }
+
+    /// What the services of both sides of a module would do now.
+    pub fn turns(&self, end: End, i: u8) -> (Turn, Turn)
+        ensures wr { result.0 ≡ turn_of M.Kind.means self.now.image (Places.Wr end i) }
+        ensures rd { result.1 ≡ turn_of M.Kind.means self.now.image (Places.Rd end i) }
+    {
+        let wr = self.turn(Place::Wr { end, i });
+        let rd = self.turn(Place::Rd { end, i });
+        (wr, rd)
     }
 
     /// Whether the first message of a place may move; nothing where it holds none.
     fn front_may(&self, place: Place) -> Option<bool>
-        ensures { result ≡ option_map (λ _. may self.now.image place) (front_of self.now.image place) }
+        ensures { result ≡ option_map (λ _. may M.Kind.means self.now.image place) (offer_of M.Kind.means self.now.image place) }
     {
-        match self.front(place) {
-            Some(m) => Some(m.is_high() || !self.full_ahead_of(place, m.band)),
+        match self.offer(place) {
+            Some(o) => Some(o.is_high || !self.full_ahead_of(place, o.band)),
             None => None,
         }
     }
 
     /// Whether the first message of a place must move.
     fn front_is_due(&self, place: Place) -> bool
-        ensures { result ≡ is_due self.now.image place }
+        ensures { result ≡ is_due M.Kind.means self.now.image place }
     {
-        match self.front(place) {
-            Some(m) => m.is_high() || self.slack_ahead_of(place, m.band),
+        match self.offer(place) {
+            Some(o) => o.is_high || self.slack_ahead_of(place, o.band),
             None => false,
         }
     }
@@ -169,8 +194,8 @@ impl<M: ModuleOf> Ends<M> {
     /// Whether a place that holds a message may move: the first is high, or the queue ahead is not full in its band. Nothing
     /// where it holds none, as one that is not there. One that may not must not, since each low mark is below its high one.
     pub fn first_may(&self, place: Place) -> Option<bool>
-        ensures value { result ≡ option_map (λ _. may self.now.image place) (front_of self.now.image place) }
-        ensures rests { result ≡ Some false → is_due self.now.image place ≡ false }
+        ensures value { result ≡ option_map (λ _. may M.Kind.means self.now.image place) (offer_of M.Kind.means self.now.image place) }
+        ensures rests { result ≡ Some false → is_due M.Kind.means self.now.image place ≡ false }
     {
         // The proof learns from the numbers of modules that each low mark is below its high one.
         let _ = self.count(End::A);
@@ -181,8 +206,8 @@ impl<M: ModuleOf> Ends<M> {
     /// Whether a place may move: it holds a message, and the first is high or the queue ahead is not
     /// full in its band. A place that is not there may not. One that may not must not.
     pub fn may(&self, place: Place) -> bool
-        ensures value { result ≡ may self.now.image place }
-        ensures rests { result ≡ false → is_due self.now.image place ≡ false }
+        ensures value { result ≡ may M.Kind.means self.now.image place }
+        ensures rests { result ≡ false → is_due M.Kind.means self.now.image place ≡ false }
     {
         self.first_may(place) == Some(true)
     }
@@ -190,7 +215,7 @@ impl<M: ModuleOf> Ends<M> {
     /// Whether a place must move: it holds a message, and the first is high or the queue ahead has
     /// drained to its low mark in its band.
     pub fn is_due(&self, place: Place) -> bool
-        ensures value { result ≡ is_due self.now.image place }
+        ensures value { result ≡ is_due M.Kind.means self.now.image place }
         ensures few { result ≡ true → IsCounted (Of place) }
     {
         // The proof learns from the numbers of modules that there are at most eight.
@@ -201,13 +226,13 @@ impl<M: ModuleOf> Ends<M> {
 
     /// Whether a place holds a message. Only one that is there does.
     pub fn holds(&self, place: Place) -> bool
-        ensures value { result ≡ is_some (front_of self.now.image place) }
+        ensures value { result ≡ is_some (offer_of M.Kind.means self.now.image place) }
         ensures few { result ≡ true → IsCounted (Of place) }
     {
         // The proof learns from the numbers of modules that there are at most eight.
         let _ = self.count(End::A);
         let _ = self.count(End::B);
-        self.front(place).is_some()
+        self.offer(place).is_some()
     }
 
     /// The number of messages in a queue, 0 in one that is not there.

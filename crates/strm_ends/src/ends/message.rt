@@ -96,6 +96,7 @@ impl<M: ModuleOf> Ends<M> {
     }
 
     /// Takes the first message of an end's driver list (getq(9F)).
+    #[inline(always)]
     pub fn take_driver(&mut self, end: End) -> Option<BoxedMessage>
         ensures some { IfSome result (λ m. ((end_of self.old.image end).drv ≡ m ∷ (end_of self.new.image end).drv) × (self.new.image ≡ with_drv self.old.image end (end_of self.new.image end).drv)) }
         ensures none { IfNone result (((end_of self.old.image end).drv ≡ []) × (self.new.image ≡ self.old.image)) }

@@ -1,4 +1,4 @@
-use Rattle.port_slip.proofs.PieceLemmas.{pieces_are_one_line, unfinished_is_bounded}
+use Rattle.port_slip.proofs.PieceLemmas.{pieces_are_one_line, rest_follows, unfinished_is_bounded}
 use Rattle.port_slip.proofs.FrameLemmas.{escaping_leaves_no_end, framed_is_received, noise_stays_apart}
 use Rattle.port_slip.proofs.laws.frames_keep_datagrams.Goals as goal
 
@@ -16,3 +16,6 @@ returns-clause-pieces c = pieces_are_one_line
 
 pub returns-clause-bounded : goal.returns-clause-bounded
 returns-clause-bounded c = unfinished_is_bounded
+
+pub returns-clause-rest : goal.returns-clause-rest
+returns-clause-rest c = rest_follows

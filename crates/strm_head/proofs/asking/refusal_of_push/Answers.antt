@@ -7,6 +7,6 @@ use Rattle.strm_head.proofs.RefusalLemmas.{first_of_both}
 use Rattle.strm_head.proofs.asking.refusal_of_push.Goals as goal
 
 pub returns : goal.returns
-returns g c shape =
+returns g c =
     let image = c.args.chain.now.image in
-    c.or.ensures ∙ ap₂ (λ first own. option_or first own) c.common_refusal-common.ensures c.push_refusal.ensures ∙ sym (first_of_both (common_refusals image c.args.end Requests.GetRead) (push_refusals image c.args.end))
+    c.or.ensures ∙ ap₂ (λ first own. option_or first own) c.common_refusal-common.ensures c.push_refusal.ensures ∙ sym (first_of_both (common_refusals image c.args.end Requests.GetRead) (push_refusals g.M.Kind.Kinds.means image c.args.end c.args.shape.now))

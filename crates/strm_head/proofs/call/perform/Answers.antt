@@ -1,13 +1,14 @@
 use Rattle.std.proofs.Common.{sym, ◌∙◌, arith}
 use Rattle.strm_call.specs.Begun.{begun_ioctl}
-use Rattle.strm_head.proofs.BeginLemmas.{may_begin, own_none}
+use Rattle.strm_head.proofs.BeginLemmas.{may_begin}
+use Rattle.strm_head.proofs.RefusalLemmas.{own_none}
 use Rattle.strm_head.proofs.CallLemmas.{quiet_answers, finished_answers, ioctl_answers, ioctl_whole, finished_back, refused_back, served_memory, ioctl_still, finished_still}
 use Rattle.strm_head.proofs.NothingLemmas.{served_changes}
 use Rattle.strm_head.proofs.call.perform.Goals as goal
 
 pub begin-requires-after_bounds : goal.begin-requires-after_bounds
 begin-requires-after_bounds g c κs within =
-    (omega arith, (may_begin c.args.chain.now.image c.args.end c.args.request c.requires.kept c.requires.unrefused, (own_none c.args.chain.now.image c.args.end c.args.request c.requires.unrefused, c.requires.empty)))
+    (omega arith, (may_begin g.M.Kind.Kinds.means c.args.chain.now.image c.args.end c.args.request c.requires.kept c.requires.unrefused, (own_none g.M.Kind.Kinds.means c.args.chain.now.image c.args.end c.args.request c.requires.unrefused, c.requires.empty)))
 
 pub finish_ioctl-requires-after_bounds : goal.finish_ioctl-requires-after_bounds
 finish_ioctl-requires-after_bounds g c κs within =

@@ -8,7 +8,7 @@ invariant_of-self g c =
     let old = c.self.inside.ends.image in
     let new = c.break_off.new.self.image in
     let is = ap (λ (v : EndsValue _). v.image) c.break_off.ensures in (
-      ready_broken old new c.self.inside.enabling is c.self.invariant.0,
+      ready_broken g.M.Kind.Kinds.means old new c.self.inside.enabling is c.self.invariant.0,
       places_broken old new c.self.inside.enabling.run.items is c.self.invariant.1,
       c.self.invariant.2,
     )

@@ -1,19 +1,18 @@
+use Rattle.strm_ends.specs.declared.place.Place.{Place}
+use Rattle.strm_ends.specs.Flow.{turn_of}
+use Rattle.std.proofs.Common.{ap, ◌≡◌, ◌&&◌, ◌+◌, ◌≤◌, ◌∙◌, false, inl, length, sym, arith}
+use Rattle.strm_ends.proofs.TurnLemmas.{turns_driver}
 use Rattle.strm_ends.specs.declared.place.NextQueue.TheVariants.{Of}
 use Rattle.strm_ends.specs.declared.place.Place.TheVariants as Places
-use Rattle.strm_ends.specs.Held.{DiffersIn}
+use Rattle.strm_ends.specs.Held.{DiffersIn, is_flush, held_by}
 use Rattle.strm_ends.proofs.NextLemmas.{ways_of_same}
-use Rattle.strm_chain.proofs.CaseLemmas.{on_result}
+use Rattle.strm_chain.proofs.CaseLemmas.{on_result, either_not, if_ok}
 use Rattle.strm_chain.proofs.EnablingLemmas.{places_same}
 use Rattle.strm_ends.proofs.FrameLemmas.{driver_differs, driven_one, same_differs}
-use Rattle.std.proofs.Common.{◌≡◌, ◌&&◌, ◌+◌, ◌≤◌, ◌∙◌, false, inl, length, sym, arith}
 use Rattle.strm_module.specs.Driver.{is_wire}
-use Rattle.strm_ends.specs.Held.{is_flush}
 use Rattle.strm_ends.proofs.CalmLemmas.{no_flush}
-use Rattle.strm_chain.proofs.CaseLemmas.{either_not}
 use Rattle.strm_module.specs.Calm.{options_of}
 use Rattle.strm_ends.specs.Count.{answers_options, options_driven}
-use Rattle.strm_ends.specs.Held.{held_by}
-use Rattle.strm_chain.proofs.CaseLemmas.{if_ok}
 use Rattle.strm_chain.proofs.CountLemmas.{driver_grows, driver_sets_less, count_put}
 use Rattle.strm_chain.proofs.chain.Chain.driver_does.Goals as goal
 
@@ -23,11 +22,13 @@ invariant_of-self-2 g c =
     let new = c.driver_does-answer.new.self.image in
     let apart : (is_wire old.driver && is_flush c.args.m.kind) ≡ false = rw (← c.driver.ensures, ← c.deref.ensures, ← c.behind-m.view_is) (sym c.flushes_both-flushes.ensures ∙ c.if-flushes.false) in
     let one = either_not (is_wire old.driver) (is_flush c.args.m.kind) apart in
+    let turns : (p : Place) → turn_of g.M.Kind.Kinds.means new p ≡ turn_of g.M.Kind.Kinds.means old p = on_result c.driver_does-answer.result _ _ _ c.driver_does-answer.ensures.state c.driver_does-answer.ensures.err
+    (λ e. turns_driver g.M.Kind.Kinds.means old new c.args.end c.args.m e) (λ e p. ap (λ i. turn_of g.M.Kind.Kinds.means i p) e) in
     let differs : DiffersIn old new (Of (Places.Drv c.args.end)) =
     on_result c.driver_does-answer.result _ _ _ c.driver_does-answer.ensures.state c.driver_does-answer.ensures.err
     (λ e. driver_differs old c.args.end new c.args.m one c.driver_does-answer.ensures.same e)
     (λ e. same_differs old new (Of (Places.Drv c.args.end)) e) in (
-      c.wake.ensures.ready old c.len-before.ensures c.self.invariant.0 differs,
+      c.wake.ensures.ready old c.len-before.ensures c.self.invariant.0 differs (λ p _ _. turns p),
       c.wake.ensures.places (places_same old new c.self.inside.enabling.run.items (ways_of_same old new differs.same) c.self.invariant.1),
       c.self.invariant.2,
     )

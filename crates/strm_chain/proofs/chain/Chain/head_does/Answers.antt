@@ -1,4 +1,7 @@
-use Rattle.std.proofs.Common.{◌≡◌, ◌+◌, ◌≤◌, ◌∙◌, true, false, length, sym, arith}
+use Rattle.strm_ends.specs.declared.place.Place.{Place}
+use Rattle.strm_ends.specs.Flow.{turn_of}
+use Rattle.std.proofs.Common.{ap, ◌≡◌, ◌+◌, ◌≤◌, ◌∙◌, true, false, length, sym, arith}
+use Rattle.strm_ends.proofs.TurnLemmas.{turns_head}
 use Rattle.strm_module.specs.Calm.{options_of}
 use Rattle.strm_ends.specs.Count.{answers_options}
 use Rattle.strm_ends.specs.declared.place.NextQueue.TheVariants.{Head}
@@ -16,11 +19,13 @@ invariant_of-self g c =
     let old = c.self.inside.ends.image in
     let new = c.head_does-answer.new.self.image in
     let sets : sets_options c.args.m.kind ≡ true = rw (← c.deref.ensures, ← c.behind-m.view_is) (sym c.sets_options-sets.ensures ∙ c.if-sets.true) in
+    let turns : (p : Place) → turn_of g.M.Kind.Kinds.means new p ≡ turn_of g.M.Kind.Kinds.means old p = on_result c.head_does-answer.result _ _ _ c.head_does-answer.ensures.state c.head_does-answer.ensures.err
+    (λ e. turns_head g.M.Kind.Kinds.means old new c.args.end c.args.m e) (λ e p. ap (λ i. turn_of g.M.Kind.Kinds.means i p) e) in
     let differs : SetsMarks old new c.args.end =
     on_result c.head_does-answer.result _ _ _ c.head_does-answer.ensures.state c.head_does-answer.ensures.err
     (λ e. head_sets old c.args.end new c.args.m sets c.head_does-answer.ensures.same e)
     (λ e. same_sets old new c.args.end e) in (
-      c.wake_behind.ensures.ready (ready_marks old new c.args.end c.self.inside.enabling differs c.self.invariant.0),
+      c.wake_behind.ensures.ready (ready_marks g.M.Kind.Kinds.means old new c.args.end c.self.inside.enabling differs turns c.self.invariant.0),
       c.wake_behind.ensures.places (places_same old new c.self.inside.enabling.run.items (ways_of_same old new differs.same) c.self.invariant.1),
       c.self.invariant.2,
     )
@@ -30,11 +35,13 @@ invariant_of-self-2 g c =
     let old = c.self.inside.ends.image in
     let new = c.head_does-answer.new.self.image in
     let none : sets_options c.args.m.kind ≡ false = rw (← c.deref.ensures, ← c.behind-m.view_is) (sym c.sets_options-sets.ensures ∙ c.if-sets.false) in
+    let turns : (p : Place) → turn_of g.M.Kind.Kinds.means new p ≡ turn_of g.M.Kind.Kinds.means old p = on_result c.head_does-answer.result _ _ _ c.head_does-answer.ensures.state c.head_does-answer.ensures.err
+    (λ e. turns_head g.M.Kind.Kinds.means old new c.args.end c.args.m e) (λ e p. ap (λ i. turn_of g.M.Kind.Kinds.means i p) e) in
     let differs : DiffersIn old new (Head c.args.end) =
     on_result c.head_does-answer.result _ _ _ c.head_does-answer.ensures.state c.head_does-answer.ensures.err
     (λ e. head_differs old c.args.end new c.args.m none c.head_does-answer.ensures.same e)
     (λ e. same_differs old new (Head c.args.end) e) in (
-      c.wake.ensures.ready old c.len-before.ensures c.self.invariant.0 differs,
+      c.wake.ensures.ready old c.len-before.ensures c.self.invariant.0 differs (λ p _ _. turns p),
       c.wake.ensures.places (places_same old new c.self.inside.enabling.run.items (ways_of_same old new differs.same) c.self.invariant.1),
       c.self.invariant.2,
     )

@@ -1,4 +1,10 @@
-use Rattle.std.proofs.Common.{◌≡◌, ◌∙◌, ap}
+use Rattle.std.proofs.Common.{◌≡◌, ◌∙◌, ap, refl}
+use Rattle.strm_ends.specs.declared.place.Place.{Place}
+use Rattle.strm_ends.specs.Flow.{turn_of}
+use Rattle.strm_ends.specs.Image.{end_of}
+use Rattle.strm_qpair.specs.End.{in_drv}
+use Rattle.strm_queue.specs.Queue.{put_in}
+use Rattle.strm_ends.proofs.TurnLemmas.{turns_with}
 use Rattle.strm_ends.specs.declared.place.NextQueue.TheVariants.{Of}
 use Rattle.strm_ends.specs.declared.place.Place.TheVariants as Places
 use Rattle.strm_ends.specs.Held.{DiffersIn}
@@ -15,12 +21,14 @@ invariant_of-self g c =
     let new = c.line_put-answer.new.self.image in
     let at = input_end old.driver in
     let is : c.input_end.result ≡ at = c.input_end.ensures ∙ ap input_end c.driver.ensures in
+    let turns : (p : Place) → turn_of g.M.Kind.Kinds.means new p ≡ turn_of g.M.Kind.Kinds.means old p = on_result c.line_put-answer.result _ _ _ c.line_put-answer.ensures.ok c.line_put-answer.ensures.err
+    (λ e p. ap (λ i. turn_of g.M.Kind.Kinds.means i p) e ∙ turns_with g.M.Kind.Kinds.means old at (in_drv (end_of old at) (put_in (end_of old at).drv c.args.m)) refl p) (λ e p. ap (λ i. turn_of g.M.Kind.Kinds.means i p) e) in
     let differs : DiffersIn old new (Of (Places.Drv c.input_end.result)) =
     rw is
     (on_result c.line_put-answer.result _ _ _ c.line_put-answer.ensures.ok c.line_put-answer.ensures.err
     (λ e. line_put_differs old new at c.args.m e)
     (λ e. same_differs old new (Of (Places.Drv at)) e)) in (
-      c.wake.ensures.ready old c.len-before.ensures c.self.invariant.0 differs,
+      c.wake.ensures.ready old c.len-before.ensures c.self.invariant.0 differs (λ p _ _. turns p),
       c.wake.ensures.places (places_same old new c.self.inside.enabling.run.items (ways_of_same old new differs.same) c.self.invariant.1),
       c.self.invariant.2,
     )

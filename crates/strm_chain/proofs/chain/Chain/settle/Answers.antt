@@ -42,7 +42,7 @@ loop-place-preserved-in-Continue-1 g c =
     let few = c.in_ok-move_one.ensures.counted in
     let long : length (c.loop-place.moves ++ place ∷ []) ≡ length c.loop-place.moves + 1 = length-append c.loop-place.moves (place ∷ []) in
     let all = ap length c.in_ok-move_one.ensures.moves in
-    let may_now : may mid place ≡ true = ap (λ i. may i place) c.look.ensures.image ∙ c.in-Some.ensures.may ∙ c.if-may.true in
+    let may_now : may g.M.Kind.Kinds.means mid place ≡ true = ap (λ i. may g.M.Kind.Kinds.means i place) c.look.ensures.image ∙ c.in-Some.ensures.may ∙ c.if-may.true in
     let to_mid = leads_to _ c.loop-place.moves before at mid c.look.ensures.image l.leads in
     record {
       empty = c.in_ok-move_one.ensures.done;
@@ -51,7 +51,7 @@ loop-place-preserved-in-Continue-1 g c =
       same = same_trans before mid now (same_to before at mid c.look.ensures.image l.same) c.in_ok-move_one.ensures.same;
       whole = l.whole;
       still = λ none.
-          let moves : true ≡ false = sym may_now ∙ ap (λ i. may i place) (c.look.ensures.image ∙ l.still none) ∙ none place in
+          let moves : true ≡ false = sym may_now ∙ ap (λ i. may g.M.Kind.Kinds.means i place) (c.look.ensures.image ∙ l.still none) ∙ none place in
           cc;
       least = omega (arith, l.least, counted, kept, few, long, all);
       most = λ kinds.

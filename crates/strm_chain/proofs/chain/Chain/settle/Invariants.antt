@@ -13,7 +13,7 @@ invariant-loop-place g l = record {
   leads : Leads g.M.Kind.Kinds.means l.initial.self.image l.moves l.self.image;
   same : SameModules l.initial.self.image l.self.image;
   whole : l.initial.self.image.broken ≡ false;
-  still : NoneMay l.initial.self.image → l.self.image ≡ l.initial.self.image;
+  still : NoneMay g.M.Kind.Kinds.means l.initial.self.image → l.self.image ≡ l.initial.self.image;
   least : length l.moves ≤ l.self.run.given;
   most : IsCalm g.M.Kind.Kinds.means → l.self.run.given + length l.self.run.items + message_count l.initial.self.image + options_count l.self.image ≤ place_count l.initial.self.image + 3 * length l.moves + message_count l.self.image + options_count l.initial.self.image;
   own : l.self.run.given + length l.self.run.items ≤ looks_at_most l.moves;

@@ -1,8 +1,13 @@
+use Rattle.strm_ends.specs.declared.place.Place.{Place}
+use Rattle.strm_ends.specs.Flow.{turn_of}
+use Rattle.strm_ends.specs.Image.{end_of}
+use Rattle.strm_qpair.specs.End.{in_drv}
+use Rattle.std.proofs.Common.{◌∙◌, ◌≡◌, length, refl, ap, arith}
+use Rattle.strm_ends.proofs.TurnLemmas.{turns_with}
 use Rattle.strm_ends.specs.declared.place.NextQueue.TheVariants.{Of}
 use Rattle.strm_ends.specs.declared.place.Place.TheVariants as Places
 use Rattle.strm_ends.specs.Held.{held_by, DiffersIn}
 use Rattle.strm_ends.proofs.NextLemmas.{ways_of_same}
-use Rattle.std.proofs.Common.{length, refl, ap, arith}
 use Rattle.strm_module.specs.Calm.{options_of, options_held}
 use Rattle.strm_ends.specs.Count.{answers_options}
 use Rattle.strm_chain.proofs.CaseLemmas.{on_option, if_some, if_none}
@@ -15,11 +20,13 @@ pub invariant_of-self : goal.invariant_of-self
 invariant_of-self g c =
     let old = c.self.inside.ends.image in
     let new = c.take_driver-first.new.self.image in
+    let turns : (p : Place) → turn_of g.M.Kind.Kinds.means new p ≡ turn_of g.M.Kind.Kinds.means old p = on_option c.take_driver-first.result _ _ _ c.take_driver-first.ensures.some c.take_driver-first.ensures.none
+    (λ m e p. ap (λ i. turn_of g.M.Kind.Kinds.means i p) e.1 ∙ turns_with g.M.Kind.Kinds.means old c.args.end (in_drv (end_of old c.args.end) (end_of new c.args.end).drv) refl p) (λ e p. ap (λ i. turn_of g.M.Kind.Kinds.means i p) e.1) in
     let differs : DiffersIn old new (Of (Places.Drv c.args.end)) =
     on_option c.take_driver-first.result _ _ _ c.take_driver-first.ensures.some c.take_driver-first.ensures.none
     (λ m e. take_driver_differs old c.args.end new m c.take_driver-first.ensures.same e.0 e.1)
     (λ e. same_differs old new (Of (Places.Drv c.args.end)) e.1) in (
-      c.wake.ensures.ready old c.len-before.ensures c.self.invariant.0 differs,
+      c.wake.ensures.ready old c.len-before.ensures c.self.invariant.0 differs (λ p _ _. turns p),
       c.wake.ensures.places (places_same old new c.self.inside.enabling.run.items (ways_of_same old new differs.same) c.self.invariant.1),
       c.self.invariant.2,
     )

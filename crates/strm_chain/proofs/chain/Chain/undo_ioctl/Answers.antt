@@ -8,7 +8,7 @@ invariant_of-self g c =
     let old = c.self.inside.ends.image in
     let new = c.undo_ioctl.new.self.image in
     let is = ap (λ (v : EndsValue _). v.image) c.undo_ioctl.ensures in (
-      ready_state old new c.args.end _ c.self.inside.enabling is c.self.invariant.0,
+      ready_state g.M.Kind.Kinds.means old new c.args.end _ c.self.inside.enabling is c.self.invariant.0,
       places_state old new c.args.end _ c.self.inside.enabling.run.items is c.self.invariant.1,
       c.self.invariant.2,
     )

@@ -2,8 +2,7 @@ use Rattle.std.proofs.Common.{◌≡◌, ◌∙◌, ◌∷◌, ◌<◌, true, fa
 use Rattle.strm_queue.specs.Run.{with_place}
 use Rattle.strm_ends.specs.declared.place.NextQueue.{NextQueue}
 use Rattle.strm_ends.specs.Next.{next_of}
-use Rattle.strm_ends.specs.Path.{front_of}
-use Rattle.strm_ends.specs.Flow.{may, is_due}
+use Rattle.strm_ends.specs.Flow.{offer_of, may, is_due}
 use Rattle.strm_chain.specs.Number.{number_of, place_number, place_of}
 use Rattle.strm_chain.specs.Enabled.{Enabled, Awaits}
 use Rattle.strm_ends.proofs.FitLemmas.{told_of, told_there, untold}
@@ -16,7 +15,7 @@ returns-then-may-clause-ready g c =
     let rest = c.next.new.self.items in
     let before : c.args.self.now.run.items ≡ n ∷ rest = sym (ap (λ (v : Enabled). v.run.items) c.self.view_is) ∙ c.in_ok-next.ensures.first.0 in
     let items : c.enable.new.self.run.items ≡ with_place rest (place_number (place_of n)) = c.enable.ensures.items ∙ ap (λ p. with_place rest (place_number p)) c.place_of-place.ensures in
-    λ ready. ready_moves c.args.ends.now.image c.args.self.now c.enable.new.self n rest before items (c.enable.ensures.wanted ∙ ap (λ (v : Enabled). v.wanted) c.self.view_is) ready
+    λ ready. ready_moves g.M.Kind.Kinds.means c.args.ends.now.image c.args.self.now c.enable.new.self n rest before items (c.enable.ensures.wanted ∙ ap (λ (v : Enabled). v.wanted) c.self.view_is) ready
 
 pub returns-then-may-clause-places : goal.returns-then-may-clause-places
 returns-then-may-clause-places g c =
@@ -37,10 +36,10 @@ returns-else-may-clause-ready g c =
     let wanted : Awaits image (place_of n) c.args.self.now.wanted c.wait.new.self.wanted = rw (← was, ← here) c.wait.ensures.wanted in
     let few : (q : NextQueue) → next_of image (place_of n) ≡ Some q → number_of q < length c.args.self.now.wanted = rw (← was, ← here) c.wait.ensures.few in
     let told = sym c.in-Some.ensures.value ∙ ap Some c.if-may.false in
-    let holds : is_some (front_of image (place_of n)) ≡ true = rw (← here) (told_there _ _ false told) in
-    let still : may image (place_of n) ≡ false = rw (← here) (told_of _ _ told) in
-    let rests : is_due image (place_of n) ≡ false = rw (← here) (c.in-Some.ensures.rests (ap Some c.if-may.false)) in
-    λ ready. ready_waits image c.args.self.now c.wait.new.self n rest c.wait.ensures.ordinary few before (ap (λ r. r.items) c.wait.ensures.run) wanted holds still rests ready
+    let holds : is_some (offer_of g.M.Kind.Kinds.means image (place_of n)) ≡ true = rw (← here) (told_there _ _ false told) in
+    let still : may g.M.Kind.Kinds.means image (place_of n) ≡ false = rw (← here) (told_of _ _ told) in
+    let rests : is_due g.M.Kind.Kinds.means image (place_of n) ≡ false = rw (← here) (c.in-Some.ensures.rests (ap Some c.if-may.false)) in
+    λ ready. ready_waits g.M.Kind.Kinds.means image c.args.self.now c.wait.new.self n rest c.wait.ensures.ordinary few before (ap (λ r. r.items) c.wait.ensures.run) wanted holds still rests ready
 
 pub returns-in_default-clause-ready : goal.returns-in_default-clause-ready
 returns-in_default-clause-ready g c =
@@ -49,5 +48,5 @@ returns-in_default-clause-ready g c =
     let rest = c.next.new.self.items in
     let here = c.place_of-place.ensures in
     let before : c.args.self.now.run.items ≡ n ∷ rest = sym (ap (λ (v : Enabled). v.run.items) c.self.view_is) ∙ c.in_ok-next.ensures.first.0 in
-    let empty : is_some (front_of image (place_of n)) ≡ false = rw (← here) (untold _ _ (sym c.in_default.ensures.value)) in
-    λ ready. ready_empty image c.args.self.now (record { run = c.next.new.self; wanted = c.self.inside.wanted }) n rest before refl (ap (λ (v : Enabled). v.wanted) c.self.view_is) empty ready
+    let empty : is_some (offer_of g.M.Kind.Kinds.means image (place_of n)) ≡ false = rw (← here) (untold _ _ (sym c.in_default.ensures.value)) in
+    λ ready. ready_empty g.M.Kind.Kinds.means image c.args.self.now (record { run = c.next.new.self; wanted = c.self.inside.wanted }) n rest before refl (ap (λ (v : Enabled). v.wanted) c.self.view_is) empty ready

@@ -5,16 +5,16 @@ use Rattle.strm_chain.proofs.enabling.Enabling.wake.Goals as goal
 
 pub returns-then-after-before-clause-ready : goal.returns-then-after-before-clause-ready
 returns-then-after-before-clause-ready g c =
-    λ old before ready differs.
-    ready_still_all old c.args.ends.now.image c.args.queue c.args.self.now differs (sym c.len-after.ensures ∙ c.if-after-before.true ∙ before) ready
+    λ old before ready differs turns.
+    ready_still_all g.M.Kind.Kinds.means old c.args.ends.now.image c.args.queue c.args.self.now differs turns (sym c.len-after.ensures ∙ c.if-after-before.true ∙ before) ready
 
 pub returns-then-after-before-2-clause-ready : goal.returns-then-after-before-2-clause-ready
 returns-then-after-before-2-clause-ready g c =
-    λ old before ready differs.
-    c.wake_behind.ensures.ready (ready_but old c.args.ends.now.image c.args.queue c.args.self.now c.wake_own.new.self differs c.wake_own.ensures.wanted c.wake_own.ensures.kept c.wake_own.ensures.own ready)
+    λ old before ready differs turns.
+    c.wake_behind.ensures.ready (ready_but g.M.Kind.Kinds.means old c.args.ends.now.image c.args.queue c.args.self.now c.wake_own.new.self differs (λ p some out. turns p some (c.wake_own.ensures.kept p out)) c.wake_own.ensures.wanted c.wake_own.ensures.kept c.wake_own.ensures.own ready)
 
 pub returns-else-after-before-2-clause-ready : goal.returns-else-after-before-2-clause-ready
 returns-else-after-before-2-clause-ready g c =
-    λ old before ready differs.
+    λ old before ready differs turns.
     let longer : length (held_by old c.args.queue) < length (held_by c.args.ends.now.image c.args.queue) = omega (arith, before, c.len-after.ensures, c.if-after-before.false, c.if-after-before-2.false) in
-    ready_more old c.args.ends.now.image c.args.queue c.args.self.now c.wake_own.new.self differs longer c.wake_own.ensures.wanted c.wake_own.ensures.kept c.wake_own.ensures.own ready
+    ready_more g.M.Kind.Kinds.means old c.args.ends.now.image c.args.queue c.args.self.now c.wake_own.new.self differs (λ p some out. turns p some (c.wake_own.ensures.kept p out)) longer c.wake_own.ensures.wanted c.wake_own.ensures.kept c.wake_own.ensures.own ready

@@ -8,16 +8,16 @@ use Rattle.strm_chain.proofs.enabling.Enabling.wake_behind.Goals as goal
 pub returns-then-is_due-clause-ready : goal.returns-then-is_due-clause-ready
 returns-then-is_due-clause-ready g c =
     let wants : slice_get c.args.self.now.wanted (number_of c.args.queue) ≡ Some (Some c.in-Some.place) = c.waiting.ensures ∙ ap Some c.in-Some.is in
-    let holds = due_holds c.args.ends.now.image c.in-Some.place (sym c.is_due.ensures.value ∙ c.if-is_due.true) in
-    ready_woken c.args.ends.now.image c.args.queue c.in-Some.place c.args.self.now c.wake_one.new.self wants
+    let holds = due_holds g.M.Kind.Kinds.means c.args.ends.now.image c.in-Some.place (sym c.is_due.ensures.value ∙ c.if-is_due.true) in
+    ready_woken g.M.Kind.Kinds.means c.args.ends.now.image c.args.queue c.in-Some.place c.args.self.now c.wake_one.new.self wants
     (c.wake_one.ensures.wanted ∙ c.forget.ensures.wanted)
     (c.wake_one.ensures.own holds ∙ ap (λ r. with_place r.items (place_number c.in-Some.place)) c.forget.ensures.run)
 
 pub returns-else-is_due-clause-ready : goal.returns-else-is_due-clause-ready
 returns-else-is_due-clause-ready g c =
     let wants : slice_get c.args.self.now.wanted (number_of c.args.queue) ≡ Some (Some c.in-Some.place) = c.waiting.ensures ∙ ap Some c.in-Some.is in
-    ready_still c.args.ends.now.image c.args.queue c.in-Some.place c.args.self.now wants (sym c.is_due.ensures.value ∙ c.if-is_due.false)
+    ready_still g.M.Kind.Kinds.means c.args.ends.now.image c.args.queue c.in-Some.place c.args.self.now wants (sym c.is_due.ensures.value ∙ c.if-is_due.false)
 
 pub returns-in_default-clause-ready : goal.returns-in_default-clause-ready
 returns-in_default-clause-ready g c =
-    ready_unwanted c.args.ends.now.image c.args.queue c.args.self.now (c.waiting.ensures ∙ ap Some c.in_default.is)
+    ready_unwanted g.M.Kind.Kinds.means c.args.ends.now.image c.args.queue c.args.self.now (c.waiting.ensures ∙ ap Some c.in_default.is)

@@ -10,4 +10,4 @@ returns-clause-few g c =
     let image = c.args.self.now.image in
     let a : count_of image A ≤ 8 = omega arith in
     let b : count_of image B ≤ 8 = omega arith in
-    λ due. front_counted image c.args.place a b (due_holds image c.args.place (sym c.front_is_due.ensures ∙ due))
+    λ due. front_counted g.M.Kind.Kinds.means image c.args.place a b (due_holds g.M.Kind.Kinds.means image c.args.place (sym c.front_is_due.ensures ∙ due))

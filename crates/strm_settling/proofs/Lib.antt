@@ -1,0 +1,12 @@
+pub mod LexLemmas
+pub mod ListLemmas
+pub mod Ranks
+pub mod Below
+pub mod ModuleLemmas
+pub mod DriverLemmas
+pub mod DeliverLemmas
+pub mod SettleLemmas
+pub mod OrderLemmas
+pub mod BuiltinLemmas
+pub mod SettlingLemmas
+pub mod WorkedExamples

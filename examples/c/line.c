@@ -1,6 +1,6 @@
-/* Messages come in from a line faster than they are read: what the head has no room for waits in the line's list, which holds the line
- * up when it is full itself, for now (EAGAIN). What is of high priority passes. A message that can never come in has another errno, so that
- * whoever feeds the line stops. */
+/* Messages come in from a line faster than they are read. A message for which the head has no room waits in
+ * the line's list. Once that is full too, the line is held up for now (EAGAIN). A message of high priority
+ * passes. A message that can never come in gets another errno, so that whoever feeds the line stops. */
 #include <stdio.h>
 
 #include "said.h"
@@ -14,7 +14,7 @@ static int arrive(struct strm *s, int kind, const char *text)
     return strm_arrive(s, kind, 0, kind == M_PCPROTO ? &part : NULL, kind == M_DATA ? &part : NULL, 0);
 }
 
-/* A byte more than a message may have, of which none is copied. */
+/* Hands in a byte more than a message may have. None of it is copied. */
 static int arrive_long(struct strm *s)
 {
     static char bytes[4097];
@@ -22,7 +22,7 @@ static int arrive_long(struct strm *s)
     return strm_arrive(s, M_DATA, 0, NULL, &part, 0);
 }
 
-/* How the head is to read and its marks, in the bytes that docs/MODEL.md has. */
+/* Sets the read mode of the head and its marks, in the format of docs/MODEL.md ("Options"). */
 static int set_options(struct strm *s, const char *bytes, int len)
 {
     char room[16];
@@ -31,7 +31,7 @@ static int set_options(struct strm *s, const char *bytes, int len)
     return strm_arrive(s, M_SETOPTS, 0, NULL, &part, 0);
 }
 
-/* An error for reading and one for writing; NOERROR leaves a side as it is. */
+/* Reports an error for reading and one for writing. NOERROR leaves a side as it is. */
 static int report(struct strm *s, unsigned char reading, unsigned char writing)
 {
     char sides[2];

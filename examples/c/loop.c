@@ -1,5 +1,5 @@
-/* Two ends of a loop, and two modules on the first: one counts what goes down, the other turns LF into CR LF. An ioctl is answered by one of
- * them, refused by the driver, or refused before it is sent. */
+/* Two ends of a loop, and two modules on the first. One counts what goes down, the other turns LF into CR LF.
+ * An ioctl is answered by one of them, refused by the driver, or refused before it is sent. */
 #include <stdio.h>
 
 #include "said.h"

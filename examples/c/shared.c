@@ -1,5 +1,6 @@
-/* One stream that four threads use, each call under a mutex: three writers send numbers, and the reader takes them. A call that would have
- * to wait is refused with EAGAIN, and its thread waits for a change by a condition, which each call that was done wakes. */
+/* One stream that four threads use, each call under a mutex. Three writers send numbers, and a reader takes
+ * them. A call that would have to wait returns EAGAIN. Its thread then waits on a condition, and each call
+ * wakes those that wait. */
 #include <pthread.h>
 #include <stdio.h>
 
@@ -14,7 +15,8 @@ static pthread_mutex_t lock = PTHREAD_MUTEX_INITIALIZER;
 static pthread_cond_t changed = PTHREAD_COND_INITIALIZER;
 static int numbers[WRITERS] = { 0, 1, 2 };
 
-/* A message of four bytes: the writer in the first, and in the others what it has sent before. Waits for room. */
+/* Sends a message of four bytes, and waits for room. The first byte is the writer, the others are the number
+ * of messages that it has sent before. */
 static int put(int writer, int sent)
 {
     unsigned char bytes[4] = { (unsigned char)writer, (unsigned char)(sent >> 16), (unsigned char)(sent >> 8), (unsigned char)sent };
@@ -28,7 +30,7 @@ static int put(int writer, int sent)
     return code;
 }
 
-/* The next four bytes. Waits for a message. */
+/* Takes the next four bytes, and waits for a message. */
 static int get(unsigned char bytes[4], size_t *len)
 {
     int code;
@@ -50,7 +52,7 @@ static void *write_all(void *arg)
     return NULL;
 }
 
-/* Takes what all have sent, and tells how many came out of their writer's order. */
+/* Takes what all have sent, and counts the messages that come out of their writer's order. */
 static void *read_all(void *arg)
 {
     int next[WRITERS] = { 0, 0, 0 };

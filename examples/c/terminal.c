@@ -1,6 +1,7 @@
-/* An emulator that hears its terminal. Above a wire stand a line discipline and a module that makes CR LF of LF, and a host reads and
- * writes at the head. The emulator stands outside: what is typed comes in by strm_arrive, and it takes what the host has written by
- * strm_take, a message at a time. The wire is full from 5 bytes on: then the host has to wait, as behind an XOFF, until at most 4 are left. */
+/* An emulator that hears its terminal. Above a wire are a line discipline and a module that makes CR LF of
+ * LF. A host reads and writes at the head. The emulator is outside: it hands in by strm_arrive what is typed,
+ * and takes by strm_take what the host has written, a message at a time. The wire is full from 5 bytes on.
+ * Then the host has to wait, as behind an XOFF, until at most 4 are left. */
 #include <stdio.h>
 
 #include "said.h"
@@ -14,7 +15,7 @@ static void push(const char *name, enum strm_kind kind)
     printf("push %s %s\n", name, said(strm_push(&tty, STRM_A, &module)));
 }
 
-/* Ends a line with what was got, if it has any bytes; CR and LF are shown as C writes them. */
+/* Ends a line with the bytes that were got, if any. CR and LF are shown as C writes them. */
 static void show(const char *bytes, int len)
 {
     if (len > 0)

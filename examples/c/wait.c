@@ -1,6 +1,7 @@
-/* How a program waits: by a mutex and a condition of its own, and by strm_poll. Two writers send numbers, each down a loop of its own. A
- * server waits for either of the two, and sends what it gets down a third, from which main takes it. Who waits for a stream sleeps on the
- * condition while strm_poll does not tell what it waits for; who made a call that was done wakes all before it gives the mutex back. */
+/* A program that waits, by a mutex and a condition of its own and by strm_poll. Two writers send numbers,
+ * each down a loop of its own. A server waits for either of the two, and sends what it gets down a third,
+ * from which main takes it. Whoever waits for a stream sleeps on the condition until strm_poll shows what it
+ * waits for. Whoever made a call that returned 0 wakes all before it gives the mutex back. */
 #include <pthread.h>
 #include <stdio.h>
 
@@ -13,12 +14,12 @@ static struct strm in[2] = { STRM_CLOSED, STRM_CLOSED }, out = STRM_CLOSED;
 static pthread_mutex_t lock = PTHREAD_MUTEX_INITIALIZER;
 static pthread_cond_t changed = PTHREAD_COND_INITIALIZER;
 
-/* A number, and which writer has sent it. */
+/* A number, and the writer that has sent it. */
 struct number {
     int writer, value;
 };
 
-/* Sleeps until an end tells one of these events, or that it is hung up, closed or in error. */
+/* Sleeps until an end shows one of these events, or is hung up, closed or in error. */
 static void wait_for(struct strm *s, uint8_t end, uint32_t events)
 {
     uint32_t told = 0;
@@ -26,7 +27,7 @@ static void wait_for(struct strm *s, uint8_t end, uint32_t events)
         pthread_cond_wait(&changed, &lock);
 }
 
-/* Gives the mutex back; where a call was done, wakes those that sleep, who look again. */
+/* Gives the mutex back. If the call returned 0, first wakes those that sleep, and they look again. */
 static int done(int code)
 {
     if (!code)
@@ -35,7 +36,7 @@ static int done(int code)
     return code;
 }
 
-/* A putmsg that waits for room. */
+/* Sends a message as putmsg does, and waits for room. */
 static int put(struct strm *s, uint8_t end, struct number sent)
 {
     struct strbuf dat = { 0, sizeof sent, (char *)&sent };
@@ -44,7 +45,8 @@ static int put(struct strm *s, uint8_t end, struct number sent)
     return done(strm_putmsg(s, end, NULL, &dat, 0));
 }
 
-/* A getmsg that waits for a message. At a hung up end of which all was taken *len becomes 0. */
+/* Takes a message as getmsg does, and waits for one. At a hung up end whose messages were all taken, *len
+ * becomes 0. */
 static int get(struct strm *s, uint8_t end, struct number *got, int *len)
 {
     struct strbuf dat = { sizeof *got, 0, (char *)got };
@@ -56,7 +58,8 @@ static int get(struct strm *s, uint8_t end, struct number *got, int *len)
     return done(code);
 }
 
-/* The one of both loops that has a message for the server, or -1 once both are hung up and empty. Waits for either. */
+/* Waits for either loop. Returns the one that has a message for the server, or -1 once both are hung up and
+ * empty. */
 static int select_in(void)
 {
     int found = -1, hung = 0;

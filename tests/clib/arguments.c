@@ -1,9 +1,11 @@
-/* Holds each call to what include/strm.h says of its arguments alone: EBADF for a number that is no end, and EINVAL for a flag, a band, a
- * mode, a kind or a name that is none, before what the stream says, and whether memory is there or not. It is linked with malloc, realloc
- * and free wrapped. A call that is refused so takes no memory and writes nothing.
+/* Holds each call to what include/strm.h says of its arguments alone (step 1): EBADF for a number that is no
+ * end, then EINVAL for a flag, a band, a mode, a kind, a name or marks that are none. They come before the
+ * state of the stream, with memory or without. A call that is refused so takes no memory and writes nothing.
+ * The test is linked with malloc, realloc and free wrapped.
  *
- * Each row is a call and the errno that is wanted, first at an open end. An arrival has an order of its own, and a name that is looked for is
- * judged behind the stream. A take, what would be taken and a poll are held to all that refuses them: none of them takes memory here. */
+ * Each row is a call and the errno that it must return, first at an open end. An arrival has an order of its
+ * own. The name of a find is judged after the stream. Takes and nexts are held to all that refuses them, and
+ * polls to the events that they return. None of the three takes memory here. */
 #include <stdio.h>
 #include <stdlib.h>
 
@@ -37,7 +39,7 @@ void __wrap_free(void *old)
 static struct strm s = STRM_CLOSED;
 static uint8_t at = STRM_A;
 
-/* Calls by the numbers that they are given: a first one, and a second where there are two. */
+/* Calls by their arguments: one number, or two. */
 
 static int putmsg(int flags, int unused)
 {
@@ -63,7 +65,7 @@ static int putpmsg_bare(int flags, int band)
     return strm_putpmsg(&s, at, NULL, NULL, band, flags);
 }
 
-/* Says that a number was written where a call was refused. */
+/* Counts a failure if a call that was refused has written something. */
 static void hold_unwritten(const char *what, int is_unwritten)
 {
     if (!is_unwritten) {
@@ -122,7 +124,7 @@ static int setread(int mode, int unused)
     return strm_setread(&s, at, (uint32_t)mode);
 }
 
-/* A push of a kind that is none, of marks that are none, or of a number that its kind does not take. */
+/* Pushes of a kind that is none, of marks that are none, or of a number that the kind does not take. */
 
 static int push(int kind, int number)
 {
@@ -162,13 +164,13 @@ static int find_name(int i, int unused)
     return e;
 }
 
-/* An arrival without parts: of a kind, and with a number. */
+/* An arrival without parts, of a kind and with a number. */
 static int arrive(int kind, int number)
 {
     return strm_arrive(&s, kind, 0, NULL, NULL, number);
 }
 
-/* A take with so much room, -1 for none. */
+/* A take with room for n bytes of each part; -1 means no room. */
 static int take(int ctl_room, int dat_room)
 {
     char room[32] = "";
@@ -179,7 +181,7 @@ static int take(int ctl_room, int dat_room)
     return e;
 }
 
-/* The same with NULL in place of both parts. */
+/* A take with NULL in place of both parts. */
 static int take_bare(int unused, int unused_too)
 {
     int kind = -2, band = -2;
@@ -198,7 +200,7 @@ static int next(int unused, int unused_too)
     return e;
 }
 
-/* A poll for some events, of which these are told. */
+/* A poll for some events, which must return these flags. */
 static int poll(int events, int told_wanted)
 {
     uint32_t told = 0xdead;
@@ -237,7 +239,7 @@ struct row {
     int first, second;
 };
 
-/* EINVAL by what is given alone, at each end. */
+/* EINVAL by the arguments alone, at each end. */
 static const struct row rows[] = {
     { "putmsg, MSG_ANY", putmsg, MSG_ANY, 0 },
     { "putmsg, MSG_BAND", putmsg, MSG_BAND, 0 },
@@ -280,7 +282,7 @@ static const struct row rows[] = {
 };
 enum { ROWS = sizeof rows / sizeof *rows };
 
-/* EINVAL by what is given alone, at no end. */
+/* EINVAL by the arguments alone, of calls that open a stream. */
 static const struct row openings[] = {
     { "open, driver 4", open_driver, STRM_WIRE + 1, 0 },
     { "open, driver -1", open_driver, -1, 0 },
@@ -290,7 +292,7 @@ static const struct row openings[] = {
 };
 enum { OPENINGS = sizeof openings / sizeof *openings };
 
-/* No message from a line, and no part of one. */
+/* Arrivals that make no message, or lack a part. */
 static const struct row arrivals[] = {
     { "arrive, kind 2", arrive, 2, 0 },
     { "arrive, kind 256", arrive, 256, 0 },
@@ -304,7 +306,7 @@ static const struct row arrivals[] = {
 };
 enum { ARRIVALS = sizeof arrivals / sizeof *arrivals };
 
-/* Each way to take what was sent down to a wire, and to ask for it. */
+/* Each way to take the output of a wire, and to ask for it. */
 static const struct row takes[] = {
     { "take", take, 16, 16 },
     { "take with no room", take, -1, -1 },
@@ -313,7 +315,7 @@ static const struct row takes[] = {
 };
 enum { TAKES = sizeof takes / sizeof *takes };
 
-/* Too little room for control of 3 bytes and data of 4. */
+/* Rooms that are too small for control of 3 bytes and data of 4. */
 static const struct row short_rooms[] = {
     { "take, control a byte short", take, 2, 16 },
     { "take, data a byte short", take, 16, 3 },
@@ -324,7 +326,7 @@ static const struct row short_rooms[] = {
 };
 enum { SHORT_ROOMS = sizeof short_rooms / sizeof *short_rooms };
 
-/* Holds a call to an errno. It takes no memory. */
+/* Holds a call to an errno, and to taking no memory. */
 static void hold(const struct row *row, int errno_wanted, const char *where)
 {
     long before = given;
@@ -345,7 +347,7 @@ static void hold_all(const struct row *all, int count, int errno_wanted, const c
     }
 }
 
-/* Each name that is none, pushed and looked for. */
+/* Pushes each name that is none, and looks for it. */
 static void hold_names(int pushed, int found, const char *where)
 {
     for (int i = 0; i < WRONG_NAMES; i++) {
@@ -364,7 +366,7 @@ static void open_as(uint32_t driver)
         exit(2);
 }
 
-/* What is given is judged before the stream, but for the name that is looked for and for arrivals. */
+/* Arguments come before the stream, but for the name of a find and for arrivals. */
 static void hold_ends(void)
 {
     open_as(STRM_LINE);
@@ -382,7 +384,7 @@ static void hold_ends(void)
     strm_free(&s);
 }
 
-/* A number that is no end goes before all. */
+/* A number that is no end comes before all. */
 static void hold_no_end(void)
 {
     open_as(STRM_LOOP);
@@ -394,7 +396,7 @@ static void hold_no_end(void)
     strm_free(&s);
 }
 
-/* What is given goes before an error that came up, a hangup, and what broke the stream. */
+/* Arguments come before an error that came up, a hangup, and a broken stream. */
 static void hold_states(void)
 {
     open_as(STRM_LINE);
@@ -419,7 +421,7 @@ static void hold_states(void)
     strm_free(&s);
 }
 
-/* Takes with the room that is needed and no more: what is given is whole, and next has told it. */
+/* Takes with just the room that is needed. The message must be whole, and as strm_next has said. */
 static void take_whole(int ctl_wanted, int dat_wanted, int kind_wanted)
 {
     char room[16];
@@ -436,7 +438,7 @@ static void take_whole(int ctl_wanted, int dat_wanted, int kind_wanted)
     }
 }
 
-/* Sends control and data down, of lengths or -1. */
+/* Sends control and data of these lengths down; -1 means no part. */
 static void send_down(int ctl_len, int dat_len)
 {
     struct strbuf ctl = { 0, ctl_len, (char[]){ "ctl" } }, dat = { 0, dat_len, (char[]){ "data" } };
@@ -452,7 +454,7 @@ static void hold_poll(int told, const char *where)
     hold_all(&row, 1, 0, where);
 }
 
-/* What refuses a take of a wire, in its order, and a message that stays for want of room. */
+/* The refusals of a take from a wire, in their order, and a message that stays because it has no room. */
 static void hold_wires(void)
 {
     enum { OUT = STRM_POLLOUT | STRM_POLLWRNORM };
@@ -483,7 +485,7 @@ static void hold_wires(void)
     strm_free(&s);
 }
 
-/* A take where the driver is no wire: behind a closed end and a broken stream. */
+/* Takes where the driver is no wire. A closed end and a broken stream come before that. */
 static void hold_no_wire(void)
 {
     open_as(STRM_LOOP);

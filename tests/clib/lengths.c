@@ -1,8 +1,9 @@
-/* Holds each call that copies its caller's bytes to its order: what refuses it whatever its bytes are comes before the copy, and want of
- * memory for the copy last. It is linked with malloc, realloc and free wrapped.
+/* Holds each call that copies its caller's bytes to its order. A refusal that does not depend on the bytes
+ * comes before the copy; ENOSR for the copy comes last. The test is linked with malloc, realloc and free
+ * wrapped.
  *
- * The bytes of a part that is too long are a gibibyte of pages that nothing has touched: a call that copied them would take memory, and a
- * tenth of a second. Each call is made a few times, of which the shortest counts. */
+ * A part that is too long is a gibibyte of pages that nothing has touched. A call that copied it would take
+ * memory, and a tenth of a second. Each call is made a few times, and the shortest time counts. */
 #include <stdio.h>
 #include <stdlib.h>
 #include <sys/mman.h>
@@ -43,7 +44,7 @@ static uint8_t at = STRM_A;
 static char *many;
 static int failed;
 
-/* A call with parts of some length. Each returns its errno. */
+/* Calls with parts of some length. Each returns its errno. */
 
 static int put_control(int len)
 {
@@ -140,7 +141,8 @@ static long nanoseconds(void)
     return now.tv_sec * 1000000000L + now.tv_nsec;
 }
 
-/* Holds a call with a part of some length to an errno. One that is refused takes no memory, where none is wanting, and no time. */
+/* Holds a call with a part of some length to an errno. It must take at most a millisecond, and no memory
+ * unless allocations are refused. */
 static void hold(const char *what, int (*call)(int), int len, int errno_wanted)
 {
     long least = MOST_NANOSECONDS + 1L, before = given;
@@ -157,7 +159,7 @@ static void hold(const char *what, int (*call)(int), int len, int errno_wanted)
     failed += !is_right;
 }
 
-/* Each call with a part that is too long, and with an errno that goes before EINVAL and ERANGE, or 0. */
+/* Each call with a part that is too long. `before` is an errno that comes before EINVAL and ERANGE, or 0. */
 static void hold_long(int before)
 {
     hold("putmsg, control", put_control, GIB, before ? before : ERANGE);
@@ -206,7 +208,8 @@ static void hold_open_and_closed(void)
     strm_free(&s);
 }
 
-/* An error that came up goes before a length, a hangup behind it. A line takes what comes in whatever stands at its head. */
+/* The errno of an M_ERROR comes before a length, and a hangup after it. A line takes what comes in, whatever
+ * the state of its head is. */
 static void hold_error_and_hangup(void)
 {
     open_as(STRM_LINE);
@@ -221,7 +224,7 @@ static void hold_error_and_hangup(void)
     strm_free(&s);
 }
 
-/* Want of memory for a copy is told where nothing else refuses the call. */
+/* ENOSR for a copy is returned only if nothing else refuses the call. */
 static void hold_wants(void)
 {
     open_as(STRM_LINE);
@@ -248,7 +251,8 @@ static void hold_wants(void)
     strm_free(&s);
 }
 
-/* On a broken stream no length is looked at. It breaks as memory is wanting for the hangup of the other end. */
+/* On a broken stream no length is looked at. The stream breaks because memory runs out for the hangup of the
+ * other end. */
 static void hold_broken(void)
 {
     open_as(STRM_LOOP);
@@ -265,7 +269,7 @@ static void hold_broken(void)
     strm_free(&s);
 }
 
-/* A full queue goes before want of memory. */
+/* A full queue comes before ENOSR for a copy. */
 static void hold_full(void)
 {
     open_as(STRM_ECHO);

@@ -1,12 +1,15 @@
-/* Plays a script of one stream and one process (docs/FORMATS.md) through the C calls, and prints its transcript as strsh does.
+/* Plays a script of one stream and one process (docs/SCRIPTS.md) through the C calls, and prints its
+ * transcript as strsh does.
  *
- *     play FILE       prints the transcript
- *     play -n FILE    prints nothing: plays it with each allocation refused in turn, and holds what is told to the transcript of a play in
- *                     which none is refused. It is linked with malloc, realloc and free wrapped.
+ *   play FILE     prints the transcript
+ *   play -n FILE  plays the script with each allocation refused in turn, and holds each transcript to that of
+ *                 a play in which none is refused; prints the first that is wrong
  *
- * A call that is refused with ENOSR is made again, once. Then it answers as it would have; or it is refused again, with ENOSR, or with EBADF
- * where it was a close. So the stream is broken: each later call but close and poll is refused with ENOSR. At the end as many blocks are
- * freed as were given. */
+ * The program is linked with malloc, realloc and free wrapped.
+ *
+ * A call that returns ENOSR is made again, once. Then it answers as it would have. Or it is refused again,
+ * with ENOSR, or with EBADF if it was a close: then the stream is broken, and each later call but close and
+ * poll returns ENOSR. At the end all blocks that were given are freed. */
 #include <stdio.h>
 #include <stdlib.h>
 
@@ -49,7 +52,7 @@ void __wrap_free(void *old)
     __real_free(old);
 }
 
-/* What is told, as text. */
+/* A text that is built up, as a transcript. */
 struct text {
     char bytes[MOST];
     size_t len;
@@ -143,7 +146,7 @@ static void add_more(int more)
     add(&line, words[more]);
 }
 
-/* Each verb does its call, and adds its reply to the line where it is done. */
+/* Each verb makes its call, and adds the reply to the line if the call returns 0. */
 
 static int do_putmsg(void)
 {
@@ -245,7 +248,7 @@ static int do_write(void)
     return e;
 }
 
-/* The marks of a side, of which 0 and 0 are none. */
+/* Reads the marks of a side; 0 and 0 are none. */
 static void marks(const char *field, uint32_t *hi, uint32_t *lo)
 {
     unsigned high = 0, low = 0;
@@ -303,7 +306,7 @@ static int do_look(void)
     return e;
 }
 
-/* Adds the names of the modules, and of the driver too. */
+/* Adds the names of the modules, and if asked for also that of the driver. */
 static int add_names(struct text *to, int with_driver)
 {
     struct str_mlist names[9];
@@ -426,7 +429,8 @@ static int do_getband(void)
     return add_value(e, band);
 }
 
-/* The message that is taken, as a feed writes it. What strm_next told before is held to it. */
+/* Adds the message that is taken, as a feed writes it. The take is held to what strm_next has said before
+ * it. */
 static int do_take(void)
 {
     struct strbuf ctl = { MOST, -2, ctl_room }, dat = { MOST, -2, dat_room };
@@ -504,7 +508,7 @@ static const struct verb {
     { "getband", do_getband }, { "close", do_close },     { "take", do_take },     { "poll", do_poll },
 };
 
-/* Makes the call of the line once: its code, with its reply at the end of `line`. */
+/* Makes the call of the line once. Returns its code, and adds its reply to the end of `line`. */
 static int make_call(void)
 {
     const char *target = strchr(fields[1], ':');
@@ -520,7 +524,7 @@ static int make_call(void)
 static char script[MOST * 8];
 static char process_name[32];
 
-/* Reads the fields of a line, which ends at the zero that is put behind it; where the next line begins. */
+/* Reads the fields of a line, and puts a zero at its end. Returns where the next line begins. */
 static char *split(char *from)
 {
     char *next = strchr(from, '\n');
@@ -534,7 +538,7 @@ static char *split(char *from)
     return next;
 }
 
-/* Opens the stream that a line declares: 0, or an errno. */
+/* Opens the stream that a line declares. Returns 0 or an errno. */
 static int declare(void)
 {
     unsigned hi, lo, drv_hi, drv_lo;
@@ -549,7 +553,7 @@ static int declare(void)
     return e;
 }
 
-/* Begins the line of a call: what stands before its reply. */
+/* Begins the line of a call with all that comes before its reply. */
 static void begin_line(void)
 {
     line.len = 0;
@@ -561,7 +565,7 @@ static void begin_line(void)
     add(&line, " : ");
 }
 
-/* Plays a call, and tells whether the stream is broken. */
+/* Plays a call. Returns whether the stream is broken. */
 static int play_call(int broken)
 {
     begin_line();
@@ -589,7 +593,7 @@ static void tell_end(uint8_t which, const char *name)
     add(&told, "\n");
 }
 
-/* Plays a script into `told`: 0, or 1 where the stream broke. */
+/* Plays a script into `told`. Returns 0, or 1 if the stream broke. */
 static int play(const char *text)
 {
     int broken = 0;
@@ -625,7 +629,7 @@ static int play(const char *text)
     return broken;
 }
 
-/* Whether a line of so many bytes has a text in it. */
+/* Returns whether the first `len` bytes of a line contain a text. */
 static int has(const char *from, size_t len, const char *text)
 {
     size_t n = strlen(text);
@@ -636,15 +640,16 @@ static int has(const char *from, size_t len, const char *text)
     return 0;
 }
 
-/* Whether a line of so many bytes has what a call tells on a stream that is broken: it is refused, an end is closed, or a poll tells an error
- * or a closed end. */
+/* Returns whether a line of `len` bytes has a reply of a broken stream: a refusal, a close, or a poll that
+ * shows an error or a closed end. */
 static int is_of_broken(const char *from, size_t len)
 {
     return has(from, len, " : ENOSR") || has(from, len, " : closed") || has(from, len, " : EBADF") || has(from, len, " : err") ||
            has(from, len, " : nval");
 }
 
-/* Whether what was told is what was wanted, up to a call from which on each tells what it does on a broken stream. */
+/* Returns whether `told` is as `wanted` up to some call, from which on each reply is one of a broken
+ * stream. */
 static int is_broken_off(void)
 {
     const char *found = told.bytes, *as = wanted.bytes;
@@ -660,7 +665,8 @@ static int is_broken_off(void)
     return 1;
 }
 
-/* Plays a script with each allocation refused in turn, until none is met. */
+/* Plays a script with each allocation refused in turn, until a play meets no refusal. Returns 1 if one is
+ * wrong. */
 static int refuse(const char *text)
 {
     play(text);

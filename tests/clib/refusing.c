@@ -1,5 +1,6 @@
-/* Refuses one allocation of a program that it is linked with: that of the number in REFUSED, counted from 1, and none where it is 0. What the
- * program has asked for in all goes to the standard error when it ends. */
+/* Refuses one allocation of the program that it is linked with: number REFUSED of the environment, counted
+ * from 1, or none if that is 0. When the program ends, the number of its allocations goes to the standard
+ * error. */
 #include <stdio.h>
 #include <stdlib.h>
 
@@ -9,7 +10,7 @@ void __real_free(void *at);
 
 static long asked;
 
-/* Whether this allocation is the one that is refused. */
+/* Returns whether this allocation is the one to refuse. */
 static int is_refused(void)
 {
     const char *refused = getenv("REFUSED");

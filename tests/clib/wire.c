@@ -1,7 +1,9 @@
-/* Messages go round over a wire: one thread writes numbers, a second takes them out and hands them to a third, which feeds them back in; the
- * main thread reads what comes up. Each must come up once, in order. How many there are is the only word.
+/* Messages go round over a wire. One thread writes numbers. A second takes them out and hands them to a
+ * third, which feeds them back in. The main thread reads what comes up. Each must come up once, in order. The
+ * one argument is the number of messages.
  *
- * All calls are made under one mutex, and who could do nothing sleeps on a condition that wakes with every call that was done. */
+ * All calls are made under one mutex. A thread that can do nothing sleeps on a condition. Each thread wakes
+ * the others after its turn, of up to AT_ONCE calls. */
 #include <pthread.h>
 #include <stdio.h>
 #include <stdlib.h>
@@ -15,16 +17,17 @@ static struct strm s = STRM_CLOSED;
 static pthread_mutex_t lock = PTHREAD_MUTEX_INITIALIZER;
 static pthread_cond_t changed = PTHREAD_COND_INITIALIZER;
 
-/* How many messages there are, and how many each thread has had so far. */
+/* The number of all messages, and the number that each thread has had so far. */
 static uint32_t many, written, taken, fed, read_up;
 
 /* Whether a call of some thread was refused for good. */
 static int has_failed;
 
-/* What was taken and not yet fed back. */
+/* The numbers that were taken and not yet fed back. */
 static uint32_t between[BETWEEN];
 
-/* What each thread does with one message: 0, or the errno for which it has to wait or to end. */
+/* The step of each thread for one message. Returns 0, or the errno for which the thread has to wait or to
+ * end. */
 static int write_one(void)
 {
     size_t len = 0;
@@ -70,7 +73,7 @@ static int read_one(void)
     return code;
 }
 
-/* Does it with all messages, some at a time, until a thread has failed. */
+/* Does this step with all messages, AT_ONCE at a time, until a thread has failed. */
 static int do_all(int (*one)(void), const uint32_t *done)
 {
     int is_short;

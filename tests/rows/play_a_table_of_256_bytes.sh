@@ -1,4 +1,5 @@
-# A table turns all bytes round. It maps the data that goes down, and that of the longest ioctl, with the greatest command that it knows.
+# A table turns all bytes round. It maps the data that goes down, and that of the longest ioctl, with the
+# greatest command that it knows.
 awk 'BEGIN {
     for (i = 0; i < 256; i++) { from = from sprintf("%%%02x", i); to = to sprintf("%%%02x", 255 - i) }
     print "stream s echo 16/4 16/4\nprocess p"

@@ -1,5 +1,5 @@
-# Processes that are read by threads, and what they cannot be read by themselves for: a stream that is declared behind them, a push, a
-# line that begins with a space, and a line end of two bytes.
+# Processes that are read by threads, and all that keeps a process from being read by itself: a stream that is
+# declared behind it, a push, a line that begins with a space, and a line end of two bytes.
 turns() {
     awk -v many="$1" -v to="$2" -v from="$3" -v end="$4" 'BEGIN { for (i = 0; i < many; i++) printf "write %s =x%s\nread %s 1%s\n", to, end, from, end }'
 }

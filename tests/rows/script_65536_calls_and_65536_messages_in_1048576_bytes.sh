@@ -1,4 +1,5 @@
-# As many calls as a process may have, and as many messages as a feed may have, through the greatest ring. Empty lines make it the longest script.
+# As many calls as a process may have, and as many messages as a feed may have, through the greatest ring.
+# Empty lines make it the longest script.
 awk 'BEGIN {
     head = "stream s line 2/1 2/1 4096\nprocess p\n"
     printf "%s", head

@@ -1,5 +1,8 @@
 -- Each echo makes what is owed less, and nothing goes round.
 use Rattle.std.proofs.Common.{◌≡◌, ◌<◌, ◌≤◌, ℕ, Bool, true, false, ◌&&◌, cond, Option, List, [], ◌∷◌, length, nat_le, refl, ap, sym, ◌∙◌, arith}
+use Rattle.std.proofs.lemmas.Bool.{and_from}
+use Rattle.strm_chain_settling.proofs.ModuleLemmas.{data_low}
+use Rattle.strm_chain_ends.proofs.CalmLemmas.{le_same}
 use Rattle.strm_msg.specs.Kind.{is_high}
 use Rattle.strm_msg.specs.Message.{Msg}
 use Rattle.strm_msg.specs.declared.kind.MsgKind.{MsgKind}
@@ -8,27 +11,18 @@ use Rattle.strm_msg.specs.declared.words.Side.{Side}
 use Rattle.strm_msg.specs.declared.words.Side.TheVariants.{Rd, Wr}
 use Rattle.strm_module.specs.declared.turn.Turn.TheVariants.{Serves, Shut, Sends}
 use Rattle.strm_module.specs.Kinds.{AnswersStay}
-use Rattle.strm_ends.specs.Image.{Image}
-use Rattle.strm_ends.specs.Order.{IsOrdered}
-use Rattle.strm_settling.specs.Ends.{Ends}
-use Rattle.strm_settling.specs.Orderly.{are_high, other_side, IsOrderly}
-use Rattle.strm_settling.proofs.ListLemmas.{le_same}
-use Rattle.strm_settling.proofs.SettlingLemmas.{settling_ends}
+use Rattle.strm_chain_ends.specs.Image.{Image}
+use Rattle.strm_chain_ends.specs.Order.{IsOrdered}
+use Rattle.strm_chain_settling.specs.Ends.{Ends}
+use Rattle.strm_chain_settling.specs.Orderly.{are_high, other_side, IsOrderly}
+use Rattle.strm_chain_settling.proofs.SettlingLemmas.{settling_ends}
 use Rattle.port_echo.specs.Echoing.{owing, echoing_action, echoing_turn, echoing_own, echoing, echoing_answers, debt}
 use Rattle.port_echo.specs.declared.echoing.Echoing.{Echoing}
 
-one_high : (b : Bool) → b ≡ true → (b && true) ≡ true
-one_high true h = refl
-one_high false h = cc
-
--- no data is high
-data_low : (m : Msg) → m.kind ≡ MData → is_high m.kind ≡ true → ⊥
-data_low m at high = let no : false ≡ true = ap is_high (sym at) ∙ high in cc
-
 action_tame : (owed : List ℕ) (side : Side) (kind : MsgKind) (m : Msg) → m.kind ≡ kind → is_high m.kind ≡ true → are_high (echoing_action owed side kind m).outs ≡ true
 action_tame owed Rd MData m at high = absurd (data_low m at high)
-action_tame owed Rd kind m at high = one_high (is_high m.kind) high
-action_tame owed Wr kind m at high = one_high (is_high m.kind) high
+action_tame owed Rd kind m at high = and_from (is_high m.kind) true high refl
+action_tame owed Wr kind m at high = and_from (is_high m.kind) true high refl
 
 action_owes : (owed : List ℕ) (side other : Side) (kind : MsgKind) (m : Msg) → m.kind ≡ kind → is_high m.kind ≡ true → debt (echoing_action owed side kind m).kind other ≤ debt (owing owed) other
 action_owes owed Rd other MData m at high = absurd (data_low m at high)

@@ -1,11 +1,11 @@
-//! A discipline that echoes what comes up, within a window.
+//! A discipline that echoes the data that comes up, within a window.
 ghost use Rattle.std.specs.Prelude.{◌≡◌, ◌++◌, [], Some, unwrap_or, is_ok, is_none, IfOk, IfErr, OnOk, OnErr};
 ghost use Rattle.strm_module.specs.Shape.{make_fault, new_shape};
 ghost use Rattle.strm_msg.specs.declared.words.Side.TheVariants as Side;
-ghost use Rattle.strm_ends.specs.Image.{Image};
-ghost use Rattle.strm_ends.specs.Order.{IsOrdered};
-ghost use Rattle.strm_settling.specs.Ends.{Ends};
-ghost use Rattle.strm_settling.specs.Orderly.{IsOrderly};
+ghost use Rattle.strm_chain_ends.specs.Image.{Image};
+ghost use Rattle.strm_chain_ends.specs.Order.{IsOrdered};
+ghost use Rattle.strm_chain_settling.specs.Ends.{Ends};
+ghost use Rattle.strm_chain_settling.specs.Orderly.{IsOrderly};
 ghost use Rattle.port_echo.specs.Echoing.{owing, echoing_own, echoing, debt};
 ghost use Rattle.port_echo.specs.declared.echoing.Echoing.{Echoing};
 
@@ -13,18 +13,18 @@ use std::alloc::{AllocError, Global};
 use strm_module::{Instance, Kinds, MakeFault, ModuleOf, Outs, Shape, Turn, pass_on};
 use strm_msg::{BoxedMessage, Bytes, Message, MsgKind, NoMem, Side as Sides};
 
-/// The least bytes with which no more comes in.
+/// The number of owed bytes from which no more data comes in.
 pub const MOST_OWED: usize = 4;
 
-/// Data on its way up goes on, and is echoed down. Where the echo cannot leave, the discipline takes no
-/// more from `MOST_OWED` bytes on.
+/// The state of a discipline that echoes: data on its way up goes on, and is echoed down. While the echo
+/// cannot leave, the discipline takes no more once it owes `MOST_OWED` bytes.
 #[derive(Debug, Drop, PartialEq, Eq)]
 pub struct Echoing {
-    /// What is to be echoed yet.
+    /// The bytes that are still to be echoed.
     pub owed: Bytes,
 }
 
-/// Bytes with those of a data part behind them.
+/// The bytes with those of a data part behind them.
 fn joined(alloc: Global, bytes: &Bytes, part: &Option<Bytes>) -> Result<Bytes, AllocError>
     ensures { IfOk result (λ all. all ≡ bytes.now ++ unwrap_or part.now []) }
 {
@@ -37,7 +37,7 @@ fn joined(alloc: Global, bytes: &Bytes, part: &Option<Bytes>) -> Result<Bytes, A
 }
 
 impl Echoing {
-    /// What is owed goes down.
+    /// Sends the bytes that are owed down.
     fn echo(&mut self, alloc: Global) -> Result<Outs, NoMem>
         ensures outs { IfOk result (λ outs. outs.items ≡ (echoing_own self.old.owed Side.Wr).outs) }
         ensures kept { OnOk result (self.new ≡ (echoing_own self.old.owed Side.Wr).kind) }
@@ -92,7 +92,7 @@ impl Kinds for Echoing {
     }
 }
 
-/// Acts by its shape, and keeps nothing of its own.
+/// An object that acts by its shape and has no state of its own.
 #[derive(Debug, Drop)]
 pub struct ByShape;
 
@@ -101,8 +101,8 @@ impl ModuleOf for ByShape {
 }
 
 impl ByShape {
-    /// A discipline that owes nothing, with a queue of these marks on each side. Nothing has come, so `alloc` is only noted. Takes
-    /// no memory.
+    /// A discipline that owes nothing, with a queue of these marks on each side. Nothing has come, so `alloc`
+    /// is not used yet. Takes no memory.
     ///
     /// Refused for the name first, then for the marks.
     pub fn echoing(
@@ -123,8 +123,9 @@ impl ByShape {
     }
 }
 
-/// Each echo makes what is owed less, and no message changes what the discipline answers. So settling ends on each stream that is
-/// ordered: over a line and a wire, and on one end of a loop. Does nothing: it carries the laws.
+/// States laws, and does nothing: each echo makes the discipline owe less, and no message changes on which
+/// sides it answers. So settling ends on each ordered stream: over a line and a wire, and on one end of a
+/// loop.
 pub fn echoing_settles()
     ensures orderly { IsOrderly echoing debt }
     ensures ends { (image : Image Echoing) → IsOrdered echoing image → Ends echoing image }

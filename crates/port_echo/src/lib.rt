@@ -1,7 +1,7 @@
-//! A discipline that answers its line: what comes up is echoed down, within a window. In small, what a terminal's line discipline
-//! does.
+//! A discipline that answers its line: bytes that come up are echoed down, within a window. A terminal's line
+//! discipline does the same on a larger scale.
 //!
-//! `docs/PORTING.md` says what of it is general.
+//! `docs/PORTING.md` says which parts of it are general.
 #![tactic(auto)]
 
 mod echoing;

@@ -1,5 +1,6 @@
 -- What the module makes of a calm message is calm, and it makes no options.
 use Rattle.std.proofs.Common.{◌≡◌, ◌≤◌, ◌==◌, ℕ, Bool, true, false, cond, None, Some, List, [], ◌∷◌, unwrap_or, refl, ap}
+use Rattle.std.proofs.lemmas.Bool.{and_from}
 use Rattle.strm_msg.specs.Message.{Msg, Part, ack_msg}
 use Rattle.strm_msg.specs.declared.kind.MsgKind.{MsgKind}
 use Rattle.strm_msg.specs.declared.kind.MsgKind.TheVariants.{MData, MIoctl}
@@ -7,7 +8,7 @@ use Rattle.strm_msg.specs.declared.words.Side.{Side}
 use Rattle.strm_msg.specs.declared.words.Side.TheVariants.{Rd, Wr}
 use Rattle.strm_module.specs.Kinds.{Action}
 use Rattle.strm_module.specs.Calm.{is_calm, are_calm, options_by, options_of, options_sent, IsCalm}
-use Rattle.strm_module.proofs.CalmLemmas.{one_calm, same_keeps, other_keeps, serving_calm}
+use Rattle.strm_module.proofs.CalmLemmas.{same_keeps, other_keeps, serving_calm, data_sets_none}
 use Rattle.port_sequence.specs.Sequence.{judged_action, sequence_action, sequence_acts, sequence}
 use Rattle.port_sequence.specs.declared.kinds.Sequence.{Sequence}
 
@@ -16,19 +17,15 @@ if_calm true x y p q = p
 if_calm false x y p q = q
 
 judged_calm : (s : Sequence) (m : Msg) (bytes : List ℕ) → is_calm m.kind ≡ true → are_calm (judged_action s m bytes).outs ≡ true
-judged_calm s m [] h = one_calm (is_calm m.kind) h
-judged_calm s m (number ∷ rest) h = one_calm (is_calm m.kind) h
+judged_calm s m [] h = and_from (is_calm m.kind) true h refl
+judged_calm s m (number ∷ rest) h = and_from (is_calm m.kind) true h refl
 
 acts_calm : (s : Sequence) (side : Side) (kind : MsgKind) (m : Msg) → is_calm m.kind ≡ true → are_calm (sequence_action s side kind m).outs ≡ true
 acts_calm s Rd MData m h = judged_calm s m (unwrap_or m.dat []) h
-acts_calm s Rd kind m h = one_calm (is_calm m.kind) h
-acts_calm s Wr MData m h = one_calm (is_calm m.kind) h
-acts_calm s Wr (MIoctl id cmd) m h = if_calm (cmd == 1) _ _ refl (one_calm (is_calm m.kind) h)
-acts_calm s Wr kind m h = one_calm (is_calm m.kind) h
-
--- data sets no options, whatever its bytes
-data_sets_none : (b : Bool) (m : Msg) (dat : Part) → m.kind ≡ MData → options_by b m.kind dat ≡ 0
-data_sets_none b m dat at = ap (λ kind. options_by b kind dat) at
+acts_calm s Rd kind m h = and_from (is_calm m.kind) true h refl
+acts_calm s Wr MData m h = and_from (is_calm m.kind) true h refl
+acts_calm s Wr (MIoctl id cmd) m h = if_calm (cmd == 1) _ _ refl (and_from (is_calm m.kind) true h refl)
+acts_calm s Wr kind m h = and_from (is_calm m.kind) true h refl
 
 if_keeps : (b c : Bool) (m : Msg) (x y : Action Sequence) → options_sent b x.outs ≤ options_of b m → options_sent b y.outs ≤ options_of b m → options_sent b (cond c x y).outs ≤ options_of b m
 if_keeps b true m x y p q = p

@@ -1,4 +1,4 @@
--- What the module is good for.
+-- The purpose of the module.
 use Rattle.std.specs.Prelude.{◌≡◌, ℕ, ◌<◌, ◌≤◌, ◌^◌, List}
 use Rattle.strm_msg.specs.Message.{Msg, data_msg}
 use Rattle.strm_msg.specs.declared.words.Side.TheVariants.{Rd, Wr}
@@ -6,7 +6,8 @@ use Rattle.strm_module.specs.Kinds.{passed_on}
 use Rattle.port_sequence.specs.Sequence.{sequence_acts, after}
 use Rattle.port_sequence.specs.declared.kinds.Sequence.{Sequence}
 
--- what one module sends down for data goes up as that data at another that expects its number, which has lost no more then
+-- data that one module sends down goes up as the same data at another that expects its number, and the other
+-- counts no more as lost
 abbrev pub NumberedArrives : Type 0
 NumberedArrives =
     (s t : Sequence) (band : ℕ) (bytes : List ℕ) → t.up ≡ s.down → s.down < 2 ^ 8 → t.lost ≤ 18446744073709551615 →

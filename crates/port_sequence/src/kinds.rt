@@ -1,23 +1,24 @@
-//! The discipline: its kind, with what it keeps, and its object.
+//! The discipline: its kind, with its state, and its object.
 ghost use Rattle.std.specs.Prelude.{◌≡◌, [], IfOk, IfErr, OnOk, OnErr, is_ok, is_none, None, Some, unwrap_or};
 ghost use Rattle.strm_msg.specs.declared.kind.MsgKind.TheVariants.{MData};
 ghost use Rattle.strm_module.specs.Shape.{make_fault, new_shape};
 ghost use Rattle.port_sequence.specs.Sequence.{numbered_action, judged_action, fresh};
 
 use std::alloc::Global;
-use strm_history::SameKind;
 use strm_module::{Instance, Kinds, MakeFault, ModuleOf, Outs, Shape, Turn, pass_on, reply};
 use strm_msg::{BoxedMessage, Bytes, Message, MsgKind, NoMem, Side};
+use strm_shared_log::SameKind;
 
-/// Numbers data messages on their way down with one byte in front, 0 to 255 and again, and judges those on their way up by theirs: they go
-/// on without it, and what was skipped before them is counted as lost. An ioctl of command 1 is answered with that count.
+/// The state of a discipline that numbers data messages. Those on their way down get one byte in front, 0 to
+/// 255 and then again. Those on their way up are judged by their numbers: they go on without them, and the
+/// numbers that were skipped before them count as lost. An ioctl of command 1 is answered with that count.
 #[derive(Debug, Drop, PartialEq, Eq)]
 pub struct Sequence {
     /// The number of the next message on its way down.
     pub down: u8,
     /// The number that is expected of the next message on its way up.
     pub up: u8,
-    /// How many messages were lost, up to the greatest `u64`.
+    /// The number of messages that were lost, up to the greatest `u64`.
     pub lost: u64,
 }
 
@@ -32,7 +33,7 @@ fn bytes_of(part: &Option<Bytes>) -> &[u8]
 }
 
 impl Sequence {
-    /// Data on its way down gets the next number in front.
+    /// Puts the next number in front of data on its way down.
     fn number(&mut self, alloc: Global, m: BoxedMessage) -> Result<Outs, NoMem>
         requires { m.kind ≡ MData }
         ensures outs { IfOk result (λ outs. outs.items ≡ (numbered_action self.old m).outs) }
@@ -46,7 +47,7 @@ impl Sequence {
         Ok(pass_on(Side::Wr, m.with_dat(dat)))
     }
 
-    /// Data on its way up goes on without its number, if it has one.
+    /// Takes the number off data on its way up, if it has one.
     fn judge(&mut self, alloc: Global, m: BoxedMessage) -> Result<Outs, NoMem>
         ensures outs { IfOk result (λ outs. outs.items ≡ (judged_action self.old m (unwrap_or m.dat [])).outs) }
         ensures kept { OnOk result (self.new ≡ (judged_action self.old m (unwrap_or m.dat [])).kind) }
@@ -101,14 +102,14 @@ impl Kinds for Sequence {
     }
 }
 
-/// Whether two are the same, as a run must know that holds a history against what its callers were told.
+/// Whether two kinds are the same. A run needs this, to compare a history with the answers of its callers.
 impl SameKind for Sequence {
     fn is_same(&self, other: &Sequence) -> bool {
         self.down == other.down && self.up == other.up && self.lost == other.lost
     }
 }
 
-/// Acts by its shape and keeps nothing of its own.
+/// An object that acts by its shape and has no state of its own.
 #[derive(Debug, Drop)]
 pub struct ByShape;
 
@@ -117,7 +118,8 @@ impl ModuleOf for ByShape {
 }
 
 impl ByShape {
-    /// A module that has numbered and judged nothing yet, with a queue on its way down of these marks. Takes no memory.
+    /// A module that has numbered and judged nothing yet, with a queue of these marks on its way down. Takes
+    /// no memory.
     ///
     /// Refused for the name first, then for the marks.
     pub fn sequence(

@@ -1,8 +1,11 @@
-//! A protocol on running streams: data is numbered on its way down, and judged by its number on its way up.
+//! A protocol on running streams. Data is numbered on its way down, and judged by its number on its way up.
 //!
-//! Its module is a discipline of a program's own. It has an ioctl and a queue whose service numbers the data, and what takes it out
-//! finds how many messages were lost. The program plays it on a line, call by call, and then a script of two callers on a loop with a feed
-//! beside them, and says what is wrong with two others. Last a caller shows by its receipts that its calls are in a stream's history.
+//! The module is a discipline of a program's own. It has an ioctl, and a queue whose service numbers the
+//! data. The reply of the call that takes it out has the number of messages that were lost.
+//!
+//! The program plays it on a line, call by call. Then it plays a script of two callers on a loop with a feed
+//! at the same time, and prints the faults of two other scripts. Last, a caller shows by its receipts that
+//! its calls are in a stream's history.
 #![tactic(auto)]
 
 mod kinds;

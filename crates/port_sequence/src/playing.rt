@@ -6,35 +6,34 @@ use std::io;
 use std::sync::Wait;
 use std::thread::Threads;
 use strm_head::{Driver, Outcome, Request, Stream};
-use strm_module::Boxed;
+use strm_module::BoxedModule;
 use strm_msg::{End, Message};
-use strm_play::play;
-use strm_script::print;
+use strm_script::{play, print};
 
-/// A module, in the box in which it is handed in.
-fn module(alloc: Global, serial: u64) -> Option<Boxed<ByShape>> {
-    Boxed::new(alloc, ByShape::sequence(serial, b"seq", (8, 2)).ok()?).ok()
+/// A module, in the box in which a push takes it.
+fn module(alloc: Global, serial: u64) -> Option<BoxedModule<ByShape>> {
+    BoxedModule::new(alloc, ByShape::sequence(serial, b"seq", (8, 2)).ok()?).ok()
 }
 
-/// Makes a call at end A, and says what it was answered.
+/// Makes a call at end A, and prints its answer.
 fn ask<R: Print>(
     rt: &R,
     stream: &mut Stream<ByShape>,
     word: &str,
-    request: Request<Boxed<ByShape>>,
+    request: Request<BoxedModule<ByShape>>,
 ) -> Option<()> {
     let Outcome { answer, .. } = stream.apply(End::A, request);
     say_answer(rt, word, &answer)
 }
 
-/// Takes the module out, and says what it tells of the messages that were lost.
+/// Takes the module out, and prints the number of messages that were lost.
 fn take_out<R: Print>(rt: &R, stream: &mut Stream<ByShape>) -> Option<()> {
     let Outcome { mut back, .. } = stream.apply(End::A, Request::Pop);
     let instance = back.pop()??;
     println!(rt; "taken out: {} lost", instance.shape().kind.lost).ok()
 }
 
-/// On a line three messages come in, of which the last says that two were lost before it.
+/// Plays a line on which three messages come in. The last one shows that two were lost before it.
 pub fn play_calls<R: Print>(rt: &R, alloc: Global) -> Option<()> {
     let mut stream = Stream::new(alloc, Driver::Line, (16, 4), (16, 4)).ok()?;
     ask(
@@ -53,7 +52,8 @@ pub fn play_calls<R: Print>(rt: &R, alloc: Global) -> Option<()> {
     take_out(rt, &mut stream)
 }
 
-/// Two callers on a loop, each with a module on its end, and a line that is fed, on which nobody calls.
+/// A script of two callers on a loop, each with a module on its end, and of a line that is fed and on which
+/// nobody calls.
 const SCRIPT: &str = "\
 stream s loop 16/4 16/4
 stream l line 16/4 16/4 4
@@ -69,19 +69,20 @@ feed l
 data 0 =%00x
 ";
 
-/// Plays a script against the module, and prints its transcript.
+/// Plays a script with the module, and prints its transcript.
 pub fn play_script<R: Print + Threads + Wait + Sync>(rt: &R, alloc: Global) -> Option<()> {
     let outcome = play::<ByShape, R>(rt, alloc, SCRIPT.as_bytes(), 1).ok()?;
     print(&outcome.transcript, &outcome.names, &mut io::writer(rt)).ok()
 }
 
-/// Scripts that are none: a first number of more than one byte, and a word that the vocabulary has not.
+/// Texts that are no scripts: one has a first number of more than one byte, one a word that the vocabulary
+/// does not have.
 const WRONG: [&str; 2] = [
     "stream s echo 16/4 16/4\nprocess p\npush s:a sequence m - 8/2 256\n",
     "stream s echo 16/4 16/4\nprocess p\npush s:a pass m - 8/2\n",
 ];
 
-/// Says why scripts are not played: the first fault of each, with its line.
+/// Prints why scripts are not played: the first fault of each, with its line.
 pub fn say_faults<R: Print + Threads + Wait + Sync>(rt: &R, alloc: Global) -> Option<()> {
     for script in WRONG {
         match play::<ByShape, R>(rt, alloc, script.as_bytes(), 1) {

@@ -1,10 +1,10 @@
-//! What is said of calls and histories.
+//! The texts of calls and histories.
 use crate::kinds::Sequence;
 use strm_head::{Acknowledged, Answer, Event, Reply, Request};
-use strm_history::{Entry, Who};
 use strm_module::BoxedShape;
+use strm_shared_log::{Entry, Who};
 
-/// What was asked, in a word.
+/// The word of a request.
 fn word_of(request: &Request<BoxedShape<Sequence>>) -> &'static str {
     match request {
         Request::Push { .. } => "push",
@@ -15,7 +15,7 @@ fn word_of(request: &Request<BoxedShape<Sequence>>) -> &'static str {
     }
 }
 
-/// Says what a call was answered.
+/// Prints the answer of a call.
 pub fn say_answer<R: Print>(rt: &R, word: &str, answer: &Answer) -> Option<()> {
     match answer {
         Answer::Done(Reply::Read { dat }) => println!(rt; "{word}: {dat:?}").ok(),
@@ -30,7 +30,7 @@ pub fn say_answer<R: Print>(rt: &R, word: &str, answer: &Answer) -> Option<()> {
     }
 }
 
-/// Says a step of a history: who made it, what it was, and what was answered.
+/// Prints a step of a history: its maker, the event, and the answer.
 pub fn say_entry<R: Print>(rt: &R, entry: &Entry<Sequence>) -> Option<()> {
     match entry.who() {
         Who::Caller(number) => print!(rt; "caller {number} ").ok()?,

@@ -1,15 +1,15 @@
-//! A caller shows by its receipt that its call is in the history.
+//! The receipts by which a caller shows that its calls are in the history.
 use crate::kinds::{ByShape, Sequence};
 use crate::saying::say_entry;
 use std::alloc::Global;
 use std::sync::Wait;
 use strm_head::{Driver, Request};
-use strm_history::{Call, Called, Receipt, Setup};
-use strm_module::Boxed;
+use strm_module::BoxedModule;
 use strm_msg::{Bytes, End};
 use strm_shared::{AnyCalls, Ended, Ring, Seat, Shared};
+use strm_shared_log::{Call, Called, Receipt, Setup};
 
-/// An echo.
+/// The setup of an echo stream.
 const ECHO: Setup = Setup {
     driver: Driver::Echo,
     head: (16, 4),
@@ -26,7 +26,7 @@ fn write<R: Wait>(
     bytes: &[u8],
 ) -> Option<Receipt<Sequence>> {
     let dat = Bytes::from_slice(alloc, bytes).ok()?;
-    let request: Request<Boxed<ByShape>> = Request::Write { dat };
+    let request: Request<BoxedModule<ByShape>> = Request::Write { dat };
     if seat.number() != shared.number() {
         drop(request);
         return None;
@@ -38,7 +38,7 @@ fn write<R: Wait>(
     }
 }
 
-/// Says of a receipt whose call it is, and whether the history holds it.
+/// Prints whose call a receipt is for, and whether the history holds it.
 fn say_receipt<R: Print>(
     rt: &R,
     ended: &Ended<ByShape>,
@@ -58,7 +58,8 @@ fn say_receipt<R: Print>(
     say_entry(rt, receipt.entry())
 }
 
-/// Makes two calls on a stream that callers share, and says when it has ended whether its history holds their receipts.
+/// Makes two calls on a stream that callers share. When it has ended, prints whether its history holds their
+/// receipts.
 pub fn show_receipts<R: Print + Wait>(rt: &R, alloc: Global) -> Option<()> {
     let ring = Ring::new(alloc, ECHO).ok()?;
     let (shared, mut seats, _) = Shared::<ByShape, AnyCalls>::new(alloc, 0, 1, ring).ok()?;

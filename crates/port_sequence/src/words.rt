@@ -4,11 +4,10 @@ use std::alloc::Global;
 use std::io::{self, Write};
 use strm_module::Shape;
 use strm_msg::NoMem;
-use strm_play::PlayModule;
-use strm_script::{Cause, PrintKind, ReadError, ReadKind, byte_at, put_number};
+use strm_script::{Cause, PlayModule, PrintKind, ReadError, ReadKind, put_number, u8_at};
 
-/// `sequence FIRST`: FIRST, 0 to 255, is the number of the first message on its way down, and the one that is expected on its
-/// way up.
+/// Reads `sequence FIRST`. FIRST, 0 to 255, is the number of the first message on its way down, and the one
+/// that is expected on its way up.
 impl ReadKind for Sequence {
     ghost use Rattle.port_sequence.specs.Words.{sequence_words};
 
@@ -28,7 +27,7 @@ impl ReadKind for Sequence {
         let [first] = texts else {
             return Err(ReadError::Fault(Cause::Fields));
         };
-        let first = byte_at(first)?;
+        let first = u8_at(first)?;
         Ok(Sequence {
             down: first,
             up: first,
@@ -37,7 +36,7 @@ impl ReadKind for Sequence {
     }
 }
 
-/// Printed as it is read, by the number of the next message on its way down.
+/// Prints the kind as it is read, with the number of the next message on its way down.
 impl PrintKind for Sequence {
     ghost use Rattle.port_sequence.specs.Words.{sequence_spelling};
 
@@ -52,7 +51,7 @@ impl PrintKind for Sequence {
     }
 }
 
-/// The object keeps nothing, so any new one will do.
+/// The object has no state, so any new one will do.
 impl PlayModule for ByShape {
     fn object(_: Global, _: &Shape<Sequence>) -> Result<ByShape, NoMem> {
         Ok(ByShape)

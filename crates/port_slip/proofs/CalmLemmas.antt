@@ -1,13 +1,14 @@
 -- What SLIP makes of a message that flushes nothing flushes nothing, and it makes no options.
 use Rattle.std.proofs.Common.{◌≡◌, ◌≤◌, ◌+◌, ℕ, Bool, true, List, [], ◌∷◌, ◌++◌, option_map, unwrap_or, refl, ap, arith}
 use Rattle.std.proofs.lemmas.List.Sums.{sum_by-cons}
+use Rattle.std.proofs.lemmas.Bool.{and_from}
 use Rattle.strm_msg.specs.Message.{Msg, data_msg}
 use Rattle.strm_msg.specs.declared.kind.MsgKind.{MsgKind}
 use Rattle.strm_msg.specs.declared.kind.MsgKind.TheVariants.{MData}
 use Rattle.strm_msg.specs.declared.words.Side.{Side}
 use Rattle.strm_msg.specs.declared.words.Side.TheVariants.{Rd, Wr}
 use Rattle.strm_module.specs.Calm.{is_calm, are_calm, options_by, options_of, options_sent, MakesCalm}
-use Rattle.strm_module.proofs.CalmLemmas.{one_calm, same_keeps, other_keeps, builtin_calm}
+use Rattle.strm_module.proofs.CalmLemmas.{same_keeps, other_keeps, builtin_calm}
 use Rattle.port_slip.specs.Frame.{framed, received}
 use Rattle.port_slip.specs.Slip.{datagrams_up, slip_action, slip_acts, slip_own, slip}
 use Rattle.port_slip.specs.declared.kinds.SlipKind.{SlipKind}
@@ -21,9 +22,9 @@ datagrams_calm band (datagram ∷ datagrams) = datagrams_calm band datagrams
 acts_calm : (bytes : List ℕ) (band : ℕ) (side : Side) (kind : MsgKind) (m : Msg) → is_calm m.kind ≡ true → are_calm (slip_action bytes band side kind m).outs ≡ true
 acts_calm bytes band Rd MData m h =
     datagrams_calm m.band (received 2 (bytes ++ unwrap_or m.dat [])).datagrams
-acts_calm bytes band Wr MData m h = one_calm (is_calm m.kind) h
-acts_calm bytes band Rd kind m h = one_calm (is_calm m.kind) h
-acts_calm bytes band Wr kind m h = one_calm (is_calm m.kind) h
+acts_calm bytes band Wr MData m h = and_from (is_calm m.kind) true h refl
+acts_calm bytes band Rd kind m h = and_from (is_calm m.kind) true h refl
+acts_calm bytes band Wr kind m h = and_from (is_calm m.kind) true h refl
 
 -- and set no options
 datagrams_sent : (b : Bool) (band : ℕ) (datagrams : List (List ℕ)) → options_sent b (datagrams_up band datagrams) ≡ 0

@@ -5,15 +5,15 @@ use Rattle.strm_msg.specs.declared.words.End.{End}
 use Rattle.strm_msg.specs.declared.words.Side.TheVariants.{Rd}
 use Rattle.strm_module.specs.Shape.{queues_on}
 use Rattle.strm_module.specs.declared.turn.Turn.TheVariants.{Serves, Sends}
-use Rattle.strm_qpair.specs.Pair.{QueuePair}
-use Rattle.strm_qpair.specs.End.{pair_at}
-use Rattle.strm_qpair.specs.Canput.{slack_in}
-use Rattle.strm_qpair.specs.Offer.{offer_by, offer_found, offer_on}
-use Rattle.strm_qpair.specs.declared.offer.Offer.{Offer}
-use Rattle.strm_ends.specs.declared.place.Place.TheVariants as Places
-use Rattle.strm_ends.specs.Image.{Image, end_of}
-use Rattle.strm_ends.specs.Path.{ahead}
-use Rattle.strm_ends.specs.Flow.{due_front}
+use Rattle.strm_chain_end.specs.Pair.{QueuePair}
+use Rattle.strm_chain_end.specs.End.{pair_at}
+use Rattle.strm_chain_end.specs.Canput.{slack_in}
+use Rattle.strm_chain_end.specs.Offer.{offer_by, offer_found, offer_on}
+use Rattle.strm_chain_end.specs.declared.offer.Offer.{Offer}
+use Rattle.strm_chain_ends.specs.declared.place.Place.TheVariants as Places
+use Rattle.strm_chain_ends.specs.Image.{Image, end_of}
+use Rattle.strm_chain_ends.specs.Path.{ahead}
+use Rattle.strm_chain_ends.specs.Flow.{due_front}
 use Rattle.port_slip.specs.Frame.{holds_frame}
 use Rattle.port_slip.specs.Slip.{slip, slip_turn}
 use Rattle.port_slip.specs.SlipLaws.{NothingIsHeldBack}

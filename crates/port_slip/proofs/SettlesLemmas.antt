@@ -1,5 +1,8 @@
 -- Each sending of SLIP's own makes what is kept shorter, so service ends.
 use Rattle.std.proofs.Common.{◌≡◌, ◌<◌, ◌≤◌, ℕ, zero, suc, Bool, true, false, ◌&&◌, cond, Option, Some, None, List, [], ◌∷◌, length, option_map, is_some, refl, ap, sym, ◌∙◌, arith, length-take}
+use Rattle.std.proofs.lemmas.Bool.{and_from}
+use Rattle.strm_chain_settling.proofs.ModuleLemmas.{data_low}
+use Rattle.strm_chain_ends.proofs.CalmLemmas.{le_same}
 use Rattle.strm_msg.specs.Kind.{is_high}
 use Rattle.strm_msg.specs.Message.{Msg}
 use Rattle.strm_msg.specs.declared.kind.MsgKind.{MsgKind}
@@ -7,12 +10,11 @@ use Rattle.strm_msg.specs.declared.kind.MsgKind.TheVariants.{MData, MFlush, MHan
 use Rattle.strm_msg.specs.declared.words.Side.{Side}
 use Rattle.strm_msg.specs.declared.words.Side.TheVariants.{Rd, Wr}
 use Rattle.strm_module.specs.declared.turn.Turn.TheVariants.{Serves, Sends}
-use Rattle.strm_ends.specs.Image.{Image}
-use Rattle.strm_settling.specs.Ends.{Ends}
-use Rattle.strm_settling.specs.Orderly.{are_high, ups_are_high, other_side, IsOrderly}
-use Rattle.strm_settling.proofs.ListLemmas.{le_same}
-use Rattle.strm_settling.proofs.SettlingLemmas.{settling_ends, unanswered_ordered, builtin_orderly, builtin_unanswered}
-use Rattle.strm_settling.proofs.BuiltinLemmas.{builtin_ups}
+use Rattle.strm_chain_ends.specs.Image.{Image}
+use Rattle.strm_chain_settling.specs.Ends.{Ends}
+use Rattle.strm_chain_settling.specs.Orderly.{are_high, ups_are_high, other_side, IsOrderly}
+use Rattle.strm_chain_settling.proofs.SettlingLemmas.{settling_ends, unanswered_ordered, builtin_orderly, builtin_unanswered}
+use Rattle.strm_chain_settling.proofs.BuiltinLemmas.{builtin_ups}
 use Rattle.port_slip.specs.Frame.{is_end, cut, begun, holds_frame, received}
 use Rattle.port_slip.specs.Slip.{kept_after, slip_action, slip_acts, slip_turn, slip_own, slip}
 use Rattle.port_slip.specs.declared.kinds.SlipKind.{SlipKind}
@@ -81,19 +83,11 @@ kept_short bytes (MFlush false w band) = le_same (length bytes)
 kept_short bytes MHangup = omega arith
 kept_short bytes kind = le_same (length bytes)
 
-one_high : (b : Bool) → b ≡ true → (b && true) ≡ true
-one_high true h = refl
-one_high false h = cc
-
--- no data is high
-data_low : (m : Msg) → m.kind ≡ MData → is_high m.kind ≡ true → ⊥
-data_low m at high = let no : false ≡ true = ap is_high (sym at) ∙ high in cc
-
 frames_tame : (bytes : List ℕ) (band : ℕ) (side : Side) (kind : MsgKind) (m : Msg) → m.kind ≡ kind → is_high m.kind ≡ true → are_high (slip_action bytes band side kind m).outs ≡ true
 frames_tame bytes band Rd MData m at high = absurd (data_low m at high)
 frames_tame bytes band Wr MData m at high = absurd (data_low m at high)
-frames_tame bytes band Rd kind m at high = one_high (is_high m.kind) high
-frames_tame bytes band Wr kind m at high = one_high (is_high m.kind) high
+frames_tame bytes band Rd kind m at high = and_from (is_high m.kind) true high refl
+frames_tame bytes band Wr kind m at high = and_from (is_high m.kind) true high refl
 
 slip_tame : (kind : SlipKind) (side : Side) (m : Msg) → is_high m.kind ≡ true → are_high (slip_acts kind side m).outs ≡ true
 slip_tame (Builtin kind) side m high = builtin_orderly.tame kind side m high

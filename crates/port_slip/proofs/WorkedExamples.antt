@@ -7,11 +7,11 @@ use Rattle.strm_msg.specs.Marks.{WaterMarks}
 use Rattle.strm_module.specs.Shape.{new_shape}
 use Rattle.strm_module.specs.declared.kind.Kind.TheVariants.{Pass}
 use Rattle.strm_module.specs.declared.driver.Driver.TheVariants.{Loop}
-use Rattle.strm_qpair.specs.Pair.{fresh_pair}
-use Rattle.strm_qpair.specs.End.{EndState}
-use Rattle.strm_ends.specs.declared.place.Place.TheVariants.{Drv}
+use Rattle.strm_chain_end.specs.Pair.{fresh_pair}
+use Rattle.strm_chain_end.specs.End.{EndState}
+use Rattle.strm_chain_ends.specs.declared.place.Place.TheVariants.{Drv}
 use Rattle.strm_chain.specs.declared.spot.Spot.TheVariants.{Down, Up}
-use Rattle.strm_ends.specs.Image.{Image, fresh}
+use Rattle.strm_chain_ends.specs.Image.{Image, fresh}
 use Rattle.strm_chain.specs.Deliver.{deliver, up_through, down_through}
 use Rattle.strm_chain.specs.Service.{move}
 use Rattle.port_slip.specs.Slip.{slip}

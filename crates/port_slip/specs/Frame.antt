@@ -11,7 +11,7 @@ is_end b = b == 192
 abbrev pub is_esc : ℕ → Bool
 is_esc b = b == 219
 
--- a byte of a datagram, as a frame spells it
+-- a byte of a datagram, as it is spelt in a frame
 abbrev pub escaped_byte : ℕ → List ℕ
 escaped_byte b =
     if is_end b then 219 ∷ 220 ∷ [] else if is_esc b then 219 ∷ 221 ∷ [] else b ∷ []
@@ -19,48 +19,49 @@ escaped_byte b =
 abbrev pub escaped : List ℕ → List ℕ
 escaped bytes = flat_map escaped_byte bytes
 
--- a datagram as a frame: END, its bytes escaped, and END. The END in front ends what noise a receiver
--- may hold
+-- a datagram as a frame: END, its bytes escaped, and END; the END in front ends the noise that a receiver may
+-- hold
 abbrev pub framed : List ℕ → List ℕ
 framed datagram = 192 ∷ (escaped datagram ++ 192 ∷ [])
 
--- what a byte behind an ESC stands for: any but 220 and 221, which nobody should send, for itself
+-- the byte that a byte behind an ESC stands for; any but 220 and 221 stands for itself, and nobody should
+-- send it there
 abbrev pub meant_by : ℕ → ℕ
 meant_by b = if b == 220 then 192 else if b == 221 then 219 else b
 
--- the datagram that a frame's bytes spell. An END always ends a frame, where RFC 1055's code would take
--- one behind an ESC into the datagram; nobody should send that either, and the ESC stands for itself
+-- the datagram of a frame's bytes; an END always ends a frame, while the code of RFC 1055 would take one
+-- behind an ESC into the datagram; nobody should send that either, and here the ESC stands for itself
 abbrev pub unescaped : List ℕ → List ℕ
 unescaped [] = []
 unescaped (a ∷ []) = a ∷ []
 unescaped (a ∷ (b ∷ bytes)) =
     if is_esc a then meant_by b ∷ unescaped bytes else a ∷ unescaped (b ∷ bytes)
 
--- what a frame spells beyond the longest datagram is dropped
+-- the datagram of a frame; the bytes behind those of the longest datagram are dropped
 abbrev pub datagram_of : List ℕ → List ℕ
 datagram_of frame = take LONGEST_DATAGRAM (unescaped frame)
 
--- no byte is an END
+-- whether no byte is an END
 abbrev pub has_no_end : List ℕ → Bool
 has_no_end bytes = list_all (λ b. not (is_end b)) bytes
 
--- the bytes before the first END and those behind it, where there is an END
+-- the bytes before the first END and those behind it, if there is an END
 abbrev pub cut : List ℕ → Option (List ℕ × List ℕ)
 cut [] = None
 cut (b ∷ bytes) =
     if is_end b then Some ([], bytes) else option_map (λ c. (b ∷ c.0, c.1)) (cut bytes)
 
--- without the ENDs in front: a frame without bytes is no datagram
+-- the bytes without the ENDs in front; a frame without bytes is no datagram
 abbrev pub begun : List ℕ → List ℕ
 begun [] = []
 begun (b ∷ bytes) = if is_end b then begun bytes else b ∷ bytes
 
--- the datagrams that bytes from a line spell, in order, and the bytes that wait for more
+-- the datagrams of bytes from a line, in order, and the bytes that wait for more
 pub record Received : Type 0 where
   pub datagrams : List (List ℕ)
   pub kept : List ℕ
 
--- a frame that has no END yet: of it as many bytes are kept as can spell any datagram
+-- a frame that has no END yet; as many of its bytes are kept as can spell any datagram
 abbrev pub unfinished : List ℕ → Received
 unfinished bytes = record { datagrams = []; kept = take MOST_KEPT bytes }
 
@@ -76,11 +77,11 @@ with_datagrams datagrams more =
 abbrev pub first_of : List ℕ → Option (List ℕ × List ℕ)
 first_of bytes = option_map (λ c. (datagram_of c.0, c.1)) (cut (begun bytes))
 
--- a datagram could go up: its frame has ended
+-- whether a datagram could go up, since its frame has ended
 abbrev pub holds_frame : List ℕ → Bool
 holds_frame bytes = is_some (cut (begun bytes))
 
--- at most n datagrams, the first ones: all that is behind the end of the n-th frame waits as it is
+-- the first n datagrams at most; all bytes behind the end of the n-th frame wait unchanged
 abbrev pub received : ℕ → List ℕ → Received
 received zero bytes = record { datagrams = []; kept = bytes }
 received (suc n) bytes =

@@ -1,4 +1,4 @@
--- What the kinds of this crate make of a message that is not queued.
+-- The actions of the kinds of this crate on a message that is not queued.
 use Rattle.std.specs.Prelude.{ℕ, Bool, true, false, Some, List, [], ◌++◌, if◌then◌else◌, map, option_map, unwrap_or}
 use Rattle.strm_msg.specs.Message.{Msg, data_msg}
 use Rattle.strm_msg.specs.declared.kind.MsgKind.{MsgKind}
@@ -14,7 +14,7 @@ use Rattle.port_slip.specs.Frame.{framed, received, holds_frame}
 use Rattle.port_slip.specs.declared.kinds.SlipKind.{SlipKind}
 use Rattle.port_slip.specs.declared.kinds.SlipKind.TheVariants.{Builtin, Slip}
 
--- a built-in kind means what it means elsewhere
+-- the action of a built-in kind, which is the same as elsewhere
 abbrev pub of_builtin : Action Kind → Action SlipKind
 of_builtin action = record { kind = Builtin action.kind; outs = action.outs }
 
@@ -22,19 +22,20 @@ of_builtin action = record { kind = Builtin action.kind; outs = action.outs }
 abbrev pub datagrams_up : ℕ → List (List ℕ) → OutList
 datagrams_up band datagrams = map (λ datagram. (Rd, data_msg band datagram)) datagrams
 
--- at most two datagrams go up, in the band of what came last, and the rest is kept
+-- at most two datagrams go up, in the band of the data that came last, and the rest is kept
 abbrev pub received_action : ℕ → List ℕ → Action SlipKind
 received_action band bytes =
     let all = received 2 bytes in
     record { kind = Slip all.kept band; outs = datagrams_up band all.datagrams }
 
--- a flush of the read side and a hangup drop what is kept, whichever way they go by
+-- the bytes that are kept behind a message that passes: a flush of the read side and a hangup drop them, in
+-- either direction
 abbrev pub kept_after : List ℕ → MsgKind → List ℕ
 kept_after bytes (MFlush true w band) = []
 kept_after bytes MHangup = []
 kept_after bytes kind = bytes
 
--- data on its way down becomes a frame, and data on its way up is put behind what was kept
+-- data on its way down becomes a frame; data on its way up is put behind the bytes that are kept
 abbrev pub slip_action : List ℕ → ℕ → Side → MsgKind → Msg → Action SlipKind
 slip_action bytes band Wr MData m = passed_on (Slip bytes band) Wr (record m { dat = option_map framed m.dat })
 slip_action bytes band Rd MData m = received_action m.band (bytes ++ unwrap_or m.dat [])
@@ -44,13 +45,13 @@ abbrev pub slip_acts : Acts SlipKind
 slip_acts (Builtin kind) side m = of_builtin (builtin.acts kind side m)
 slip_acts (Slip bytes band) side m = slip_action bytes band side m.kind m
 
--- while a whole frame is kept, the service of the read side sends before it takes what waits
+-- while a whole frame is kept, the service of the read side sends before it takes the messages that wait
 abbrev pub slip_turn : SlipKind → Side → Turn
 slip_turn (Builtin kind) side = builtin.turn kind side
 slip_turn (Slip bytes band) Rd = if holds_frame bytes then Sends (Some band) else Serves
 slip_turn (Slip bytes band) Wr = Serves
 
--- at most two datagrams more
+-- the service of the read side sends at most two more datagrams
 abbrev pub slip_own : SlipKind → Side → Action SlipKind
 slip_own (Builtin kind) side = of_builtin (builtin.own kind side)
 slip_own (Slip bytes band) Rd = received_action band bytes

@@ -1,25 +1,26 @@
--- What a SLIP module is good for.
+-- The purpose of a SLIP module.
 use Rattle.std.specs.Prelude.{◌≡◌, ℕ, ◌<◌, true, false, Some, List, [], ◌∷◌, length}
 use Rattle.strm_msg.specs.Message.{Msg, data_msg}
 use Rattle.strm_msg.specs.declared.words.End.{End}
 use Rattle.strm_msg.specs.declared.words.Side.TheVariants.{Rd, Wr}
 use Rattle.strm_module.specs.Kinds.{passed_on}
 use Rattle.strm_module.specs.Shape.{queues_on}
-use Rattle.strm_qpair.specs.Pair.{QueuePair}
-use Rattle.strm_qpair.specs.End.{pair_at}
-use Rattle.strm_qpair.specs.Canput.{slack_in}
-use Rattle.strm_ends.specs.declared.place.Place.{Place}
-use Rattle.strm_ends.specs.Image.{Image, end_of}
-use Rattle.strm_ends.specs.Path.{ahead}
-use Rattle.strm_ends.specs.Flow.{IsQuiet}
+use Rattle.strm_chain_end.specs.Pair.{QueuePair}
+use Rattle.strm_chain_end.specs.End.{pair_at}
+use Rattle.strm_chain_end.specs.Canput.{slack_in}
+use Rattle.strm_chain_ends.specs.declared.place.Place.{Place}
+use Rattle.strm_chain_ends.specs.Image.{Image, end_of}
+use Rattle.strm_chain_ends.specs.Path.{ahead}
+use Rattle.strm_chain_ends.specs.Flow.{IsQuiet}
 use Rattle.port_slip.specs.Frame.{has_no_end, holds_frame, datagram_of}
 use Rattle.port_slip.specs.FrameLaws.{IsDatagram}
 use Rattle.port_slip.specs.Slip.{slip_acts, slip, datagrams_up}
 use Rattle.port_slip.specs.declared.kinds.SlipKind.{SlipKind}
 use Rattle.port_slip.specs.declared.kinds.SlipKind.TheVariants.{Slip}
 
--- what a SLIP module sends down for a datagram is sent up as that datagram by a SLIP module that keeps
--- nothing, which keeps nothing then; one that keeps noise sends that up first, apart from it
+-- the frame that a SLIP module sends down for a datagram goes up as that datagram from a SLIP module that
+-- keeps nothing, and then keeps nothing again; a module that keeps noise sends the noise up first, apart from
+-- the datagram
 abbrev pub DatagramsGoThrough : Type 0
 DatagramsGoThrough =
     (bytes datagram : List ℕ) (last band : ℕ) → IsDatagram datagram →
@@ -29,8 +30,8 @@ DatagramsGoThrough =
     × ((noise : List ℕ) → 0 < length noise → has_no_end noise ≡ true →
     slip_acts (Slip noise last) Rd sent ≡ record { kind = Slip [] band; outs = datagrams_up band (datagram_of noise ∷ (datagram ∷ [])) })
 
--- where no place must move, a SLIP module with a read queue keeps no whole frame, unless the queue above has no room for it: all that came
--- in one message has gone up in one event
+-- if no place must move, a SLIP module with a read queue keeps no whole frame for which the queue above has
+-- room; so all datagrams that came in one message have gone up in one event
 abbrev pub NothingIsHeldBack : Type 0
 NothingIsHeldBack =
     (image : Image SlipKind) (e : End) (i : ℕ) (s : QueuePair SlipKind) (bytes : List ℕ) (band : ℕ) → IsQuiet slip image →

@@ -1,7 +1,7 @@
--- What is left where handing a message in and settling is refused.
+-- The chain behind a refused delivery or settling.
 use Rattle.std.specs.Prelude.{◌⊎◌}
 use Rattle.strm_msg.specs.Message.{Msg}
-use Rattle.strm_ends.specs.Image.{Image}
+use Rattle.strm_chain_ends.specs.Image.{Image}
 use Rattle.strm_chain.specs.Deliver.{deliver}
 use Rattle.strm_chain.specs.Fault.{Refuses}
 use Rattle.strm_chain.specs.declared.fault.ChainFault.{ChainFault}
@@ -9,6 +9,6 @@ use Rattle.strm_chain.specs.declared.spot.Spot.{Spot}
 use Rattle.port_slip.specs.Slip.{slip}
 use Rattle.port_slip.specs.declared.kinds.SlipKind.{SlipKind}
 
--- what a refused delivery leaves, or what a refused settling leaves after the delivery
+-- the chain that a refused delivery leaves, or that a refused settling leaves behind the delivery
 abbrev pub Stops : ChainFault → Image SlipKind → Spot → Msg → Image SlipKind → Type 0
 Stops fault old spot m new = Refuses fault old new ⊎ Refuses fault (deliver slip old spot m) new

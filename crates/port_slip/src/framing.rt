@@ -4,22 +4,22 @@ ghost use Rattle.port_slip.specs.Frame.{escaped_byte, framed, meant_by, unescape
 
 use std::alloc::{AllocError, Global};
 
-/// Ends a frame.
+/// The byte that ends a frame.
 const END: u8 = 192;
 
-/// The next byte stands for another.
+/// The byte behind which the next byte stands for another.
 const ESC: u8 = 219;
 
-/// Behind an ESC: an END of the datagram.
+/// The byte that stands for an END of the datagram, behind an ESC.
 const ESC_END: u8 = 220;
 
-/// Behind an ESC: an ESC of the datagram.
+/// The byte that stands for an ESC of the datagram, behind an ESC.
 const ESC_ESC: u8 = 221;
 
 /// The most bytes of a datagram.
 pub const LONGEST_DATAGRAM: usize = 1006;
 
-/// A byte of a datagram goes into a frame.
+/// Appends a byte of a datagram to a frame.
 fn push_escaped(out: &mut Vec<u8>, b: u8) -> Result<(), AllocError>
     ensures { OnOk result (out.new.items ≡ out.old.items ++ escaped_byte b) }
 {
@@ -35,8 +35,8 @@ fn push_escaped(out: &mut Vec<u8>, b: u8) -> Result<(), AllocError>
     Ok(())
 }
 
-/// A datagram as a frame: an END, its bytes with END and ESC escaped, and an END. RFC 1055 advises the
-/// END in front: it ends what noise has left at the receiver. Refused for want of memory alone.
+/// A datagram as a frame: an END, its bytes with END and ESC escaped, and an END. RFC 1055 advises the END in
+/// front. It ends the noise that may be left at the receiver. Fails only when memory runs out.
 pub fn frame(alloc: Global, datagram: &[u8]) -> Result<Vec<u8>, AllocError>
     ensures { IfOk result (λ frame. frame.items ≡ framed datagram.now) }
 {
@@ -49,7 +49,7 @@ pub fn frame(alloc: Global, datagram: &[u8]) -> Result<Vec<u8>, AllocError>
     Ok(out)
 }
 
-/// What a byte behind an ESC stands for.
+/// The byte that a byte behind an ESC stands for.
 fn meant_by(b: u8) -> u8
     ensures { result ≡ meant_by b }
 {
@@ -60,7 +60,7 @@ fn meant_by(b: u8) -> u8
     }
 }
 
-/// The datagram that a frame's bytes spell.
+/// The datagram of a frame's bytes.
 fn unescape(alloc: Global, frame: &[u8]) -> Result<Vec<u8>, AllocError>
     ensures { IfOk result (λ datagram. datagram.items ≡ unescaped frame.now) }
 {
@@ -106,16 +106,16 @@ pub(crate) fn begun(bytes: &[u8]) -> &[u8]
     &[]
 }
 
-/// Whether a frame has ended in bytes from a line.
+/// Whether bytes from a line hold the end of a frame.
 pub(crate) fn holds_frame(bytes: &[u8]) -> bool
     ensures { result ≡ holds_frame bytes.now }
 {
     cut(begun(bytes)).is_some()
 }
 
-/// The first datagram that bytes from a line spell, and the bytes behind its frame; none where no
-/// frame ends. Frames without bytes are passed over, and of a datagram over 1006 bytes those are given,
-/// as RFC 1055's receiver does. Refused for want of memory alone.
+/// The first datagram of bytes from a line, and the bytes behind its frame; none if no frame ends. As in the
+/// receiver of RFC 1055, frames without bytes are passed over, and of a datagram over 1006 bytes the first
+/// 1006 are returned. Fails only when memory runs out.
 pub fn first_datagram(alloc: Global, bytes: &[u8]) -> Result<Option<(Vec<u8>, &[u8])>, AllocError>
     ensures { IfOk result (λ first. option_map {U = List ℕ × List ℕ} (λ f. (f.0.items, f.1.now)) first ≡ first_of bytes.now) }
 {

@@ -1,4 +1,4 @@
-//! The kinds of module that a program with SLIP has.
+//! The kinds of module of a program with SLIP.
 ghost use Rattle.std.specs.Prelude.{◌≡◌, [], ◌++◌, take, unwrap_or, option_map, IfOk, OnOk, OnErr};
 ghost use Rattle.strm_msg.specs.Message.{data_msg};
 ghost use Rattle.strm_msg.specs.declared.words.Side.TheVariants as Side;
@@ -11,33 +11,34 @@ use std::alloc::{AllocError, Global};
 use strm_module::{Kind, Kinds, Outs, Turn, both, pass_on};
 use strm_msg::{BoxedMessage, Bytes, Message, MsgKind, NoMem, Side as Sides};
 
-/// The most bytes that are kept of a frame that has not ended: each byte of a datagram takes two at
-/// most.
+/// The most bytes that are kept of a frame that has not ended. Each byte of a datagram takes at most two of
+/// them.
 pub const MOST_KEPT: usize = 2012;
 
-/// What a module does with messages, and what it keeps for that: SLIP, or one of the framework's
-/// built-in kinds.
+/// A kind of module, with its state: SLIP, or one of the framework's built-in kinds.
 #[derive(Debug, Drop, PartialEq, Eq)]
 pub enum SlipKind {
     /// One of the built-in kinds, with its meaning.
     Builtin {
-        /// Which one, with what it keeps.
+        /// The built-in kind, with its state.
         kind: Kind,
     },
-    /// Datagrams on a line of bytes (RFC 1055). A data message on its way down becomes a frame, in its
-    /// band. Data on its way up is unframed: each datagram goes up as a message of its own, in the
-    /// band of the message with which its frame ended.
+    /// Datagrams on a line of bytes (RFC 1055). A data message on its way down becomes a frame, in its band.
+    /// Data on its way up is unframed: each datagram goes up as a message of its own, in the band of the
+    /// message with which its frame ended.
     ///
-    /// A call sends two datagrams at most, and what is behind the second one is kept. With a read
-    /// queue, the module's service sends it before it takes what waits: all goes up in the same event,
-    /// as far as the queue above has room. Without one it goes up with the data that comes next. A flush
-    /// of the read side, of whichever bands, and a hangup drop what is kept. All other messages go on
-    /// unchanged.
+    /// A call sends at most two datagrams, and the bytes behind the second one are kept. With a read queue,
+    /// the module's service sends them before it takes the messages that wait. So all of them go up in the
+    /// same event, as far as the queue above has room. Without a read queue they go up with the data that
+    /// comes next.
+    ///
+    /// A flush of the read side, of any bands, and a hangup drop the bytes that are kept. All other messages
+    /// go on unchanged.
     Slip {
-        /// What came up and has not gone on: whole frames, and behind them a frame without its END, of which
-        /// at most 2012 bytes are kept where no whole frame is before it.
+        /// The bytes that came up and have not gone on: whole frames, and behind them a frame without its
+        /// END. At most 2012 bytes of that frame are kept if no whole frame is before it.
         kept: Bytes,
-        /// The band of the data that came up last, in which what is kept goes up.
+        /// The band of the data that came up last. The bytes that are kept go up in it.
         band: u8,
     },
 }
@@ -62,7 +63,7 @@ fn framed_part(alloc: Global, part: &Option<Bytes>) -> Result<Option<Bytes>, NoM
     }
 }
 
-/// What is kept where no further frame ends.
+/// The bytes that are kept when no further frame ends.
 #[tactic(auto, using(std::proofs::lemmas::List::take_min))]
 fn unfinished(alloc: Global, bytes: &[u8]) -> Result<Vec<u8>, AllocError>
     ensures { IfOk result (λ out. out.items ≡ take MOST_KEPT (begun bytes.now)) }
@@ -71,7 +72,7 @@ fn unfinished(alloc: Global, bytes: &[u8]) -> Result<Vec<u8>, AllocError>
     Vec::from_slice(alloc, &frame[..MOST_KEPT.min(frame.len())])
 }
 
-/// A datagram on its way up, in a box of its own. Refused for want of memory alone.
+/// A datagram on its way up, in a box of its own. Fails only when memory runs out.
 fn data_up(alloc: Global, band: u8, datagram: Vec<u8>) -> Result<(Sides, BoxedMessage), NoMem>
     ensures { IfOk result (λ out. out ≡ (Side.Rd, data_msg band datagram.items)) }
 {
@@ -84,7 +85,7 @@ fn data_up(alloc: Global, band: u8, datagram: Vec<u8>) -> Result<(Sides, BoxedMe
     Ok((Sides::Rd, BoxedMessage::new(alloc, m)?))
 }
 
-/// The first two datagrams go up, and the rest is kept.
+/// Sends the first two datagrams up, and keeps the rest.
 fn receive(alloc: Global, band: u8, bytes: &[u8]) -> Result<(Outs, Vec<u8>), NoMem>
     ensures outs { IfOk result (λ all. all.0.items ≡ datagrams_up band (received 2 bytes.now).datagrams) }
     ensures kept { IfOk result (λ all. all.1.items ≡ (received 2 bytes.now).kept) }
@@ -101,7 +102,7 @@ fn receive(alloc: Global, band: u8, bytes: &[u8]) -> Result<(Outs, Vec<u8>), NoM
     Ok((both(first, second), Vec::from_slice(alloc, rest)?))
 }
 
-/// Data on its way up is put behind what was kept.
+/// Puts data on its way up behind the bytes that are kept, and sends the first two datagrams up.
 fn receive_behind(
     alloc: Global,
     kept: &mut Bytes,
@@ -120,7 +121,7 @@ fn receive_behind(
     Ok(outs)
 }
 
-/// Two datagrams more of what is kept go up.
+/// Sends two more datagrams up from the bytes that are kept.
 fn receive_more(alloc: Global, kept: &mut Bytes, band: u8) -> Result<Outs, NoMem>
     ensures outs { IfOk result (λ outs. outs.items ≡ (received_action band kept.old).outs) }
     ensures kept { OnOk result (SlipKind.Slip kept.new band ≡ (received_action band kept.old).kind) }
@@ -131,7 +132,7 @@ fn receive_more(alloc: Global, kept: &mut Bytes, band: u8) -> Result<Outs, NoMem
     Ok(outs)
 }
 
-/// A message goes by, which may drop what is kept.
+/// Lets a message pass, which may drop the bytes that are kept.
 fn let_by(alloc: Global, kept: &mut Bytes, kind: MsgKind)
     ensures { kept.new ≡ kept_after kept.old kind }
 {
@@ -141,7 +142,7 @@ fn let_by(alloc: Global, kept: &mut Bytes, kind: MsgKind)
     }
 }
 
-/// What SLIP makes of a message.
+/// Processes a message as SLIP does.
 fn process_slip(
     alloc: Global,
     kept: &mut Bytes,

@@ -1,4 +1,4 @@
-//! The object.
+//! The object of the modules.
 ghost use Rattle.std.specs.Prelude.{◌≡◌, [], is_ok, is_none, IfOk, IfErr, Some};
 ghost use Rattle.strm_module.specs.Shape.{make_fault, new_shape};
 ghost use Rattle.port_slip.specs.declared.kinds.SlipKind.TheVariants as SlipKind;
@@ -7,8 +7,8 @@ use crate::kinds::SlipKind as Kinds;
 use std::alloc::Global;
 use strm_module::{Instance, Kind, MakeFault, ModuleOf, Shape};
 
-/// Acts by its shape and keeps nothing of its own: the object for SLIP, and for the built-in kinds beside
-/// it.
+/// An object that acts by its shape and has no state of its own, for SLIP and for the built-in kinds in the
+/// same chain.
 #[derive(Debug, Drop)]
 pub struct ByShape;
 
@@ -17,8 +17,8 @@ impl ModuleOf for ByShape {
 }
 
 impl ByShape {
-    /// A SLIP module that keeps nothing yet, with a queue on each side for which a high and a low mark
-    /// are given. Nothing has come, so `alloc` is only noted. Takes no memory.
+    /// A SLIP module that keeps nothing yet, with a queue on each side that has marks. Nothing has come, so
+    /// `alloc` is not used yet. Takes no memory.
     ///
     /// Refused for the name first, then for the marks of either side.
     pub fn slip(
@@ -37,7 +37,7 @@ impl ByShape {
         Ok(Instance::new(shape, ByShape))
     }
 
-    /// A module of one of the built-in kinds, to stand in one chain with SLIP. Takes no memory.
+    /// A module of a built-in kind, for a chain with SLIP. Takes no memory.
     ///
     /// Refused for the name first, then for the marks of either side.
     pub fn builtin(

@@ -1,18 +1,19 @@
 //! STREAMS in user space: one crate for a program to list, with all that it needs as modules.
 //!
-//! Messages are in `msg`, modules in `module`, objects for the built-in kinds in `objects`, a stream in `head`, one that keeps its history in `history`, one that callers share in
-//! `shared`, runs in `run`, scripts in `play` and `script`, charts in `chart`, and a chain below the heads in `chain`. The definitions that a
-//! contract cites are passed on by this crate's own `specs/Lib.antt`.
+//! Messages are in `msg`, modules in `module`, and objects for the built-in kinds in `objects`. A stream is
+//! in `head`, one that keeps its history in `history`, and one that callers share in `shared`. Runs are in
+//! `run`, scripts in `play` and `script`, charts in `chart`, and a chain below the heads in `chain`. The
+//! definitions that a contract cites are passed on by this crate's own `specs/Lib.antt`.
 #![tactic(auto)]
 
 pub use strm_chain as chain;
-pub use strm_chart as chart;
 pub use strm_head as head;
-pub use strm_history as history;
 pub use strm_module as module;
+pub use strm_module_builtin as objects;
 pub use strm_msg as msg;
-pub use strm_objects as objects;
-pub use strm_play as play;
 pub use strm_run as run;
 pub use strm_script as script;
+pub use strm_script_chart as chart;
+pub use strm_script_play as play;
 pub use strm_shared as shared;
+pub use strm_shared_log as history;

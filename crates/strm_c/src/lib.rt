@@ -1,32 +1,32 @@
 //! The calls on a stream, for programs in C: `include/strm.h` declares them in the shape of `stropts.h`.
 //!
-//! A call returns 0 or the number of an errno. It takes the stream out of its handle, makes one step of it, and puts it
-//! back. What its caller sends is copied where nothing else refuses the call. What a reply has is written where the caller has
-//! room for it, and nothing beyond.
+//! A call returns 0 or the number of an errno. It takes the stream out of its handle, makes one step of it,
+//! and puts it back. The caller's bytes are copied only where nothing else refuses the call. The parts of a
+//! reply are written where the caller has room for them, and nothing beyond.
 #![tactic(auto)]
 
 ghost use Rattle.std.specs.Prelude.{◌≡◌, ◌||◌, pos, true, false, [], Ok};
-ghost use Rattle.strm_call.specs.declared.request.Request.TheVariants as Requests;
-ghost use Rattle.strm_call.specs.Refusal.{first_that_holds};
-ghost use Rattle.strm_abi.specs.Numbers.{end_of};
-ghost use Rattle.strm_handle.specs.Codes.{driver_of, told_flags};
-ghost use Rattle.strm_handle.specs.Asked as asks;
-ghost use Rattle.strm_handle.specs.Told.{HasTaken, IsValue, AreValues, IsNamed, Nothing};
-ghost use Rattle.strm_handle.specs.Call.{Calls, CopiesAndCalls, Opens};
-ghost use Rattle.strm_handle.specs.Outside as outside;
-ghost use Rattle.strm_handle.specs.Polls.{polled_at};
-ghost use Rattle.strm_abi.specs.Messages.{message_of};
-ghost use Rattle.strm_handle.specs.Arrival.{arrival_refusals, CopiesAndHandsIn};
+ghost use Rattle.strm_head_calls.specs.declared.request.Request.TheVariants as Requests;
+ghost use Rattle.strm_head_calls.specs.Refusal.{first_that_holds};
+ghost use Rattle.strm_c_numbers.specs.Numbers.{end_of};
+ghost use Rattle.strm_c_calls.specs.Codes.{driver_of, returned_flags};
+ghost use Rattle.strm_c_calls.specs.Arguments as asks;
+ghost use Rattle.strm_c_calls.specs.Returned.{HasTaken, IsValue, AreValues, IsNamed, Nothing};
+ghost use Rattle.strm_c_calls.specs.Call.{Calls, CopiesAndCalls, Opens};
+ghost use Rattle.strm_c_calls.specs.Outside as outside;
+ghost use Rattle.strm_c_calls.specs.Polls.{polled_at};
+ghost use Rattle.strm_c_numbers.specs.Messages.{message_of};
+ghost use Rattle.strm_c_calls.specs.Arrival.{arrival_refusals, CopiesAndHandsIn};
 
 use std::alloc::Global;
-use strm_call::Request;
-pub use strm_handle::{Got, Handle};
-use strm_handle::{
+pub use strm_c_calls::{Handle, Returned};
+use strm_c_calls::{
     arrive, call, call_for_name, call_for_value, call_for_values, call_taking, driver_of, find_of,
     flush_of, flushband_of, free_stream, getmsg_of, getpmsg_of, kind_of, marks_of, next,
     open_stream, peek_of, poll, push_of, putmsg_of, putpmsg_of, read_of, setread_of, str_of,
     take_whole, write_of,
 };
+use strm_head_calls::Request;
 
 /// Opens a stream into a closed handle.
 #[unsafe(no_mangle)]
@@ -46,7 +46,7 @@ pub extern "C" fn strm_open(
     open_stream(alloc, s, driver, (head_hi, head_lo), (drv_hi, drv_lo))
 }
 
-/// Frees the stream of an open handle, whatever stands there, and closes the handle.
+/// Frees the stream of an open handle with all that it holds, and closes the handle.
 #[unsafe(no_mangle)]
 pub extern "C" fn strm_free(alloc: Global, s: &mut Handle)
     requires { s.old.is_open ≡ true }
@@ -75,7 +75,7 @@ pub extern "C" fn strm_putmsg_parts(
     call(alloc, s, end, asked)
 }
 
-/// Sends a message of a band (putpmsg(2)).
+/// Sends a message in a band (putpmsg(2)).
 #[unsafe(no_mangle)]
 pub extern "C" fn strm_putpmsg_parts(
     alloc: Global,
@@ -107,7 +107,7 @@ pub extern "C" fn strm_getmsg_parts(
     has_dat: bool,
     dat: &mut [u8],
     flags: u32,
-    got: &mut Got,
+    got: &mut Returned,
 ) -> i32
     requires { s.old.is_open ≡ true }
     ensures open { s.new.is_open ≡ true }
@@ -117,7 +117,8 @@ pub extern "C" fn strm_getmsg_parts(
     call_taking(alloc, s, end, asked, ctl, dat, got)
 }
 
-/// Takes the first message of some band, or a part of it (getpmsg(2)).
+/// Takes the first message, or a part of it, if it has the band or priority that the call asks for
+/// (getpmsg(2)).
 #[unsafe(no_mangle)]
 pub extern "C" fn strm_getpmsg_parts(
     alloc: Global,
@@ -129,7 +130,7 @@ pub extern "C" fn strm_getpmsg_parts(
     dat: &mut [u8],
     band: u32,
     flags: u32,
-    got: &mut Got,
+    got: &mut Returned,
 ) -> i32
     requires { s.old.is_open ≡ true }
     ensures open { s.new.is_open ≡ true }
@@ -150,7 +151,7 @@ pub extern "C" fn strm_peek_parts(
     has_dat: bool,
     dat: &mut [u8],
     flags: u32,
-    got: &mut Got,
+    got: &mut Returned,
 ) -> i32
     requires { s.old.is_open ≡ true }
     ensures open { s.new.is_open ≡ true }
@@ -167,7 +168,7 @@ pub extern "C" fn strm_read_bytes(
     s: &mut Handle,
     end: u8,
     bytes: &mut [u8],
-    got: &mut Got,
+    got: &mut Returned,
 ) -> i32
     requires { s.old.is_open ≡ true }
     ensures open { s.new.is_open ≡ true }
@@ -177,7 +178,7 @@ pub extern "C" fn strm_read_bytes(
     call_taking(alloc, s, end, asked, &mut [], bytes, got)
 }
 
-/// Sends bytes as one message (write(2)), and tells how many they were.
+/// Sends bytes as one message (write(2)), and returns their number.
 #[unsafe(no_mangle)]
 pub extern "C" fn strm_write_bytes(
     alloc: Global,
@@ -194,8 +195,8 @@ pub extern "C" fn strm_write_bytes(
     call_for_value(alloc, s, end, asked, written)
 }
 
-/// Puts a module in just below the head (I_PUSH): one of the built-in kinds, by its number, with what it takes: a
-/// further number or a table. A side has a queue where its high mark is not 0.
+/// Puts a module in just below the head (I_PUSH): one of the built-in kinds, by its number, with its
+/// argument, a further number or a table. A side has a queue if its high mark is not 0.
 #[unsafe(no_mangle)]
 pub extern "C" fn strm_push_kind(
     alloc: Global,
@@ -212,7 +213,7 @@ pub extern "C" fn strm_push_kind(
 ) -> i32
     requires { s.old.is_open ≡ true }
     ensures open { s.new.is_open ≡ true }
-    ensures call { CopiesAndCalls s.old.held.stream end (asks.push_of name.now (asks.marks_of rd_hi rd_lo) (asks.marks_of wr_hi wr_lo) (asks.kind_of kind number table.now)) Nothing result s.new.held.stream }
+    ensures call { CopiesAndCalls s.old.held.stream end (asks.push_of name.now (asks.marks_argument rd_hi rd_lo) (asks.marks_argument wr_hi wr_lo) (asks.kind_of kind number table.now)) Nothing result s.new.held.stream }
 {
     let rd = marks_of(rd_hi, rd_lo);
     let wr = marks_of(wr_hi, wr_lo);
@@ -221,7 +222,7 @@ pub extern "C" fn strm_push_kind(
     call(alloc, s, end, asked)
 }
 
-/// Takes the topmost module out, and drops what its queues hold (I_POP).
+/// Takes the topmost module out, and drops the messages in its queues (I_POP).
 #[unsafe(no_mangle)]
 pub extern "C" fn strm_pop(alloc: Global, s: &mut Handle, end: u8) -> i32
     requires { s.old.is_open ≡ true }
@@ -231,7 +232,7 @@ pub extern "C" fn strm_pop(alloc: Global, s: &mut Handle, end: u8) -> i32
     call(alloc, s, end, Ok(Request::Pop))
 }
 
-/// Tells the name of the topmost module (I_LOOK), with zeros behind it up to nine bytes.
+/// Returns the name of the topmost module (I_LOOK), with zeros behind it up to nine bytes.
 #[unsafe(no_mangle)]
 pub extern "C" fn strm_look_name(
     alloc: Global,
@@ -247,7 +248,8 @@ pub extern "C" fn strm_look_name(
     call_for_name(alloc, s, end, Ok(Request::Look), 0, name, count)
 }
 
-/// Tells how many modules there are with the driver, and the name of one, counted from 0 for the topmost (I_LIST).
+/// Returns the number of the modules with the driver, and the name of one of them, counted from 0 for the
+/// topmost (I_LIST).
 #[unsafe(no_mangle)]
 pub extern "C" fn strm_list_name(
     alloc: Global,
@@ -264,7 +266,7 @@ pub extern "C" fn strm_list_name(
     call_for_name(alloc, s, end, Ok(Request::List), i, name, count)
 }
 
-/// Tells whether a module of a name stands there (I_FIND).
+/// Returns whether there is a module of a name (I_FIND).
 #[unsafe(no_mangle)]
 pub extern "C" fn strm_find_name(
     alloc: Global,
@@ -281,7 +283,8 @@ pub extern "C" fn strm_find_name(
     call_for_value(alloc, s, end, asked, found)
 }
 
-/// Sends an ioctl down with the data at the front of a buffer, and puts the data of its answer there (I_STR).
+/// Sends an ioctl down with the data at the front of a buffer, and writes the data of its answer there
+/// (I_STR).
 #[unsafe(no_mangle)]
 pub extern "C" fn strm_str_bytes(
     alloc: Global,
@@ -290,11 +293,11 @@ pub extern "C" fn strm_str_bytes(
     cmd: u32,
     has_dat: bool,
     dat: &mut [u8],
-    got: &mut Got,
+    got: &mut Returned,
 ) -> i32
     requires { s.old.is_open ≡ true }
     ensures open { s.new.is_open ≡ true }
-    ensures call { Calls s.old.held.stream end (Ok (Requests.Str cmd (asks.part_of has_dat dat.old))) (HasTaken [] dat.old got.old [] dat.new got.new) result s.new.held.stream }
+    ensures call { Calls s.old.held.stream end (Ok (Requests.Str cmd (asks.part_argument has_dat dat.old))) (HasTaken [] dat.old got.old [] dat.new got.new) result s.new.held.stream }
 {
     let asked = str_of(alloc, s, end, cmd, has_dat, dat);
     call_taking(alloc, s, end, asked, &mut [], dat, got)
@@ -328,7 +331,7 @@ pub extern "C" fn strm_flushband_flags(
     call(alloc, s, end, asked)
 }
 
-/// Tells how many messages wait, and how many bytes of data the first has (I_NREAD).
+/// Returns the number of messages that wait, and the number of data bytes of the first (I_NREAD).
 #[unsafe(no_mangle)]
 pub extern "C" fn strm_nread(
     alloc: Global,
@@ -344,7 +347,7 @@ pub extern "C" fn strm_nread(
     call_for_values(alloc, s, end, Ok(Request::Nread), messages, bytes)
 }
 
-/// Tells whether an ordinary message of a band waits (I_CKBAND).
+/// Returns whether an ordinary message of a band waits (I_CKBAND).
 #[unsafe(no_mangle)]
 pub extern "C" fn strm_ckband(
     alloc: Global,
@@ -360,7 +363,7 @@ pub extern "C" fn strm_ckband(
     call_for_value(alloc, s, end, Ok(Request::Ckband { band }), waits)
 }
 
-/// Tells the band of the first message, 0 for a high one (I_GETBAND).
+/// Returns the band of the first message, 0 for a high one (I_GETBAND).
 #[unsafe(no_mangle)]
 pub extern "C" fn strm_getband(alloc: Global, s: &mut Handle, end: u8, band: &mut i32) -> i32
     requires { s.old.is_open ≡ true }
@@ -370,7 +373,7 @@ pub extern "C" fn strm_getband(alloc: Global, s: &mut Handle, end: u8, band: &mu
     call_for_value(alloc, s, end, Ok(Request::Getband), band)
 }
 
-/// Tells whether an ordinary message of a band could be sent (I_CANPUT).
+/// Returns whether an ordinary message of a band could be sent (I_CANPUT).
 #[unsafe(no_mangle)]
 pub extern "C" fn strm_canput(
     alloc: Global,
@@ -397,7 +400,7 @@ pub extern "C" fn strm_setread(alloc: Global, s: &mut Handle, end: u8, mode: u32
     call(alloc, s, end, asked)
 }
 
-/// Tells how reads treat messages (I_GRDOPT).
+/// Returns how reads treat messages (I_GRDOPT).
 #[unsafe(no_mangle)]
 pub extern "C" fn strm_getread(alloc: Global, s: &mut Handle, end: u8, mode: &mut i32) -> i32
     requires { s.old.is_open ≡ true }
@@ -407,7 +410,7 @@ pub extern "C" fn strm_getread(alloc: Global, s: &mut Handle, end: u8, mode: &mu
     call_for_value(alloc, s, end, Ok(Request::GetRead), mode)
 }
 
-/// Hands a message in from a line.
+/// Hands a message in from a line or a wire.
 #[unsafe(no_mangle)]
 pub extern "C" fn strm_arrive_parts(
     alloc: Global,
@@ -422,12 +425,13 @@ pub extern "C" fn strm_arrive_parts(
 ) -> i32
     requires { s.old.is_open ≡ true }
     ensures open { s.new.is_open ≡ true }
-    ensures lands { CopiesAndHandsIn (first_that_holds (arrival_refusals s.old.held.stream (asks.part_of has_ctl ctl.now) (asks.part_of has_dat dat.now))) (has_ctl || has_dat) s.old.held.stream (message_of kind band (asks.part_of has_ctl ctl.now) (asks.part_of has_dat dat.now) number) result s.new.held.stream }
+    ensures lands { CopiesAndHandsIn (first_that_holds (arrival_refusals s.old.held.stream (asks.part_argument has_ctl ctl.now) (asks.part_argument has_dat dat.now))) (has_ctl || has_dat) s.old.held.stream (message_of kind band (asks.part_argument has_ctl ctl.now) (asks.part_argument has_dat dat.now) number) result s.new.held.stream }
 {
     arrive(alloc, s, kind, band, has_ctl, ctl, has_dat, dat, number)
 }
 
-/// Takes the first message that was sent down to a wire, whole or not at all; of a closed wire of which all was taken, a hangup.
+/// Takes the first message that was sent down to a wire, whole or not at all. From a closed wire whose
+/// messages were all taken, it takes a hangup.
 #[unsafe(no_mangle)]
 pub extern "C" fn strm_take_parts(
     alloc: Global,
@@ -437,7 +441,7 @@ pub extern "C" fn strm_take_parts(
     ctl: &mut [u8],
     has_dat: bool,
     dat: &mut [u8],
-    got: &mut Got,
+    got: &mut Returned,
 ) -> i32
     requires { s.old.is_open ≡ true }
     ensures open { s.new.is_open ≡ true }
@@ -446,9 +450,14 @@ pub extern "C" fn strm_take_parts(
     take_whole(alloc, s, end, has_ctl, ctl, has_dat, dat, got)
 }
 
-/// Tells what a take would give, and leaves it there.
+/// Describes the message that a take would return, and leaves it there.
 #[unsafe(no_mangle)]
-pub extern "C" fn strm_next_lengths(alloc: Global, s: &mut Handle, end: u8, got: &mut Got) -> i32
+pub extern "C" fn strm_next_lengths(
+    alloc: Global,
+    s: &mut Handle,
+    end: u8,
+    got: &mut Returned,
+) -> i32
     requires { s.old.is_open ≡ true }
     ensures open { s.new.is_open ≡ true }
     ensures next { outside.TellsNext s.old.held.stream (end_of end) got.old got.new result s.new.held.stream }
@@ -456,7 +465,8 @@ pub extern "C" fn strm_next_lengths(alloc: Global, s: &mut Handle, end: u8, got:
     next(alloc, s, end, got)
 }
 
-/// Tells what holds of an end: those of `events`, and POLLERR, POLLHUP and POLLNVAL (poll(2)).
+/// Returns the conditions that hold of an end: those of `events`, and POLLERR, POLLHUP and POLLNVAL
+/// (poll(2)).
 #[unsafe(no_mangle)]
 pub extern "C" fn strm_poll(
     alloc: Global,
@@ -469,7 +479,7 @@ pub extern "C" fn strm_poll(
     ensures open { s.new.is_open ≡ true }
     ensures same { s.new.held.stream ≡ s.old.held.stream }
     ensures done { result ≡ pos 0 }
-    ensures told { revents.new ≡ told_flags events (polled_at s.old.held.stream (end_of end)) }
+    ensures told { revents.new ≡ returned_flags events (polled_at s.old.held.stream (end_of end)) }
 {
     poll(alloc, s, end, events, revents)
 }

@@ -3,15 +3,15 @@ use Rattle.std.proofs.Common.{◌≡◌, false, true, Result, Ok, Err, sym, ◌�
 use Rattle.std.specs.Prelude.{IfErr}
 use Rattle.strm_msg.specs.Message.{Msg}
 use Rattle.strm_module.specs.Kinds.{Meaning}
-use Rattle.strm_qpair.specs.End.{EndState}
-use Rattle.strm_qpair.specs.Modules.{SameEnd, SameIds}
-use Rattle.strm_qpair.specs.declared.record.Record.{Record}
+use Rattle.strm_chain_end.specs.End.{EndState}
+use Rattle.strm_chain_end.specs.Modules.{SameEnd, SameIds}
+use Rattle.strm_chain_end.specs.declared.record.Record.{Record}
 use Rattle.strm_chain.specs.declared.spot.Spot.{Spot}
 use Rattle.strm_chain.specs.declared.fault.ChainFault.{ChainFault}
 use Rattle.strm_chain.specs.declared.fault.ChainFault.TheVariants.{NoMem, Broken}
-use Rattle.strm_ends.specs.Image.{Image}
+use Rattle.strm_chain_ends.specs.Image.{Image}
 use Rattle.strm_chain.specs.Deliver.{deliver}
-use Rattle.strm_ends.specs.Same.{SameModules}
+use Rattle.strm_chain_ends.specs.Same.{SameModules}
 use Rattle.strm_chain.specs.Fault.{Breaks, Fails, Refuses}
 use Rattle.strm_chain.proofs.QuietLemmas.{end_trans}
 use Rattle.strm_chain.proofs.SameLemmas.{deliver_keeps}

@@ -1,6 +1,8 @@
 -- What messages on their way enable.
 use Rattle.std.proofs.Common.{◌≡◌, ◌+◌, ◌≤◌, ◌&&◌, ℕ, Bool, true, false, List, [], ◌∷◌, ◌++◌, length, map, sum_by, refl, ◌∙◌, ap, arith}
 use Rattle.std.proofs.lemmas.List.Sums.{sum_by-cons}
+use Rattle.std.proofs.lemmas.Bool.{and_from, and_parts}
+use Rattle.strm_chain_ends.proofs.FrameLemmas.{there}
 use Rattle.strm_msg.specs.Message.{Msg}
 use Rattle.strm_msg.specs.declared.words.End.{End}
 use Rattle.strm_msg.specs.declared.words.End.TheVariants.{A, B}
@@ -8,56 +10,52 @@ use Rattle.strm_msg.specs.declared.words.Side.{Side}
 use Rattle.strm_msg.specs.declared.words.Side.TheVariants.{Rd, Wr}
 use Rattle.strm_module.specs.Kinds.{OutList, Meaning}
 use Rattle.strm_module.specs.Calm.{is_calm, are_calm, options_of, options_held, options_sent, IsCalm}
-use Rattle.strm_qpair.specs.Head.{head_does}
-use Rattle.strm_qpair.specs.End.{EndState, list_at, end_gets, end_serves}
-use Rattle.strm_qpair.specs.Modules.{HoldsCalm}
-use Rattle.strm_ends.specs.declared.place.Place.TheVariants as Places
-use Rattle.strm_ends.specs.declared.place.NextQueue.{NextQueue}
-use Rattle.strm_ends.specs.declared.place.NextQueue.TheVariants.{Of, Head}
-use Rattle.strm_ends.specs.Image.{Image, end_of, with_end, driver_does}
-use Rattle.strm_ends.specs.Held.{held_by, DiffersIn, SetsMarks}
-use Rattle.strm_qpair.specs.declared.driver.DriverSends.{DriverSends}
-use Rattle.strm_ends.specs.Count.{message_count, answers_options, options_driven, options_count}
-use Rattle.strm_ends.proofs.CountLemmas.{Beside, beside, count_differs, options_differ}
-use Rattle.strm_ends.proofs.CalmLemmas.{head_calm, head_options, driver_calm, driver_options, gets_calm, gets_options, serves_calm, serves_options, IsServed}
+use Rattle.strm_chain_end.specs.Head.{put_at_head}
+use Rattle.strm_chain_end.specs.End.{EndState, list_at, end_gets, end_serves}
+use Rattle.strm_chain_end.specs.Modules.{HoldsCalm}
+use Rattle.strm_chain_ends.specs.declared.place.Place.TheVariants as Places
+use Rattle.strm_chain_ends.specs.declared.place.NextQueue.{NextQueue}
+use Rattle.strm_chain_ends.specs.declared.place.NextQueue.TheVariants.{Of, Head}
+use Rattle.strm_chain_ends.specs.Image.{Image, end_of, with_end, put_at_driver}
+use Rattle.strm_chain_ends.specs.Held.{held_by, DiffersIn, SetsMarks}
+use Rattle.strm_chain_end.specs.declared.driver.DriverSends.{DriverSends}
+use Rattle.strm_chain_ends.specs.Count.{message_count, answers_options, options_driven, options_count}
+use Rattle.strm_chain_ends.proofs.CountLemmas.{Beside, beside, count_differs, options_differ}
+use Rattle.strm_chain_ends.proofs.CalmLemmas.{head_calm, head_options, driver_calm, driver_options, gets_calm, gets_options, serves_calm, serves_options, IsServed}
 use Rattle.strm_chain.specs.declared.chain.hop.Hop.{Hop}
 use Rattle.strm_chain.specs.Hop.{hop_of}
-use Rattle.strm_ends.specs.Held.{module_place}
+use Rattle.strm_chain_ends.specs.Held.{module_place}
 use Rattle.strm_chain.specs.Count.{are_calm_hops}
 
-end_with : {K : Type 0} (image : Image K) (e : End) (s : EndState K) → end_of (with_end image e s) e ≡ s
-end_with image A s = refl
-end_with image B s = refl
-
 -- what waits at a head, at a driver and at a module after a calm message, and what is sent on, sets no more options
-pub head_sets_less : {K : Type 0} (b : Bool) (old new : Image K) (e : End) (m : Msg) → is_calm m.kind ≡ true → new ≡ with_end old e (head_does (end_of old e) m).state → options_held b (held_by new (Head e)) + 0 ≤ options_held b (held_by old (Head e)) + options_of b m
+pub head_sets_less : {K : Type 0} (b : Bool) (old new : Image K) (e : End) (m : Msg) → is_calm m.kind ≡ true → new ≡ with_end old e (put_at_head (end_of old e) m).state → options_held b (held_by new (Head e)) + 0 ≤ options_held b (held_by old (Head e)) + options_of b m
 head_sets_less {K = K} b old new e m calm is =
-    let after : options_held b (held_by new (Head e)) ≡ options_held b (head_does (end_of old e) m).state.head =
-    ap (λ i. options_held b (held_by i (Head e))) is ∙ ap (λ (s : EndState K). options_held b s.head) (end_with old e (head_does (end_of old e) m).state) in
+    let after : options_held b (held_by new (Head e)) ≡ options_held b (put_at_head (end_of old e) m).state.head =
+    ap (λ i. options_held b (held_by i (Head e))) is ∙ ap (λ (s : EndState K). options_held b s.head) (there old e (put_at_head (end_of old e) m).state) in
     let less = head_options b (end_of old e) m calm in
     omega (arith, after, less)
 
-pub driver_sets_less : {K : Type 0} (old new : Image K) (e : End) (m : Msg) (sends : DriverSends) → is_calm m.kind ≡ true → new ≡ with_end old e (driver_does old.driver e (end_of old e) m).state → sends ≡ (driver_does old.driver e (end_of old e) m).sends → options_held (answers_options old.driver) (held_by new (Of (Places.Drv e))) + options_driven (answers_options old.driver) sends ≤ options_held (answers_options old.driver) (held_by old (Of (Places.Drv e))) + options_of (answers_options old.driver) m
+pub driver_sets_less : {K : Type 0} (old new : Image K) (e : End) (m : Msg) (sends : DriverSends) → is_calm m.kind ≡ true → new ≡ with_end old e (put_at_driver old.driver e (end_of old e) m).state → sends ≡ (put_at_driver old.driver e (end_of old e) m).sends → options_held (answers_options old.driver) (held_by new (Of (Places.Drv e))) + options_driven (answers_options old.driver) sends ≤ options_held (answers_options old.driver) (held_by old (Of (Places.Drv e))) + options_of (answers_options old.driver) m
 driver_sets_less {K = K} old new e m sends calm is sent =
     let b = answers_options old.driver in
-    let after : options_held b (held_by new (Of (Places.Drv e))) ≡ options_held b (driver_does old.driver e (end_of old e) m).state.drv =
-    ap (λ i. options_held b (held_by i (Of (Places.Drv e)))) is ∙ ap (λ (s : EndState K). options_held b s.drv) (end_with old e (driver_does old.driver e (end_of old e) m).state) in
+    let after : options_held b (held_by new (Of (Places.Drv e))) ≡ options_held b (put_at_driver old.driver e (end_of old e) m).state.drv =
+    ap (λ i. options_held b (held_by i (Of (Places.Drv e)))) is ∙ ap (λ (s : EndState K). options_held b s.drv) (there old e (put_at_driver old.driver e (end_of old e) m).state) in
     let by = ap (options_driven b) sent in
     let less = driver_options old.driver e (end_of old e) m calm in
     omega (arith, after, by, less)
 
 -- the list of a head, of a driver and of a module after a calm message is no shorter
-pub head_grows : {K : Type 0} (old new : Image K) (e : End) (m : Msg) → is_calm m.kind ≡ true → new ≡ with_end old e (head_does (end_of old e) m).state → length (held_by old (Head e)) ≤ length (held_by new (Head e))
+pub head_grows : {K : Type 0} (old new : Image K) (e : End) (m : Msg) → is_calm m.kind ≡ true → new ≡ with_end old e (put_at_head (end_of old e) m).state → length (held_by old (Head e)) ≤ length (held_by new (Head e))
 head_grows {K = K} old new e m calm is =
-    let after : length (held_by new (Head e)) ≡ length (head_does (end_of old e) m).state.head =
-    ap (λ i. length (held_by i (Head e))) is ∙ ap (λ (s : EndState K). length s.head) (end_with old e (head_does (end_of old e) m).state) in
+    let after : length (held_by new (Head e)) ≡ length (put_at_head (end_of old e) m).state.head =
+    ap (λ i. length (held_by i (Head e))) is ∙ ap (λ (s : EndState K). length s.head) (there old e (put_at_head (end_of old e) m).state) in
     let more = (head_calm (end_of old e) m calm).1 in
     omega (arith, after, more)
 
-pub driver_grows : {K : Type 0} (old new : Image K) (e : End) (m : Msg) → is_calm m.kind ≡ true → new ≡ with_end old e (driver_does old.driver e (end_of old e) m).state → length (held_by old (Of (Places.Drv e))) ≤ length (held_by new (Of (Places.Drv e)))
+pub driver_grows : {K : Type 0} (old new : Image K) (e : End) (m : Msg) → is_calm m.kind ≡ true → new ≡ with_end old e (put_at_driver old.driver e (end_of old e) m).state → length (held_by old (Of (Places.Drv e))) ≤ length (held_by new (Of (Places.Drv e)))
 driver_grows {K = K} old new e m calm is =
-    let after : length (held_by new (Of (Places.Drv e))) ≡ length (driver_does old.driver e (end_of old e) m).state.drv =
-    ap (λ i. length (held_by i (Of (Places.Drv e)))) is ∙ ap (λ (s : EndState K). length s.drv) (end_with old e (driver_does old.driver e (end_of old e) m).state) in
+    let after : length (held_by new (Of (Places.Drv e))) ≡ length (put_at_driver old.driver e (end_of old e) m).state.drv =
+    ap (λ i. length (held_by i (Of (Places.Drv e)))) is ∙ ap (λ (s : EndState K). length s.drv) (there old e (put_at_driver old.driver e (end_of old e) m).state) in
     let more = (driver_calm old.driver e (end_of old e) m calm).1 in
     omega (arith, after, more)
 
@@ -79,22 +77,22 @@ held_on image Wr e i = refl
 module _ {K : Type 0} (means : Meaning K) where
   pub gets_grows : (old new : Image K) (e : End) (i : ℕ) (side : Side) (m : Msg) → IsCalm means → is_calm m.kind ≡ true → new ≡ with_end old e (end_gets means (end_of old e) i side m).state → length (held_by old (Of (module_place side e i))) ≤ length (held_by new (Of (module_place side e i)))
   gets_grows old new e i side m calm h is =
-      rw (held_on old side e i, held_on new side e i, is, end_with old e (end_gets means (end_of old e) i side m).state)
+      rw (held_on old side e i, held_on new side e i, is, there old e (end_gets means (end_of old e) i side m).state)
       (gets_calm means (end_of old e) i side m calm h).1
 
   pub serves_one : (old new : Image K) (e : End) (i : ℕ) (side : Side) → IsCalm means → HoldsCalm (end_of old e) → new ≡ with_end old e (end_serves means (end_of old e) i side).state → IsServed (held_by old (Of (module_place side e i))) (held_by new (Of (module_place side e i)))
   serves_one old new e i side calm ordinary is =
-      rw (held_on old side e i, held_on new side e i, is, end_with old e (end_serves means (end_of old e) i side).state)
+      rw (held_on old side e i, held_on new side e i, is, there old e (end_serves means (end_of old e) i side).state)
       (serves_calm means (end_of old e) i side calm ordinary).1
 
   pub gets_sets_less : (b : Bool) (old new : Image K) (e : End) (i : ℕ) (side : Side) (m : Msg) (outs : OutList) → IsCalm means → is_calm m.kind ≡ true → new ≡ with_end old e (end_gets means (end_of old e) i side m).state → outs ≡ (end_gets means (end_of old e) i side m).outs → options_held b (held_by new (Of (module_place side e i))) + options_sent b outs ≤ options_held b (held_by old (Of (module_place side e i))) + options_of b m
   gets_sets_less b old new e i side m outs calm h is sent =
-      rw (held_on old side e i, held_on new side e i, is, end_with old e (end_gets means (end_of old e) i side m).state, sent)
+      rw (held_on old side e i, held_on new side e i, is, there old e (end_gets means (end_of old e) i side m).state, sent)
       (gets_options means b (end_of old e) i side m calm h)
 
   pub serves_sets_less : (b : Bool) (old new : Image K) (e : End) (i : ℕ) (side : Side) (outs : OutList) → IsCalm means → new ≡ with_end old e (end_serves means (end_of old e) i side).state → outs ≡ (end_serves means (end_of old e) i side).outs → options_held b (held_by new (Of (module_place side e i))) + options_sent b outs ≤ options_held b (held_by old (Of (module_place side e i)))
   serves_sets_less b old new e i side outs calm is sent =
-      rw (held_on old side e i, held_on new side e i, is, end_with old e (end_serves means (end_of old e) i side).state, sent)
+      rw (held_on old side e i, held_on new side e i, is, there old e (end_serves means (end_of old e) i side).state, sent)
       (serves_options means b (end_of old e) i side calm)
 
 -- a queue that got a message enabled its place
@@ -121,21 +119,9 @@ count_sets {K = K} x y e before after sets d one less =
     let held = ap (options_held (answers_options x.driver)) (d.held (Head e)) in
     omega (arith, n, o, one, less, long, held)
 
-and_both : (a b : Bool) → a ≡ true → b ≡ true → (a && b) ≡ true
-and_both true b x y = y
-and_both false b x y = x
-
-pub and_first : (a b : Bool) → (a && b) ≡ true → a ≡ true
-and_first true b h = refl
-and_first false b h = h
-
-pub and_second : (a b : Bool) → (a && b) ≡ true → b ≡ true
-and_second true b h = h
-and_second false b h = cc
-
 -- one more calm message on its way
 pub one_calm : (h : Hop) (hops : List Hop) → is_calm h.m.kind ≡ true → are_calm_hops hops ≡ true → are_calm_hops (h ∷ hops) ≡ true
-one_calm h hops x y = and_both (is_calm h.m.kind) (are_calm_hops hops) x y
+one_calm h hops x y = and_from (is_calm h.m.kind) (are_calm_hops hops) x y
 
 hop_calm : (sent : Bool) (side : Side) (e : End) (i below : ℕ) (out : Side × Msg) → is_calm out.1.kind ≡ true → is_calm (hop_of sent side e i below out).m.kind ≡ true
 hop_calm sent Rd e i below out h = h
@@ -146,9 +132,9 @@ hop_calm sent Wr e i below (Rd, m) h = h
 pub outs_calm : (sent : Bool) (side : Side) (e : End) (i below : ℕ) (outs : OutList) (hops : List Hop) → are_calm outs ≡ true → are_calm_hops hops ≡ true → are_calm_hops (map (hop_of sent side e i below) outs ++ hops) ≡ true
 outs_calm sent side e i below [] hops x y = y
 outs_calm sent side e i below (out ∷ outs) hops x y =
-    and_both (is_calm (hop_of sent side e i below out).m.kind) (are_calm_hops (map (hop_of sent side e i below) outs ++ hops))
-    (hop_calm sent side e i below out (and_first (is_calm out.1.kind) (are_calm outs) x))
-    (outs_calm sent side e i below outs hops (and_second (is_calm out.1.kind) (are_calm outs) x) y)
+    and_from (is_calm (hop_of sent side e i below out).m.kind) (are_calm_hops (map (hop_of sent side e i below) outs ++ hops))
+    (hop_calm sent side e i below out ((and_parts (is_calm out.1.kind) (are_calm outs) x).0))
+    (outs_calm sent side e i below outs hops ((and_parts (is_calm out.1.kind) (are_calm outs) x).1) y)
 
 hop_sets : (b sent : Bool) (side : Side) (e : End) (i below : ℕ) (out : Side × Msg) → options_of b (hop_of sent side e i below out).m ≡ options_of b out.1
 hop_sets b sent Rd e i below out = refl

@@ -1,54 +1,46 @@
 -- No place is forgotten: what enabling keeps.
 use Rattle.std.proofs.Common.{⊎_elim, inl, inr, map, ◌≡◌, ◌≢◌, ◌<◌, ◌≤◌, ◌||◌, ℕ, nat_eq, Bool, true, false, Some, None, List, [], ◌∷◌, length, slice_get, slice_set, is_some, refl, sym, ◌∙◌, ap, suc, zero, arith}
-use Rattle.std.proofs.lemmas.Bool.{cases_eq}
+use Rattle.std.proofs.lemmas.Bool.{cases_eq, or_parts, or_right, or_left}
 use Rattle.std.proofs.lemmas.Cmp.{nat_eq_equiv}
 use Rattle.std.proofs.lemmas.List.{length-map}
 use Rattle.std.proofs.lemmas.Map.Made.{length-le_from_is_member}
 use Rattle.std.proofs.lemmas.Bool.Decides.{nat_tests}
 use Rattle.strm_msg.specs.declared.words.End.{End}
 use Rattle.strm_msg.specs.declared.words.End.TheVariants.{A, B}
-use Rattle.strm_qpair.specs.declared.record.Record.{Record}
-use Rattle.strm_queue.specs.Run.{RunList, stands_in, AreOnce, with_place}
+use Rattle.strm_chain_end.specs.declared.record.Record.{Record}
+use Rattle.strm_queue.specs.Run.{RunList, is_listed, AreOnce, with_place}
 use Rattle.strm_queue.proofs.RunLemmas.{stands_with}
-use Rattle.strm_ends.specs.declared.place.Place.{Place}
-use Rattle.strm_ends.specs.declared.place.NextQueue.{NextQueue}
-use Rattle.strm_ends.specs.declared.place.NextQueue.TheVariants.{Of, Head}
-use Rattle.strm_qpair.specs.End.{in_state}
-use Rattle.strm_ends.proofs.TurnLemmas.{turns_with}
-use Rattle.strm_ends.specs.Image.{Image, end_of, with_state}
-use Rattle.strm_ends.specs.Flow.{offer_of, turn_of, may, is_due}
+use Rattle.strm_chain_ends.specs.declared.place.Place.{Place}
+use Rattle.strm_chain_ends.specs.declared.place.NextQueue.{NextQueue}
+use Rattle.strm_chain_ends.specs.declared.place.NextQueue.TheVariants.{Of, Head}
+use Rattle.strm_chain_end.specs.End.{in_state}
+use Rattle.strm_chain_ends.proofs.TurnLemmas.{turns_with, set_other}
+use Rattle.strm_chain_ends.specs.Image.{Image, end_of, with_state}
+use Rattle.strm_chain_ends.specs.Flow.{offer_of, turn_of, may, is_due}
 use Rattle.strm_module.specs.Kinds.{Meaning}
-use Rattle.strm_ends.specs.Held.{held_by, SameHeadMarks, DiffersIn, SetsMarks, AreCalm}
-use Rattle.strm_ends.specs.Next.{next_of, modules_at, SameWays}
-use Rattle.strm_ends.proofs.NextLemmas.{next_same, marks_but, marks_same, offer_same, offers_there, ways_of_same, next_once}
-use Rattle.strm_ends.specs.Count.{is_place, places_of, place_count}
-use Rattle.strm_ends.proofs.PlaceLemmas.{IsIn, place_in, place_same}
-use Rattle.strm_ends.proofs.DueLemmas.{due_frame, due_fuller, due_holds, may_unless_next}
-use Rattle.strm_chain.specs.Number.{number_of, place_number, place_of}
-use Rattle.strm_chain.specs.Enabled.{Enabled, is_enabled, DueAreEnabled, IsWaiting, IsReady, IsReadyBut, ArePlaces, awaits, Awaits, TurnsKnown}
+use Rattle.strm_chain_ends.specs.Held.{held_by, SameHeadMarks, DiffersIn, SetsMarks, AreCalm}
+use Rattle.strm_chain_ends.specs.Next.{next_of, modules_at, SameWays}
+use Rattle.strm_chain_ends.proofs.NextLemmas.{next_same, marks_but, marks_same, offer_same, offers_there, ways_of_same, next_once}
+use Rattle.strm_chain_ends.specs.Count.{is_place, places_of, place_count}
+use Rattle.strm_chain_ends.proofs.PlaceLemmas.{IsIn, place_in, place_same}
+use Rattle.strm_chain_ends.proofs.DueLemmas.{due_frame, due_fuller, due_holds, may_unless_next}
+use Rattle.strm_chain.specs.Number.{queue_number, place_number, place_of}
+use Rattle.strm_chain.specs.Enabled.{Enabled, is_enabled, DueAreEnabled, IsWaiting, IsReady, IsReadyExcept, ArePlaces, marked_wanted, MarksWanted, TurnsKnown}
 use Rattle.strm_chain.proofs.NumberLemmas.{place_back, number_once}
 
 differ : (C : Type 0) → true ≡ false → C
 differ C e = cc
 
-or_left : (a b : Bool) → (a || b) ≡ false → a ≡ false
-or_left true b h = h
-or_left false b h = refl
-
-or_right : (a b : Bool) → (a || b) ≡ false → b ≡ false
-or_right true b h = cc
-or_right false b h = h
-
 same_number : (a b : ℕ) → a ≡ b → nat_eq a b ≡ true
 same_number a b h = grind (arith, nat_tests)
 
 -- who is not enabled after a place was was not before, and is another
-out_before : (items : List ℕ) (n k : ℕ) → stands_in k (with_place items n) ≡ false → stands_in k items ≡ false
-out_before items n k out = or_left (stands_in k items) (nat_eq k n) (sym (stands_with k n items (stands_in n items) refl) ∙ out)
+out_before : (items : List ℕ) (n k : ℕ) → is_listed k (with_place items n) ≡ false → is_listed k items ≡ false
+out_before items n k out = (or_parts (is_listed k items) (nat_eq k n) (sym (stands_with k n items (is_listed n items) refl) ∙ out)).0
 
-out_other : (items : List ℕ) (n k : ℕ) → stands_in k (with_place items n) ≡ false → k ≢ n
+out_other : (items : List ℕ) (n k : ℕ) → is_listed k (with_place items n) ≡ false → k ≢ n
 out_other items n k out same =
-    differ ⊥ (sym (same_number k n same) ∙ or_right (stands_in k items) (nat_eq k n) (sym (stands_with k n items (stands_in n items) refl) ∙ out))
+    differ ⊥ (sym (same_number k n same) ∙ (or_parts (is_listed k items) (nat_eq k n) (sym (stands_with k n items (is_listed n items) refl) ∙ out)).1)
 
 some_same : {X : Type 0} {a b : X} → Some a ≡ Some b → a ≡ b
 some_same h = cc
@@ -61,13 +53,6 @@ nobody p h = cc
 
 apart_number : (a b : ℕ) → a ≢ b → nat_eq a b ≡ false
 apart_number a b h = grind (arith, nat_tests)
-
-slice_get_set_other : {X : Type 0} (xs : List X) (i j : ℕ) (x : X) → j ≢ i → slice_get (slice_set xs i x) j ≡ slice_get xs j
-slice_get_set_other [] i j x h = refl
-slice_get_set_other (y ∷ xs) zero zero x h = absurd (h refl)
-slice_get_set_other (y ∷ xs) zero (suc j) x h = refl
-slice_get_set_other (y ∷ xs) (suc i) zero x h = refl
-slice_get_set_other (y ∷ xs) (suc i) (suc j) x h = slice_get_set_other xs i j x (λ e. h (ap suc e))
 
 slice_get_set_same : {X : Type 0} (xs : List X) (i : ℕ) (x : X) → i < length xs → slice_get (slice_set xs i x) i ≡ Some x
 slice_get_set_same [] i x h = absurd (omega arith)
@@ -87,7 +72,7 @@ pub quiet_if_none : {K : Type 0} (means : Meaning K) (image : Image K) (enabled 
 quiet_if_none means image enabled r none p =
     elim (is_due means image p) as (λ b. is_due means image p ≡ b → b ≡ false) [
       | false ↦ λ e. refl
-      | true ↦ λ e. sym (due_enabled means image enabled r p e) ∙ ap (stands_in (place_number p)) none
+      | true ↦ λ e. sym (due_enabled means image enabled r p e) ∙ ap (is_listed (place_number p)) none
     ] refl
 
 -- nothing changed that flow control sees
@@ -109,12 +94,12 @@ pub ready_again : {K : Type 0} (means : Meaning K) (image : Image K) (old new : 
 ready_again means image old new items wanted r =
     record {
       stands = λ p some out.
-          let w = r.stands p some (ap (stands_in (place_number p)) (sym items) ∙ out) in
-          record { queue = w.queue; next = w.next; wants = ap (λ l. slice_get l (number_of w.queue)) wanted ∙ w.wants; rests = w.rests };
+          let w = r.stands p some (ap (is_listed (place_number p)) (sym items) ∙ out) in
+          record { queue = w.queue; next = w.next; wants = ap (λ l. slice_get l (queue_number w.queue)) wanted ∙ w.wants; rests = w.rests };
     }
 
 -- a queue changed, and its place was enabled: what waits for another queue waits as before
-pub ready_but : {K : Type 0} (means : Meaning K) (x y : Image K) (queue : NextQueue) (old new : Enabled) → DiffersIn x y queue → TurnsKnown means x y new.run → new.wanted ≡ old.wanted → ((p : Place) → is_enabled new.run p ≡ false → is_enabled old.run p ≡ false) → ((p : Place) → is_some (offer_of means y p) ≡ true → is_enabled new.run p ≡ false → Of p ≢ queue) → IsReady means x old → IsReadyBut means y queue new
+pub ready_but : {K : Type 0} (means : Meaning K) (x y : Image K) (queue : NextQueue) (old new : Enabled) → DiffersIn x y queue → TurnsKnown means x y new.run → new.wanted ≡ old.wanted → ((p : Place) → is_enabled new.run p ≡ false → is_enabled old.run p ≡ false) → ((p : Place) → is_some (offer_of means y p) ≡ true → is_enabled new.run p ≡ false → Of p ≢ queue) → IsReady means x old → IsReadyExcept means y queue new
 ready_but means x y queue old new d turns wanted before other r =
     let s = ways_of_same x y d.same in
     record {
@@ -124,13 +109,13 @@ ready_but means x y queue old new d turns wanted before other r =
           record {
             queue = w.queue;
             next = next_same x y p s ∙ w.next;
-            wants = ap (λ l. slice_get l (number_of w.queue)) wanted ∙ w.wants;
+            wants = ap (λ l. slice_get l (queue_number w.queue)) wanted ∙ w.wants;
             rests = λ apart. due_frame means x y p s own (λ q e. (marks_same x y q s d.head_marks, d.others q (λ same. apart (let e1 : w.queue ≡ q = some_same (sym w.next ∙ e) in e1 ∙ same)))) ∙ w.rests;
           };
     }
 
 -- the marks of a head changed: what waits for another queue waits as before
-pub ready_marks : {K : Type 0} (means : Meaning K) (x y : Image K) (e : End) (enabled : Enabled) → SetsMarks x y e → ((p : Place) → turn_of means y p ≡ turn_of means x p) → IsReady means x enabled → IsReadyBut means y (Head e) enabled
+pub ready_marks : {K : Type 0} (means : Meaning K) (x y : Image K) (e : End) (enabled : Enabled) → SetsMarks x y e → ((p : Place) → turn_of means y p ≡ turn_of means x p) → IsReady means x enabled → IsReadyExcept means y (Head e) enabled
 ready_marks means x y e enabled d turns r =
     let s = ways_of_same x y d.same in
     record {
@@ -165,16 +150,16 @@ ready_more means x y queue old new d turns longer wanted before other r =
             next = b.next;
             wants = b.wants;
             rests = ⊎_elim
-                (λ (e : number_of b.queue ≡ number_of queue).
+                (λ (e : queue_number b.queue ≡ queue_number queue).
                 let is : w.queue ≡ queue = sym same ∙ number_once b.queue queue e in
                 due_fuller means x y p queue s own (w.next ∙ ap Some is) (marks_same x y queue s d.head_marks) (d.shift.fuller longer) w.rests)
-                (λ (ne : number_of b.queue ≡ number_of queue → ⊥). b.rests (λ e. ne (ap number_of e)))
-                (cases_eq (number_of b.queue) (number_of queue));
+                (λ (ne : queue_number b.queue ≡ queue_number queue → ⊥). b.rests (λ e. ne (ap queue_number e)))
+                (cases_eq (queue_number b.queue) (queue_number queue));
           };
     }
 
 -- no place waits for the queue that was taken from
-pub ready_unwanted : {K : Type 0} (means : Meaning K) (image : Image K) (queue : NextQueue) (enabled : Enabled) → slice_get enabled.wanted (number_of queue) ≡ Some None → IsReadyBut means image queue enabled → IsReady means image enabled
+pub ready_unwanted : {K : Type 0} (means : Meaning K) (image : Image K) (queue : NextQueue) (enabled : Enabled) → slice_get enabled.wanted (queue_number queue) ≡ Some None → IsReadyExcept means image queue enabled → IsReady means image enabled
 ready_unwanted means image queue enabled none r =
     record {
       stands = λ p some out.
@@ -183,12 +168,12 @@ ready_unwanted means image queue enabled none r =
             queue = b.queue;
             next = b.next;
             wants = b.wants;
-            rests = b.rests (λ e. nobody p (sym (ap (slice_get enabled.wanted) (ap number_of e) ∙ none) ∙ b.wants));
+            rests = b.rests (λ e. nobody p (sym (ap (slice_get enabled.wanted) (ap queue_number e) ∙ none) ∙ b.wants));
           };
     }
 
 -- the place that waits for it must not move yet
-pub ready_still : {K : Type 0} (means : Meaning K) (image : Image K) (queue : NextQueue) (waiting : Place) (enabled : Enabled) → slice_get enabled.wanted (number_of queue) ≡ Some (Some waiting) → is_due means image waiting ≡ false → IsReadyBut means image queue enabled → IsReady means image enabled
+pub ready_still : {K : Type 0} (means : Meaning K) (image : Image K) (queue : NextQueue) (waiting : Place) (enabled : Enabled) → slice_get enabled.wanted (queue_number queue) ≡ Some (Some waiting) → is_due means image waiting ≡ false → IsReadyExcept means image queue enabled → IsReady means image enabled
 ready_still means image queue waiting enabled wants rests r =
     record {
       stands = λ p some out.
@@ -198,34 +183,34 @@ ready_still means image queue waiting enabled wants rests r =
             next = b.next;
             wants = b.wants;
             rests = ⊎_elim
-                (λ (e : number_of b.queue ≡ number_of queue).
+                (λ (e : queue_number b.queue ≡ queue_number queue).
                 let is : waiting ≡ p = some_same (some_same (sym wants ∙ ap (slice_get enabled.wanted) (sym e) ∙ b.wants)) in
                 ap (is_due means image) (sym is) ∙ rests)
-                (λ (ne : number_of b.queue ≡ number_of queue → ⊥). b.rests (λ e. ne (ap number_of e)))
-                (cases_eq (number_of b.queue) (number_of queue));
+                (λ (ne : queue_number b.queue ≡ queue_number queue → ⊥). b.rests (λ e. ne (ap queue_number e)))
+                (cases_eq (queue_number b.queue) (queue_number queue));
           };
     }
 
 -- the place that waits for it was enabled
-pub ready_woken : {K : Type 0} (means : Meaning K) (image : Image K) (queue : NextQueue) (waiting : Place) (old new : Enabled) → slice_get old.wanted (number_of queue) ≡ Some (Some waiting) → new.wanted ≡ slice_set old.wanted (number_of queue) None → new.run.items ≡ with_place old.run.items (place_number waiting) → IsReadyBut means image queue old → IsReady means image new
+pub ready_woken : {K : Type 0} (means : Meaning K) (image : Image K) (queue : NextQueue) (waiting : Place) (old new : Enabled) → slice_get old.wanted (queue_number queue) ≡ Some (Some waiting) → new.wanted ≡ slice_set old.wanted (queue_number queue) None → new.run.items ≡ with_place old.run.items (place_number waiting) → IsReadyExcept means image queue old → IsReady means image new
 ready_woken means image queue waiting old new wants wanted items r =
     record {
       stands = λ p some out.
-          let gone : stands_in (place_number p) (with_place old.run.items (place_number waiting)) ≡ false = ap (stands_in (place_number p)) (sym items) ∙ out in
+          let gone : is_listed (place_number p) (with_place old.run.items (place_number waiting)) ≡ false = ap (is_listed (place_number p)) (sym items) ∙ out in
           let b = r.stands p some (out_before old.run.items (place_number waiting) (place_number p) gone) in
-          let apart : number_of b.queue ≢ number_of queue = λ e.
+          let apart : queue_number b.queue ≢ queue_number queue = λ e.
           let is : waiting ≡ p = some_same (some_same (sym wants ∙ ap (slice_get old.wanted) (sym e) ∙ b.wants)) in
           out_other old.run.items (place_number waiting) (place_number p) gone (ap place_number (sym is)) in
           record {
             queue = b.queue;
             next = b.next;
-            wants = ap (λ l. slice_get l (number_of b.queue)) wanted ∙ slice_get_set_other old.wanted (number_of queue) (number_of b.queue) None apart ∙ b.wants;
-            rests = b.rests (λ e. apart (ap number_of e));
+            wants = ap (λ l. slice_get l (queue_number b.queue)) wanted ∙ set_other old.wanted (queue_number queue) (queue_number b.queue) None apart ∙ b.wants;
+            rests = b.rests (λ e. apart (ap queue_number e));
           };
     }
 
 -- who is not enabled once the first was given out was not before, or is the first
-first_out : (n k : ℕ) (rest : List ℕ) → k ≢ n → stands_in k rest ≡ false → stands_in k (n ∷ rest) ≡ false
+first_out : (n k : ℕ) (rest : List ℕ) → k ≢ n → is_listed k rest ≡ false → is_listed k (n ∷ rest) ≡ false
 first_out n k rest ne h = rw (apart_number k n ne, h) refl
 
 -- the first place was given out, and enabled again
@@ -233,11 +218,11 @@ pub ready_moves : {K : Type 0} (means : Meaning K) (image : Image K) (old new : 
 ready_moves means image old new n rest before items wanted r =
     record {
       stands = λ p some out.
-          let gone : stands_in (place_number p) (with_place rest (place_number (place_of n))) ≡ false = ap (stands_in (place_number p)) (sym items) ∙ out in
+          let gone : is_listed (place_number p) (with_place rest (place_number (place_of n))) ≡ false = ap (is_listed (place_number p)) (sym items) ∙ out in
           let ne : place_number p ≢ n = λ e.
           out_other rest (place_number (place_of n)) (place_number p) gone (ap place_number (sym (place_back p) ∙ ap place_of e)) in
-          let w = r.stands p some (ap (stands_in (place_number p)) before ∙ first_out n (place_number p) rest ne (out_before rest (place_number (place_of n)) (place_number p) gone)) in
-          record { queue = w.queue; next = w.next; wants = ap (λ l. slice_get l (number_of w.queue)) wanted ∙ w.wants; rests = w.rests };
+          let w = r.stands p some (ap (is_listed (place_number p)) before ∙ first_out n (place_number p) rest ne (out_before rest (place_number (place_of n)) (place_number p) gone)) in
+          record { queue = w.queue; next = w.next; wants = ap (λ l. slice_get l (queue_number w.queue)) wanted ∙ w.wants; rests = w.rests };
     }
 
 -- the first place was given out, and holds no message
@@ -245,46 +230,46 @@ pub ready_empty : {K : Type 0} (means : Meaning K) (image : Image K) (old new : 
 ready_empty means image old new n rest before items wanted empty r =
     record {
       stands = λ p some out.
-          let gone : stands_in (place_number p) rest ≡ false = ap (stands_in (place_number p)) (sym items) ∙ out in
+          let gone : is_listed (place_number p) rest ≡ false = ap (is_listed (place_number p)) (sym items) ∙ out in
           let ne : place_number p ≢ n = λ e.
           differ ⊥ (sym some ∙ ap (λ k. is_some (offer_of means image k)) (sym (place_back p) ∙ ap place_of e) ∙ empty) in
-          let w = r.stands p some (ap (stands_in (place_number p)) before ∙ first_out n (place_number p) rest ne gone) in
-          record { queue = w.queue; next = w.next; wants = ap (λ l. slice_get l (number_of w.queue)) wanted ∙ w.wants; rests = w.rests };
+          let w = r.stands p some (ap (is_listed (place_number p)) before ∙ first_out n (place_number p) rest ne gone) in
+          record { queue = w.queue; next = w.next; wants = ap (λ l. slice_get l (queue_number w.queue)) wanted ∙ w.wants; rests = w.rests };
     }
 
 -- the first place was given out, may not move, and waits from now on
-waits_now : {K : Type 0} (means : Meaning K) (image : Image K) (old new : Enabled) (n : ℕ) (rest : List ℕ) (queue : NextQueue) → AreCalm image → old.run.items ≡ n ∷ rest → new.run.items ≡ rest → new.wanted ≡ slice_set old.wanted (number_of queue) (Some (place_of n)) → number_of queue < length old.wanted → next_of image (place_of n) ≡ Some queue → is_some (offer_of means image (place_of n)) ≡ true → is_due means image (place_of n) ≡ false → IsReady means image old → IsReady means image new
+waits_now : {K : Type 0} (means : Meaning K) (image : Image K) (old new : Enabled) (n : ℕ) (rest : List ℕ) (queue : NextQueue) → AreCalm image → old.run.items ≡ n ∷ rest → new.run.items ≡ rest → new.wanted ≡ slice_set old.wanted (queue_number queue) (Some (place_of n)) → queue_number queue < length old.wanted → next_of image (place_of n) ≡ Some queue → is_some (offer_of means image (place_of n)) ≡ true → is_due means image (place_of n) ≡ false → IsReady means image old → IsReady means image new
 waits_now means image old new n rest queue ordinary before items wanted inside next holds rests r =
     record {
       stands = λ p some out.
-          let gone : stands_in (place_number p) rest ≡ false = ap (stands_in (place_number p)) (sym items) ∙ out in
+          let gone : is_listed (place_number p) rest ≡ false = ap (is_listed (place_number p)) (sym items) ∙ out in
           ⊎_elim
           (λ (e : place_number p ≡ place_number (place_of n)).
           let is : p ≡ place_of n = some_of (number_once (Of p) (Of (place_of n)) e) in
           record {
             queue = queue;
             next = ap (next_of image) is ∙ next;
-            wants = ap (λ l. slice_get l (number_of queue)) wanted ∙ slice_get_set_same old.wanted (number_of queue) (Some (place_of n)) inside ∙ ap (λ k. Some (Some k)) (sym is);
+            wants = ap (λ l. slice_get l (queue_number queue)) wanted ∙ slice_get_set_same old.wanted (queue_number queue) (Some (place_of n)) inside ∙ ap (λ k. Some (Some k)) (sym is);
             rests = ap (is_due means image) is ∙ rests;
           })
           (λ (ne : place_number p ≡ place_number (place_of n) → ⊥).
           let first : place_number p ≢ n = λ e. ne (ap place_number (sym (place_back p) ∙ ap place_of e)) in
-          let w = r.stands p some (ap (stands_in (place_number p)) before ∙ first_out n (place_number p) rest first gone) in
-          let apart : number_of w.queue ≢ number_of queue = λ e.
+          let w = r.stands p some (ap (is_listed (place_number p)) before ∙ first_out n (place_number p) rest first gone) in
+          let apart : queue_number w.queue ≢ queue_number queue = λ e.
           ne (ap place_number (next_once image p (place_of n) queue (offers_there means image p some) (offers_there means image (place_of n) holds) (w.next ∙ ap Some (number_once w.queue queue e)) next)) in
           record {
             queue = w.queue;
             next = w.next;
-            wants = ap (λ l. slice_get l (number_of w.queue)) wanted ∙ slice_get_set_other old.wanted (number_of queue) (number_of w.queue) (Some (place_of n)) apart ∙ w.wants;
+            wants = ap (λ l. slice_get l (queue_number w.queue)) wanted ∙ set_other old.wanted (queue_number queue) (queue_number w.queue) (Some (place_of n)) apart ∙ w.wants;
             rests = w.rests;
           })
           (cases_eq (place_number p) (place_number (place_of n)));
     }
 
 -- the first place was given out, may not move, and waits for the queue ahead
-pub ready_waits : {K : Type 0} (means : Meaning K) (image : Image K) (old new : Enabled) (n : ℕ) (rest : List ℕ) → AreCalm image → ((q : NextQueue) → next_of image (place_of n) ≡ Some q → number_of q < length old.wanted) → old.run.items ≡ n ∷ rest → new.run.items ≡ rest → Awaits image (place_of n) old.wanted new.wanted → is_some (offer_of means image (place_of n)) ≡ true → may means image (place_of n) ≡ false → is_due means image (place_of n) ≡ false → IsReady means image old → IsReady means image new
+pub ready_waits : {K : Type 0} (means : Meaning K) (image : Image K) (old new : Enabled) (n : ℕ) (rest : List ℕ) → AreCalm image → ((q : NextQueue) → next_of image (place_of n) ≡ Some q → queue_number q < length old.wanted) → old.run.items ≡ n ∷ rest → new.run.items ≡ rest → MarksWanted image (place_of n) old.wanted new.wanted → is_some (offer_of means image (place_of n)) ≡ true → may means image (place_of n) ≡ false → is_due means image (place_of n) ≡ false → IsReady means image old → IsReady means image new
 ready_waits means image old new n rest ordinary few before items wanted holds still rests r =
-    elim (next_of image (place_of n)) as (λ o. next_of image (place_of n) ≡ o → new.wanted ≡ awaits o (place_of n) old.wanted → IsReady means image new) [
+    elim (next_of image (place_of n)) as (λ o. next_of image (place_of n) ≡ o → new.wanted ≡ marked_wanted o (place_of n) old.wanted → IsReady means image new) [
       | None ↦ λ e h. differ (IsReady means image new) (sym (may_unless_next means image (place_of n) e holds) ∙ still)
       | Some q ↦ λ e h. waits_now means image old new n rest q ordinary before items h (few q e) e holds rests r
     ] refl wanted
@@ -380,9 +365,9 @@ pub ready_still_all : {K : Type 0} (means : Meaning K) (x y : Image K) (queue : 
 ready_still_all means x y queue enabled d turns same r =
     let s = ways_of_same x y d.same in
     let held : (q : NextQueue) → held_by y q ≡ held_by x q = λ q. ⊎_elim
-    (λ (e : number_of q ≡ number_of queue). let is = number_once q queue e in rw is (d.shift.still same))
-    (λ (ne : number_of q ≡ number_of queue → ⊥). d.others q (λ e. ne (ap number_of e)))
-    (cases_eq (number_of q) (number_of queue)) in
+    (λ (e : queue_number q ≡ queue_number queue). let is = number_once q queue e in rw is (d.shift.still same))
+    (λ (ne : queue_number q ≡ queue_number queue → ⊥). d.others q (λ e. ne (ap queue_number e)))
+    (cases_eq (queue_number q) (queue_number queue)) in
     record {
       stands = λ p some out.
           let own = offer_same means x y p s (turns p some out) (held (Of p)) in
@@ -406,26 +391,18 @@ turns_known means x y run a b others one two =
     (cases_eq (place_number p) (place_number b)))
     (cases_eq (place_number p) (place_number a))
 
-or_true : (a b : Bool) → b ≡ true → (a || b) ≡ true
-or_true true b h = refl
-or_true false b h = h
-
-or_here : (a b : Bool) → a ≡ true → (a || b) ≡ true
-or_here true b h = refl
-or_here false b h = cc
-
 or_left_true : (a b : Bool) → b ≡ false → (a || b) ≡ true → a ≡ true
 or_left_true true b n h = refl
 or_left_true false b n h = differ (false ≡ true) (sym h ∙ n)
 
-before_with : (items : List ℕ) (m n : ℕ) → n ≢ m → stands_in n (with_place items m) ≡ true → stands_in n items ≡ true
+before_with : (items : List ℕ) (m n : ℕ) → n ≢ m → is_listed n (with_place items m) ≡ true → is_listed n items ≡ true
 before_with items m n ne h =
-    or_left_true (stands_in n items) (nat_eq n m) (apart_number n m ne) (sym (stands_with n m items (stands_in m items) refl) ∙ h)
+    or_left_true (is_listed n items) (nat_eq n m) (apart_number n m ne) (sym (stands_with n m items (is_listed m items) refl) ∙ h)
 
-in_numbers : (p : Place) (ps : List Place) → IsIn p ps → stands_in (place_number p) (map place_number ps) ≡ true
+in_numbers : (p : Place) (ps : List Place) → IsIn p ps → is_listed (place_number p) (map place_number ps) ≡ true
 in_numbers p [] h = absurd h
-in_numbers p (x ∷ xs) (inl e) = or_here (nat_eq (place_number p) (place_number x)) (stands_in (place_number p) (map place_number xs)) (same_number (place_number p) (place_number x) (ap place_number e))
-in_numbers p (x ∷ xs) (inr h) = or_true (nat_eq (place_number p) (place_number x)) (stands_in (place_number p) (map place_number xs)) (in_numbers p xs h)
+in_numbers p (x ∷ xs) (inl e) = or_left (nat_eq (place_number p) (place_number x)) (is_listed (place_number p) (map place_number xs)) (same_number (place_number p) (place_number x) (ap place_number e))
+in_numbers p (x ∷ xs) (inr h) = or_right (nat_eq (place_number p) (place_number x)) (is_listed (place_number p) (map place_number xs)) (in_numbers p xs h)
 
 -- a place that is there is enabled
 pub places_with : {K : Type 0} (image : Image K) (items : List ℕ) (p : Place) → is_place image p ≡ true → ArePlaces image items → ArePlaces image (with_place items (place_number p))
@@ -440,7 +417,7 @@ places_with image items p there all =
 
 -- so is each of those that are left
 pub places_rest : {K : Type 0} (image : Image K) (n : ℕ) (rest : List ℕ) → ArePlaces image (n ∷ rest) → ArePlaces image rest
-places_rest image n rest all = record { there = λ k h. all.there k (or_true (nat_eq k n) (stands_in k rest) h) }
+places_rest image n rest all = record { there = λ k h. all.there k (or_right (nat_eq k n) (is_listed k rest) h) }
 
 -- no message changes which places are there
 pub places_same : {K : Type 0} (x y : Image K) (items : List ℕ) → SameWays x y → ArePlaces x items → ArePlaces y items
@@ -459,7 +436,7 @@ places_none image = record { there = λ n h. differ _ (sym h) }
 -- the first place is there, and was enabled again
 pub places_moves : {K : Type 0} (image : Image K) (n : ℕ) (old rest new : List ℕ) → old ≡ n ∷ rest → new ≡ with_place rest (place_number (place_of n)) → ArePlaces image old → ArePlaces image new
 places_moves image n old rest new before items all =
-    let here : stands_in n old ≡ true = ap (stands_in n) before ∙ or_here (nat_eq n n) (stands_in n rest) (same_number n n refl) in
+    let here : is_listed n old ≡ true = ap (is_listed n) before ∙ or_left (nat_eq n n) (is_listed n rest) (same_number n n refl) in
     rw items (places_with image rest (place_of n) (all.there n here).1 (places_rest image n rest (rw (← before) all)))
 
 -- enabled places are at most as many as there are
@@ -467,12 +444,12 @@ pub places_few : {K : Type 0} (image : Image K) (n : ℕ) (items : List ℕ) →
 places_few image n items once all =
     let few : length items ≤ length (map place_number (places_of image)) =
     length-le_from_is_member nat_eq_equiv items (map place_number (places_of image)) once.once
-    (λ k h. let a = all.there k h in ap (λ j. stands_in j (map place_number (places_of image))) (sym a.0) ∙ in_numbers (place_of k) (places_of image) (place_in image (place_of k) a.1)) in
+    (λ k h. let a = all.there k h in ap (λ j. is_listed j (map place_number (places_of image))) (sym a.0) ∙ in_numbers (place_of k) (places_of image) (place_in image (place_of k) a.1)) in
     let less = simp length-map at few in
     less
 
 -- a place that was enabled is
 pub enabled_with : (run : RunList) (items : List ℕ) (p : Place) → run.items ≡ with_place items (place_number p) → is_enabled run p ≡ true
 enabled_with run items p is =
-    ap (stands_in (place_number p)) is ∙ stands_with (place_number p) (place_number p) items (stands_in (place_number p) items) refl
-    ∙ or_true (stands_in (place_number p) items) (nat_eq (place_number p) (place_number p)) (same_number (place_number p) (place_number p) refl)
+    ap (is_listed (place_number p)) is ∙ stands_with (place_number p) (place_number p) items (is_listed (place_number p) items) refl
+    ∙ or_right (is_listed (place_number p) items) (nat_eq (place_number p) (place_number p)) (same_number (place_number p) (place_number p) refl)

@@ -9,12 +9,12 @@ use Rattle.strm_module.specs.declared.kind.Kind.{Kind}
 use Rattle.strm_module.specs.declared.driver.Driver.{Driver}
 use Rattle.strm_module.specs.declared.driver.Driver.TheVariants.{Echo, Loop, Line, Wire}
 use Rattle.strm_module.specs.Driver.{has_end}
-use Rattle.strm_qpair.specs.End.{EndState, pair_at, found_gets}
-use Rattle.strm_qpair.specs.Head.{head_does, open_head, keeps}
-use Rattle.strm_qpair.specs.Driver.{driver_at, consumes, flush_up}
-use Rattle.strm_qpair.specs.declared.driver.DriverSends.TheVariants.{Nothing}
-use Rattle.strm_ends.specs.Image.{Image, end_of, with_end, count_of, driver_does, driven}
-use Rattle.strm_chain.specs.Deliver.{Onward, OnwardPast, Passing, passing, head_gets, send_on, up_through, down_through, driver_sends, route}
+use Rattle.strm_chain_end.specs.End.{EndState, pair_at, found_gets}
+use Rattle.strm_chain_end.specs.Head.{put_at_head, open_head, keeps}
+use Rattle.strm_chain_end.specs.Driver.{driver_at, consumes, flush_up}
+use Rattle.strm_chain_end.specs.declared.driver.DriverSends.TheVariants.{Nothing}
+use Rattle.strm_chain_ends.specs.Image.{Image, end_of, with_end, count_of, put_at_driver, driven}
+use Rattle.strm_chain.specs.Deliver.{Sender, SenderPast, ModuleStep, module_step, head_gets, send_on, up_through, down_through, driver_sends, route}
 use Rattle.strm_chain.specs.HeadFlush.{HeadSendsOnce}
 
 abbrev flush : Bool → Bool → Option ℕ → Msg
@@ -25,26 +25,26 @@ head_silent : (e : EndState Kind) (r : Bool) (band : Option ℕ) (is_open : Bool
 head_silent e r band true = refl
 head_silent e r band false = refl
 
-none_sent : (send : Onward Kind) (e : End) (image : Image Kind) (o : Option Msg) → o ≡ None → send_on send e image o ≡ image
+none_sent : (send : Sender Kind) (e : End) (image : Image Kind) (o : Option Msg) → o ≡ None → send_on send e image o ≡ image
 none_sent send e image o h = rw h refl
 
 -- up through n modules, which pass it on
-abbrev risen : Onward Kind → End → ℕ → Passing Kind → Image Kind
+abbrev risen : Sender Kind → End → ℕ → ModuleStep Kind → Image Kind
 risen send e n p = fold (λ j out. up_through builtin (head_gets send) e n j out.1) p.image p.outs
 
-up_same : (send other : Onward Kind) (e : End) (n : ℕ) (image : Image Kind) (r : Bool) (band : Option ℕ) → up_through builtin (head_gets send) e n image (flush r false band) ≡ up_through builtin (head_gets other) e n image (flush r false band)
+up_same : (send other : Sender Kind) (e : End) (n : ℕ) (image : Image Kind) (r : Bool) (band : Option ℕ) → up_through builtin (head_gets send) e n image (flush r false band) ≡ up_through builtin (head_gets other) e n image (flush r false band)
 unfolding up_through
 up_same send other e zero image r band =
     let state = end_of image e in
     let silent = head_silent state r band state.is_open in
-    let there = with_end image e (head_does state (flush r false band)).state in
-    none_sent send e there (head_does state (flush r false band)).sends silent ∙ sym (none_sent other e there (head_does state (flush r false band)).sends silent)
+    let there = with_end image e (put_at_head state (flush r false band)).state in
+    none_sent send e there (put_at_head state (flush r false band)).sends silent ∙ sym (none_sent other e there (put_at_head state (flush r false band)).sends silent)
 up_same send other e (suc n) image r band =
     let state = end_of image e in
     elim (pair_at state.modules (suc n))
-    as (λ o. risen send e n (passing image e (found_gets builtin state (suc n) o Rd (flush r false band))) ≡ risen other e n (passing image e (found_gets builtin state (suc n) o Rd (flush r false band)))) [
+    as (λ o. risen send e n (module_step image e (found_gets builtin state (suc n) o Rd (flush r false band))) ≡ risen other e n (module_step image e (found_gets builtin state (suc n) o Rd (flush r false band)))) [
       | None ↦ refl
-      | Some s ↦ up_same send other e n (passing image e (found_gets builtin state (suc n) (Some s) Rd (flush r false band))).image r band
+      | Some s ↦ up_same send other e n (module_step image e (found_gets builtin state (suc n) (Some s) Rd (flush r false band))).image r band
     ]
 
 -- a driver sends it back up, or ends it
@@ -55,23 +55,23 @@ driver_flush Loop e r w band true = refl
 driver_flush Line e r w band true = refl
 driver_flush Wire e r w band true = refl
 
-abbrev ups : Onward Kind → OnwardPast Kind
+abbrev ups : Sender Kind → SenderPast Kind
 ups send e n image m = up_through builtin (head_gets send) e n image m
 
-back_same : (send other : Onward Kind) (old : Image Kind) (e : End) (image : Image Kind) (r : Bool) (band : Option ℕ) (has : Bool) → driver_sends (ups send) old e image (cond has (flush_up r band) Nothing) ≡ driver_sends (ups other) old e image (cond has (flush_up r band) Nothing)
+back_same : (send other : Sender Kind) (old : Image Kind) (e : End) (image : Image Kind) (r : Bool) (band : Option ℕ) (has : Bool) → driver_sends (ups send) old e image (cond has (flush_up r band) Nothing) ≡ driver_sends (ups other) old e image (cond has (flush_up r band) Nothing)
 back_same send other old e image r band false = refl
 back_same send other old e image false band true = refl
 back_same send other old e image true band true = up_same send other e (count_of old e) image true band
 
 -- down through n modules, which pass it on
-abbrev sunk : Onward Kind → End → ℕ → ℕ → Passing Kind → Image Kind
+abbrev sunk : Sender Kind → End → ℕ → ℕ → ModuleStep Kind → Image Kind
 sunk send e n i p = fold (λ j out. route (λ k o. down_through builtin (ups send) e n k o) (λ k o. ups send e (i - 1) k o) j out) p.image p.outs
 
-down_same : (send other : Onward Kind) (e : End) (n : ℕ) (image : Image Kind) (r w : Bool) (band : Option ℕ) → down_through builtin (ups send) e n image (flush r w band) ≡ down_through builtin (ups other) e n image (flush r w band)
+down_same : (send other : Sender Kind) (e : End) (n : ℕ) (image : Image Kind) (r w : Bool) (band : Option ℕ) → down_through builtin (ups send) e n image (flush r w band) ≡ down_through builtin (ups other) e n image (flush r w band)
 unfolding down_through
 down_same send other e zero image r w band =
     let state = end_of image e in
-    let step = driver_does image.driver e state (flush r w band) in
+    let step = put_at_driver image.driver e state (flush r w band) in
     let there = driven image e (flush r w band) in
     let sends : step.sends ≡ cond (has_end image.driver e) (flush_up r band) Nothing = driver_flush image.driver state r w band (has_end image.driver e) in
     ap (driver_sends (ups send) image e there) sends ∙ back_same send other image e there r band (has_end image.driver e) ∙ sym (ap (driver_sends (ups other) image e there) sends)
@@ -79,9 +79,9 @@ down_same send other e (suc n) image r w band =
     let state = end_of image e in
     let i = count_of image e - n in
     elim (pair_at state.modules i)
-    as (λ o. sunk send e n i (passing image e (found_gets builtin state i o Wr (flush r w band))) ≡ sunk other e n i (passing image e (found_gets builtin state i o Wr (flush r w band)))) [
+    as (λ o. sunk send e n i (module_step image e (found_gets builtin state i o Wr (flush r w band))) ≡ sunk other e n i (module_step image e (found_gets builtin state i o Wr (flush r w band)))) [
       | None ↦ refl
-      | Some s ↦ down_same send other e n (passing image e (found_gets builtin state i (Some s) Wr (flush r w band))).image r w band
+      | Some s ↦ down_same send other e n (module_step image e (found_gets builtin state i (Some s) Wr (flush r w band))).image r w band
     ]
 
 pub head_sends_once : HeadSendsOnce

@@ -12,19 +12,19 @@ use Rattle.strm_msg.specs.declared.words.Side.{Side}
 use Rattle.strm_msg.specs.declared.words.Side.TheVariants.{Rd, Wr}
 use Rattle.strm_module.specs.Kinds.{OutList, Meaning}
 use Rattle.strm_module.specs.Driver.{partner}
-use Rattle.strm_qpair.specs.Pair.{QueuePair}
-use Rattle.strm_qpair.specs.End.{pair_at}
-use Rattle.strm_qpair.specs.Modules.{identity_of, identities_of}
-use Rattle.strm_qpair.specs.Head.{head_does}
-use Rattle.strm_qpair.specs.declared.driver.DriverSends.TheVariants.{Nothing, Reply, Across, Options}
-use Rattle.strm_ends.specs.Image.{Image, end_of, with_end, with_drv, count_of, driver_does, driven}
+use Rattle.strm_chain_end.specs.Pair.{QueuePair}
+use Rattle.strm_chain_end.specs.End.{pair_at}
+use Rattle.strm_chain_end.specs.Modules.{identity_of, identities_of}
+use Rattle.strm_chain_end.specs.Head.{put_at_head}
+use Rattle.strm_chain_end.specs.declared.driver.DriverSends.TheVariants.{Nothing, Reply, Across, Options}
+use Rattle.strm_chain_ends.specs.Image.{Image, end_of, with_end, with_drv, count_of, put_at_driver, driven}
 use Rattle.strm_chain.specs.declared.chain.hop.Hop.{Hop}
-use Rattle.strm_ends.specs.declared.place.Place.TheVariants as Place
+use Rattle.strm_chain_ends.specs.declared.place.Place.TheVariants as Place
 use Rattle.strm_chain.specs.Deliver.{up, down, up_through, down_through, send_on, sends, sends_nothing, sent_down, put_at, route, driver_sends}
 use Rattle.strm_chain.specs.Service.{serve_at, move, move_drv}
-use Rattle.strm_ends.specs.Same.{SameModules}
-use Rattle.strm_chain.specs.Hop.{carry, carry_all, up_hop, down_hop, hop_of, next_module}
-use Rattle.strm_ends.specs.Held.{module_place}
+use Rattle.strm_chain_ends.specs.Same.{SameModules}
+use Rattle.strm_chain.specs.Hop.{carry, deliver_all, up_hop, down_hop, hop_of, next_module}
+use Rattle.strm_chain_ends.specs.Held.{module_place}
 
 nothing_sent : {K : Type 0} (e : End) (image : Image K) (o : Option Msg) → send_on sends_nothing e image o ≡ image
 nothing_sent e image None = refl
@@ -51,40 +51,40 @@ module _ {K : Type 0} (means : Meaning K) where
   carries_to_driver image h s a = rw (s, a) refl
 
   -- a head that sends nothing
-  pub head_again : (e : End) (old new : Image K) (m : Msg) → new ≡ with_end old e (head_does (end_of old e) m).state → new ≡ up means true e 0 old m
+  pub head_again : (e : End) (old new : Image K) (m : Msg) → new ≡ with_end old e (put_at_head (end_of old e) m).state → new ≡ up means true e 0 old m
   unfolding up_through
   head_again e old new m h =
-      h ∙ sym (nothing_sent e (with_end old e (head_does (end_of old e) m).state) (head_does (end_of old e) m).sends)
+      h ∙ sym (nothing_sent e (with_end old e (put_at_head (end_of old e) m).state) (put_at_head (end_of old e) m).sends)
 
   -- a head that has nothing to send
-  pub head_none : (hs : Bool) (e : End) (old new : Image K) (m : Msg) → None ≡ (head_does (end_of old e) m).sends → new ≡ with_end old e (head_does (end_of old e) m).state → new ≡ up means hs e 0 old m
+  pub head_none : (hs : Bool) (e : End) (old new : Image K) (m : Msg) → None ≡ (put_at_head (end_of old e) m).sends → new ≡ with_end old e (put_at_head (end_of old e) m).state → new ≡ up means hs e 0 old m
   unfolding up_through
   head_none hs e old new m none h =
-      h ∙ ap (send_on (sends means hs) e (with_end old e (head_does (end_of old e) m).state)) none
+      h ∙ ap (send_on (sends means hs) e (with_end old e (put_at_head (end_of old e) m).state)) none
 
   -- a head that sends a flush down
-  pub head_some : (e : End) (old new : Image K) (m f : Msg) (n : ℕ) → Some f ≡ (head_does (end_of old e) m).sends → new ≡ with_end old e (head_does (end_of old e) m).state → n ≡ count_of new e → down means true e n new f ≡ up means false e 0 old m
+  pub head_some : (e : End) (old new : Image K) (m f : Msg) (n : ℕ) → Some f ≡ (put_at_head (end_of old e) m).sends → new ≡ with_end old e (put_at_head (end_of old e) m).state → n ≡ count_of new e → down means true e n new f ≡ up means false e 0 old m
   unfolding up_through
   head_some e old new m f n some h k =
-      rw (k, h) (ap (send_on (sent_down means) e (with_end old e (head_does (end_of old e) m).state)) some)
+      rw (k, h) (ap (send_on (sent_down means) e (with_end old e (put_at_head (end_of old e) m).state)) some)
 
   -- what a driver sends
-  pub driver_nothing : (hs : Bool) (e : End) (old new : Image K) (m : Msg) → Nothing ≡ (driver_does old.driver e (end_of old e) m).sends → new ≡ driven old e m → new ≡ down means hs e 0 old m
+  pub driver_nothing : (hs : Bool) (e : End) (old new : Image K) (m : Msg) → Nothing ≡ (put_at_driver old.driver e (end_of old e) m).sends → new ≡ driven old e m → new ≡ down means hs e 0 old m
   unfolding down_through
   driver_nothing hs e old new m s h =
       h ∙ ap (driver_sends (up means hs) old e (driven old e m)) s
 
-  pub driver_reply : (hs : Bool) (e : End) (n : ℕ) (old new : Image K) (m r : Msg) → n ≡ count_of old e → Reply r ≡ (driver_does old.driver e (end_of old e) m).sends → new ≡ driven old e m → up means hs e n new r ≡ down means hs e 0 old m
+  pub driver_reply : (hs : Bool) (e : End) (n : ℕ) (old new : Image K) (m r : Msg) → n ≡ count_of old e → Reply r ≡ (put_at_driver old.driver e (end_of old e) m).sends → new ≡ driven old e m → up means hs e n new r ≡ down means hs e 0 old m
   unfolding down_through
   driver_reply hs e n old new m r k s h =
       rw (k, h) (ap (driver_sends (up means hs) old e (driven old e m)) s)
 
-  pub driver_across : (hs : Bool) (e p : End) (n : ℕ) (old new : Image K) (m r : Msg) → p ≡ partner old.driver e → n ≡ count_of old p → Across r ≡ (driver_does old.driver e (end_of old e) m).sends → new ≡ driven old e m → up means hs p n new r ≡ down means hs e 0 old m
+  pub driver_across : (hs : Bool) (e p : End) (n : ℕ) (old new : Image K) (m r : Msg) → p ≡ partner old.driver e → n ≡ count_of old p → Across r ≡ (put_at_driver old.driver e (end_of old e) m).sends → new ≡ driven old e m → up means hs p n new r ≡ down means hs e 0 old m
   unfolding down_through
   driver_across hs e p n old new m r hp k s h =
       rw (k, hp, h) (ap (driver_sends (up means hs) old e (driven old e m)) s)
 
-  pub driver_options : (hs : Bool) (e : End) (n : ℕ) (old new : Image K) (m : Msg) (mode : Option ReadMode) (prot : Option Prot) (marks : Option (ℕ × ℕ)) (id : ℕ) → n ≡ count_of old e → Options mode prot marks id ≡ (driver_does old.driver e (end_of old e) m).sends → new ≡ driven old e m → up means hs e n (up means hs e n new (bare (MSetopts mode prot marks))) (ack_msg id 0 None) ≡ down means hs e 0 old m
+  pub driver_options : (hs : Bool) (e : End) (n : ℕ) (old new : Image K) (m : Msg) (mode : Option ReadMode) (prot : Option Prot) (marks : Option (ℕ × ℕ)) (id : ℕ) → n ≡ count_of old e → Options mode prot marks id ≡ (put_at_driver old.driver e (end_of old e) m).sends → new ≡ driven old e m → up means hs e n (up means hs e n new (bare (MSetopts mode prot marks))) (ack_msg id 0 None) ≡ down means hs e 0 old m
   unfolding down_through
   driver_options hs e n old new m mode prot marks id k s h =
       rw (k, h) (ap (driver_sends (up means hs) old e (driven old e m)) s)
@@ -95,12 +95,12 @@ module _ {K : Type 0} (means : Meaning K) where
   carries_two image hs e n x y = refl
 
   -- what a module sends, carried
-  outs_up : (hs : Bool) (e : End) (i below : ℕ) (image : Image K) (outs : OutList) → carry_all means image (map (hop_of hs Rd e i below) outs) ≡ fold (λ j out. up means hs e (i - 1) j out.1) image outs
+  outs_up : (hs : Bool) (e : End) (i below : ℕ) (image : Image K) (outs : OutList) → deliver_all means image (map (hop_of hs Rd e i below) outs) ≡ fold (λ j out. up means hs e (i - 1) j out.1) image outs
   unfolding carry
   outs_up hs e i below image [] = refl
   outs_up hs e i below image (out ∷ outs) = outs_up hs e i below (up means hs e (i - 1) image out.1) outs
 
-  outs_down : (hs : Bool) (e : End) (i below : ℕ) (image : Image K) (outs : OutList) → carry_all means image (map (hop_of hs Wr e i below) outs) ≡ fold (λ j out. route (λ k o. down means hs e below k o) (λ k o. up means hs e (i - 1) k o) j out) image outs
+  outs_down : (hs : Bool) (e : End) (i below : ℕ) (image : Image K) (outs : OutList) → deliver_all means image (map (hop_of hs Wr e i below) outs) ≡ fold (λ j out. route (λ k o. down means hs e below k o) (λ k o. up means hs e (i - 1) k o) j out) image outs
   unfolding carry
   outs_down hs e i below image [] = refl
   outs_down hs e i below image ((Wr, m) ∷ outs) = outs_down hs e i below (down means hs e below image m) outs
@@ -117,7 +117,7 @@ module _ {K : Type 0} (means : Meaning K) where
   down_more hs e (suc n) i old m h at = let k : suc n - 1 ≡ n = omega arith in rw (at, k) refl
 
   -- one hop to a module
-  pub module_hop : (hs : Bool) (side : Side) (e : End) (n i : ℕ) (old : Image K) (m : Msg) → 0 < n → i ≡ next_module old side e n → carry_all means (put_at means old e i side m).image (map (hop_of hs side e i (n - 1)) (put_at means old e i side m).outs) ≡ carry means old (record { head_sent = hs; side = side; end = e; ahead = n; m = m })
+  pub module_hop : (hs : Bool) (side : Side) (e : End) (n i : ℕ) (old : Image K) (m : Msg) → 0 < n → i ≡ next_module old side e n → deliver_all means (put_at means old e i side m).image (map (hop_of hs side e i (n - 1)) (put_at means old e i side m).outs) ≡ carry means old (record { head_sent = hs; side = side; end = e; ahead = n; m = m })
   unfolding carry
   module_hop hs Rd e n i old m h at =
       rw at (outs_up hs e n (n - 1) (put_at means old e n Rd m).image (put_at means old e n Rd m).outs ∙ up_more hs e n old m h)
@@ -125,12 +125,12 @@ module _ {K : Type 0} (means : Meaning K) where
       outs_down hs e i (n - 1) (put_at means old e i Wr m).image (put_at means old e i Wr m).outs ∙ down_more hs e n i old m h at
 
   -- what was on its way already is carried after what comes of one message
-  pub rest_after : (new mid : Image K) (hops rest all : List Hop) → all ≡ hops ++ rest → carry_all means new hops ≡ mid → carry_all means new all ≡ carry_all means mid rest
+  pub rest_after : (new mid : Image K) (hops rest all : List Hop) → all ≡ hops ++ rest → deliver_all means new hops ≡ mid → deliver_all means new all ≡ deliver_all means mid rest
   rest_after new mid hops rest all a s =
-      rw a (fold-append (carry means) new hops rest ∙ ap (λ i. carry_all means i rest) s)
+      rw a (fold-append (carry means) new hops rest ∙ ap (λ i. deliver_all means i rest) s)
 
   -- the move of a queue of a module
-  pub module_move : (side : Side) (e : End) (i below : ℕ) (old : Image K) → below ≡ count_of old e - i → carry_all means (serve_at means old e i side).image (map (hop_of false side e i below) (serve_at means old e i side).outs) ≡ move means old (module_place side e i)
+  pub module_move : (side : Side) (e : End) (i below : ℕ) (old : Image K) → below ≡ count_of old e - i → deliver_all means (serve_at means old e i side).image (map (hop_of false side e i below) (serve_at means old e i side).outs) ≡ move means old (module_place side e i)
   module_move Rd e i below old hb = outs_up false e i below (serve_at means old e i Rd).image (serve_at means old e i Rd).outs
   module_move Wr e i below old hb =
       rw hb (outs_down false e i (count_of old e - i) (serve_at means old e i Wr).image (serve_at means old e i Wr).outs)

@@ -3,12 +3,12 @@ use Rattle.std.proofs.Common.{◌≡◌, ◌+◌, ◌-◌, ◌*◌, ◌/◌, ◌
 use Rattle.std.proofs.lemmas.Bool.Decides.{nat_tests}
 use Rattle.strm_msg.specs.declared.words.End.{End}
 use Rattle.strm_msg.specs.declared.words.End.TheVariants.{A, B}
-use Rattle.strm_ends.specs.declared.place.Place.{Place}
-use Rattle.strm_ends.specs.declared.place.Place.TheVariants as Places
-use Rattle.strm_ends.specs.declared.place.NextQueue.{NextQueue}
-use Rattle.strm_ends.specs.declared.place.NextQueue.TheVariants.{Of, Head}
-use Rattle.strm_ends.specs.Next.{IsCounted}
-use Rattle.strm_chain.specs.Number.{number_of, place_number, end_by, place_of}
+use Rattle.strm_chain_ends.specs.declared.place.Place.{Place}
+use Rattle.strm_chain_ends.specs.declared.place.Place.TheVariants as Places
+use Rattle.strm_chain_ends.specs.declared.place.NextQueue.{NextQueue}
+use Rattle.strm_chain_ends.specs.declared.place.NextQueue.TheVariants.{Of, Head}
+use Rattle.strm_chain_ends.specs.Next.{IsCounted}
+use Rattle.strm_chain.specs.Number.{queue_number, place_number, end_by, place_of}
 
 -- the parts of a number
 place_from : (n i r : ℕ) (e : End) → n ≡ 4 * (i + 1) + r → r < 4 → end_by n ≡ e → place_of n ≡ (if nat_lt r 2 then Places.Wr e i else Places.Rd e i)
@@ -46,17 +46,17 @@ past_heads (Place.Wr B i) = grind (arith, nat_tests)
 past_heads (Place.Rd A i) = grind (arith, nat_tests)
 past_heads (Place.Rd B i) = grind (arith, nat_tests)
 
-queue_back : (q : NextQueue) → queue_of (number_of q) ≡ q
+queue_back : (q : NextQueue) → queue_of (queue_number q) ≡ q
 queue_back (Head A) = refl
 queue_back (Head B) = refl
 queue_back (Of p) = rw (past_heads p, place_back p) refl
 
 -- two queues with one number are one
-pub number_once : (q r : NextQueue) → number_of q ≡ number_of r → q ≡ r
+pub number_once : (q r : NextQueue) → queue_number q ≡ queue_number r → q ≡ r
 number_once q r h = sym (queue_back q) ∙ ap queue_of h ∙ queue_back r
 
 -- numbers are below 40
-pub counted_few : (q : NextQueue) → IsCounted q → number_of q < 40
+pub counted_few : (q : NextQueue) → IsCounted q → queue_number q < 40
 counted_few (Head A) h = omega arith
 counted_few (Head B) h = omega arith
 counted_few (Of (Place.Drv A)) h = omega arith

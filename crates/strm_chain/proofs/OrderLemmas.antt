@@ -13,19 +13,18 @@ use Rattle.strm_module.specs.Kinds.{Meaning, AnswersStay}
 use Rattle.strm_module.specs.Module.{is_queued, put_of}
 use Rattle.strm_module.specs.declared.shape.Shape.{Shape}
 use Rattle.strm_module.proofs.ProcedureLemmas.{put_if}
-use Rattle.strm_qpair.specs.Pair.{QueuePair, list_on, flushed_pair, pair_gets, pair_front, pair_turns, pair_serves}
-use Rattle.strm_qpair.specs.End.{EndState, in_drv, pair_at, set_pair, found_gets, end_gets, found_serves, end_serves}
-use Rattle.strm_qpair.specs.Head.{head_does}
-use Rattle.strm_ends.specs.declared.place.Place.{Place}
-use Rattle.strm_ends.specs.Image.{Image, end_of, driven}
-use Rattle.strm_ends.specs.Order.{IsOrdered}
-use Rattle.strm_ends.proofs.FrameLemmas.{driver_modules}
-use Rattle.strm_ends.proofs.TurnLemmas.{head_modules, input_modules}
-use Rattle.strm_ends.proofs.OrderLemmas.{ways_of, ordered_by, end_ordered}
+use Rattle.strm_chain_end.specs.Pair.{QueuePair, list_on, flushed_pair, pair_gets, pair_front, pair_turns, pair_serves}
+use Rattle.strm_chain_end.specs.End.{EndState, in_drv, pair_at, set_pair, found_gets, end_gets, found_serves, end_serves}
+use Rattle.strm_chain_end.specs.Head.{put_at_head}
+use Rattle.strm_chain_ends.specs.declared.place.Place.{Place}
+use Rattle.strm_chain_ends.specs.Image.{Image, end_of, driven}
+use Rattle.strm_chain_ends.specs.Order.{IsOrdered}
+use Rattle.strm_chain_ends.proofs.FrameLemmas.{driver_modules}
+use Rattle.strm_chain_ends.proofs.TurnLemmas.{head_modules, input_modules, after_shape}
+use Rattle.strm_chain_ends.proofs.OrderLemmas.{ways_of, ordered_by, end_ordered}
 use Rattle.strm_chain.specs.declared.spot.Spot.{Spot}
 use Rattle.strm_chain.specs.Deliver.{deliver}
 use Rattle.strm_chain.specs.Service.{Leads}
-use Rattle.strm_chain.proofs.SameLemmas.{put_shape}
 use Rattle.strm_chain.proofs.StepLemmas.{StepsKeep, delivery_keeps, moves_keep}
 
 same_both : (a b c d : Bool) → a ≡ c → b ≡ d → ◌≡◌ {A = Bool × Bool} (a, b) (c, d)
@@ -57,7 +56,7 @@ module _ {K : Type 0} (means : Meaning K) (stay : AnswersStay means) where
   gets_ways : (s : QueuePair K) (side : Side) (m : Msg) → ways_by (pair_gets means s side m).pair.shape.kind ≡ ways_by s.shape.kind
   gets_ways s side m =
       let put = put_of means s.shape side m in
-      ap (λ (x : Shape K). ways_by x.kind) (put_shape (record (flushed_pair s m.kind) { shape = put.shape }) side put.answer) ∙ put_ways s.shape side m
+      ap (λ (x : Shape K). ways_by x.kind) (after_shape (record (flushed_pair s m.kind) { shape = put.shape }) side put.answer) ∙ put_ways s.shape side m
 
   front_ways : (s : QueuePair K) (side : Side) (q : List Msg) → ways_by (pair_front means s side q).pair.shape.kind ≡ ways_by s.shape.kind
   front_ways s side [] = refl
@@ -98,7 +97,7 @@ module _ {K : Type 0} (means : Meaning K) (stay : AnswersStay means) where
       record {
         same = λ image ordered. ordered;
         trans = λ old mid new x y ordered. y (x ordered);
-        heads = λ image e m. end_ordered means image e (head_does (end_of image e) m).state (ap (ways_of means) (head_modules (end_of image e) m));
+        heads = λ image e m. end_ordered means image e (put_at_head (end_of image e) m).state (ap (ways_of means) (head_modules (end_of image e) m));
         drives = driven_ordered;
         puts = λ image e i side m.
             end_ordered means image e (end_gets means (end_of image e) i side m).state (found_gets_ways (end_of image e) i (pair_at (end_of image e).modules i) side m refl);

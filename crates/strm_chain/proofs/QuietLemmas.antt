@@ -1,14 +1,14 @@
 -- Moves one after the other, and what each of them keeps.
 use Rattle.std.proofs.Common.{◌≡◌, true, List, [], ◌∷◌, ◌++◌, refl, sym, ◌∙◌, ap}
 use Rattle.strm_module.specs.Kinds.{Meaning}
-use Rattle.strm_qpair.specs.End.{EndState}
-use Rattle.strm_qpair.specs.Modules.{SameIds, SameEnd}
-use Rattle.strm_qpair.specs.declared.record.Record.{Record}
-use Rattle.strm_ends.specs.declared.place.Place.{Place}
-use Rattle.strm_ends.specs.Image.{Image}
-use Rattle.strm_ends.specs.Flow.{may}
+use Rattle.strm_chain_end.specs.End.{EndState}
+use Rattle.strm_chain_end.specs.Modules.{SameIds, SameEnd}
+use Rattle.strm_chain_end.specs.declared.record.Record.{Record}
+use Rattle.strm_chain_ends.specs.declared.place.Place.{Place}
+use Rattle.strm_chain_ends.specs.Image.{Image}
+use Rattle.strm_chain_ends.specs.Flow.{may}
 use Rattle.strm_chain.specs.Service.{Leads, move}
-use Rattle.strm_ends.specs.Same.{SameModules}
+use Rattle.strm_chain_ends.specs.Same.{SameModules}
 
 -- one more move behind those that were made
 pub Leads-snoc : {K : Type 0} (means : Meaning K) (places : List Place) (old mid new : Image K) (place : Place) → Leads means old places mid → may means mid place ≡ true → new ≡ move means mid place → Leads means old (places ++ place ∷ []) new

@@ -1,6 +1,7 @@
 -- Delivery, moves and settling keep which modules stand where.
 use Rattle.std.proofs.Common.{◌≡◌, ◌∙◌, ◌==◌, ◌&&◌, ℕ, Bool, true, false, cond, Option, Some, None, List, [], ◌∷◌, refl, sym, ap, is_none, suc, zero}
 use Rattle.std.proofs.lemmas.Option.{get_or_from_slice_get}
+use Rattle.strm_chain_ends.proofs.TurnLemmas.{after_shape}
 use Rattle.strm_msg.specs.Message.{Msg}
 use Rattle.strm_msg.specs.Options.{options_asked}
 use Rattle.strm_msg.specs.declared.options.TheConstants.{SETOPTS}
@@ -23,19 +24,19 @@ use Rattle.strm_module.proofs.ProcedureLemmas.{put_of_same}
 use Rattle.strm_module.specs.declared.driver.Driver.{Driver}
 use Rattle.strm_module.specs.declared.driver.Driver.TheVariants.{Echo, Loop, Line, Wire}
 use Rattle.strm_module.specs.Driver.{has_end}
-use Rattle.strm_qpair.specs.Pair.{QueuePair, list_on, flushed, flushed_if, flushed_pair, after_put, pair_gets, pair_front, pair_turns, pair_serves}
-use Rattle.strm_qpair.specs.End.{EndState, in_head, in_state, in_drv, pair_at, set_pair, found_gets, end_gets, found_serves, end_serves}
-use Rattle.strm_qpair.specs.Head.{is_id, kept_answer, with_errors, open_head, keeps, head_does}
-use Rattle.strm_qpair.specs.Driver.{DriverStep, consumes, refuses, line_does, loop_does, options_up, echo_does, wire_does, driver_at}
-use Rattle.strm_qpair.specs.Modules.{identity_of, identities_of, SameIds, SameEnd}
-use Rattle.strm_qpair.specs.declared.record.Record.{Record}
-use Rattle.strm_qpair.proofs.EndLemmas.{identities-set}
-use Rattle.strm_ends.specs.declared.place.Place.{Place}
-use Rattle.strm_ends.specs.Image.{Image, end_of, with_end, driver_does, input_flushed, driven}
+use Rattle.strm_chain_end.specs.Pair.{QueuePair, list_on, flushed, flushed_if, flushed_pair, after_put, pair_gets, pair_front, pair_turns, pair_serves}
+use Rattle.strm_chain_end.specs.End.{EndState, in_head, in_state, in_drv, pair_at, set_pair, found_gets, end_gets, found_serves, end_serves}
+use Rattle.strm_chain_end.specs.Head.{is_id, kept_answer, with_errors, open_head, keeps, put_at_head}
+use Rattle.strm_chain_end.specs.Driver.{DriverStep, consumes, refuses, put_at_line, put_at_loop, options_up, put_at_echo, put_at_wire, driver_at}
+use Rattle.strm_chain_end.specs.Modules.{identity_of, identities_of, SameIds, SameEnd}
+use Rattle.strm_chain_end.specs.declared.record.Record.{Record}
+use Rattle.strm_chain_end.proofs.EndLemmas.{identities-set}
+use Rattle.strm_chain_ends.specs.declared.place.Place.{Place}
+use Rattle.strm_chain_ends.specs.Image.{Image, end_of, with_end, put_at_driver, input_flushed, driven}
 use Rattle.strm_chain.specs.declared.spot.Spot.{Spot}
 use Rattle.strm_chain.specs.Deliver.{put_at, deliver}
 use Rattle.strm_chain.specs.Service.{Leads, serve_at}
-use Rattle.strm_ends.specs.Same.{SameModules}
+use Rattle.strm_chain_ends.specs.Same.{SameModules}
 use Rattle.strm_chain.proofs.QuietLemmas.{same_end, same_trans, same_image}
 use Rattle.strm_chain.proofs.StepLemmas.{StepsKeep, delivery_keeps, moves_keep}
 
@@ -103,14 +104,14 @@ head_step_keeps : {K : Type 0} (e : EndState K) (m : Msg) (is_open : Bool) → S
 head_step_keeps e m true = open_head_keeps e m.kind m
 head_step_keeps e m false = same_end e
 
-pub head_does_keeps : {K : Type 0} (e : EndState K) (m : Msg) → SameEnd e (head_does e m).state
-head_does_keeps e m = head_step_keeps e m e.is_open
+pub put_at_head_keeps : {K : Type 0} (e : EndState K) (m : Msg) → SameEnd e (put_at_head e m).state
+put_at_head_keeps e m = head_step_keeps e m e.is_open
 
-line_keeps : {K : Type 0} (e : EndState K) (kind : MsgKind) → SameEnd e (line_does e kind).state
+line_keeps : {K : Type 0} (e : EndState K) (kind : MsgKind) → SameEnd e (put_at_line e kind).state
 line_keeps e (MFlush r w band) = in_drv_keeps e (flushed_if r band e.drv)
 line_keeps e kind = same_end e
 
-loop_keeps : {K : Type 0} (e : EndState K) (kind : MsgKind) (m : Msg) → SameEnd e (loop_does e kind m).state
+loop_keeps : {K : Type 0} (e : EndState K) (kind : MsgKind) (m : Msg) → SameEnd e (put_at_loop e kind m).state
 loop_keeps e (MFlush r w band) m = in_drv_keeps e (flushed_if w band e.drv)
 loop_keeps e MData m = in_drv_keeps e (put_in e.drv m)
 loop_keeps e MProto m = in_drv_keeps e (put_in e.drv m)
@@ -120,12 +121,12 @@ either_step_keeps : {K : Type 0} (b : Bool) (e : EndState K) (x y : DriverStep K
 either_step_keeps true e x y hx hy = hx
 either_step_keeps false e x y hx hy = hy
 
-echo_keeps : {K : Type 0} (e : EndState K) (kind : MsgKind) (m : Msg) → SameEnd e (echo_does e kind m).state
+echo_keeps : {K : Type 0} (e : EndState K) (kind : MsgKind) (m : Msg) → SameEnd e (put_at_echo e kind m).state
 echo_keeps e (MIoctl id cmd) m =
     either_step_keeps (cmd == SETOPTS) e (record { state = e; sends = options_up id (options_asked m.dat) }) (refuses e id) (same_end e) (same_end e)
 echo_keeps e kind m = loop_keeps e kind m
 
-wire_keeps : {K : Type 0} (e : EndState K) (kind : MsgKind) (m : Msg) → SameEnd e (wire_does e kind m).state
+wire_keeps : {K : Type 0} (e : EndState K) (kind : MsgKind) (m : Msg) → SameEnd e (put_at_wire e kind m).state
 wire_keeps e MPcproto m = in_drv_keeps e (put_in e.drv m)
 wire_keeps e kind m = loop_keeps e kind m
 
@@ -139,8 +140,8 @@ driver_step_keeps : {K : Type 0} (d : Driver) (e : EndState K) (m : Msg) (has : 
 driver_step_keeps d e m true = driver_at_keeps d e m
 driver_step_keeps d e m false = same_end e
 
-pub driver_does_keeps : {K : Type 0} (d : Driver) (e : End) (state : EndState K) (m : Msg) → SameEnd state (driver_does d e state m).state
-driver_does_keeps d e state m = driver_step_keeps d state m (has_end d e)
+pub put_at_driver_keeps : {K : Type 0} (d : Driver) (e : End) (state : EndState K) (m : Msg) → SameEnd state (put_at_driver d e state m).state
+put_at_driver_keeps d e state m = driver_step_keeps d state m (has_end d e)
 
 input_keeps : {K : Type 0} (d : Driver) (far : EndState K) (kind : MsgKind) → SameEnd far (input_flushed d far kind)
 input_keeps Echo far kind = same_end far
@@ -153,26 +154,20 @@ input_keeps Wire far kind = same_end far
 -- a message that comes to a driver leaves the same modules
 driven_keeps : {K : Type 0} (image : Image K) (e : End) (m : Msg) → SameModules image (driven image e m)
 driven_keeps image A m =
-    record { driver = refl; broken = refl; on_a = driver_does_keeps image.driver A image.a m; on_b = input_keeps image.driver image.b m.kind }
-driven_keeps image B m = record { driver = refl; broken = refl; on_a = same_end image.a; on_b = driver_does_keeps image.driver B image.b m }
+    record { driver = refl; broken = refl; on_a = put_at_driver_keeps image.driver A image.a m; on_b = input_keeps image.driver image.b m.kind }
+driven_keeps image B m = record { driver = refl; broken = refl; on_a = same_end image.a; on_b = put_at_driver_keeps image.driver B image.b m }
 
 -- one end changes, and the other stays
 pub with_end_keeps : {K : Type 0} (image : Image K) (e : End) (new : EndState K) → SameEnd (end_of image e) new → SameModules image (with_end image e new)
 with_end_keeps image A new h = record { driver = refl; broken = refl; on_a = h; on_b = same_end image.b }
 with_end_keeps image B new h = record { driver = refl; broken = refl; on_a = same_end image.a; on_b = h }
 
--- a put leaves the shape that its module's answer came with
-pub put_shape : {K : Type 0} (s : QueuePair K) (side : Side) (put : Put) → (after_put s side put).pair.shape ≡ s.shape
-put_shape s Rd (Queued m) = refl
-put_shape s Wr (Queued m) = refl
-put_shape s side (Sent outs) = refl
-
 -- for kinds of any meaning
 module _ {K : Type 0} (means : Meaning K) where
   pair_gets-identity : (s : QueuePair K) (side : Side) (m : Msg) → identity_of (pair_gets means s side m).pair.shape ≡ identity_of s.shape
   pair_gets-identity s side m =
       let put = put_of means s.shape side m in
-      ap (λ (x : Shape K). identity_of x) (put_shape (record (flushed_pair s m.kind) { shape = put.shape }) side put.answer) ∙ same_identity s.shape put.shape (put_of_same means s.shape side m)
+      ap (λ (x : Shape K). identity_of x) (after_shape (record (flushed_pair s m.kind) { shape = put.shape }) side put.answer) ∙ same_identity s.shape put.shape (put_of_same means s.shape side m)
 
   pair_front-identity : (s : QueuePair K) (side : Side) (q : List Msg) → identity_of (pair_front means s side q).pair.shape ≡ identity_of s.shape
   pair_front-identity s side [] = refl
@@ -216,7 +211,7 @@ module _ {K : Type 0} (means : Meaning K) where
       record {
         same = λ image. same_image image;
         trans = λ old mid new x y. same_trans old mid new x y;
-        heads = λ image e m. with_end_keeps image e (head_does (end_of image e) m).state (head_does_keeps (end_of image e) m);
+        heads = λ image e m. with_end_keeps image e (put_at_head (end_of image e) m).state (put_at_head_keeps (end_of image e) m);
         drives = λ image e m. driven_keeps image e m;
         puts = put_at_keeps;
         serves = serve_at_keeps;

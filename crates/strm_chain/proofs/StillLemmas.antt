@@ -12,13 +12,13 @@ use Rattle.strm_msg.specs.declared.kind.MsgKind.TheVariants.{MData, MProto, MPcp
 use Rattle.strm_module.specs.declared.driver.Driver.{Driver}
 use Rattle.strm_module.specs.declared.driver.Driver.TheVariants.{Echo, Loop, Line, Wire}
 use Rattle.strm_module.specs.Driver.{has_end}
-use Rattle.strm_qpair.specs.End.{EndState}
-use Rattle.strm_qpair.specs.Driver.{line_does, loop_does, echo_does, wire_does, driver_at, options_up, refuses, consumes}
-use Rattle.strm_qpair.specs.declared.driver.DriverSends.TheVariants.{Options}
-use Rattle.strm_ends.specs.Image.{Image, end_of, driver_does, input_flushed, driven}
+use Rattle.strm_chain_end.specs.End.{EndState}
+use Rattle.strm_chain_end.specs.Driver.{put_at_line, put_at_loop, put_at_echo, put_at_wire, driver_at, options_up, refuses, consumes}
+use Rattle.strm_chain_end.specs.declared.driver.DriverSends.TheVariants.{Options}
+use Rattle.strm_chain_ends.specs.Image.{Image, end_of, put_at_driver, input_flushed, driven}
 
 module _ {K : Type 0} (mode : Option ReadMode) (prot : Option Prot) (marks : Option (ℕ × ℕ)) (id : ℕ) where
-  line_still : (e : EndState K) (kind : MsgKind) → Options mode prot marks id ≡ (line_does e kind).sends → (line_does e kind).state ≡ e
+  line_still : (e : EndState K) (kind : MsgKind) → Options mode prot marks id ≡ (put_at_line e kind).sends → (put_at_line e kind).state ≡ e
   line_still e (MFlush true w band) s = cc
   line_still e (MFlush false w band) s = cc
   line_still e (MIoctl n cmd) s = refl
@@ -31,7 +31,7 @@ module _ {K : Type 0} (mode : Option ReadMode) (prot : Option Prot) (marks : Opt
   line_still e MHangup s = refl
   line_still e (MError rd wr) s = refl
 
-  loop_still : (e : EndState K) (kind : MsgKind) (m : Msg) → Options mode prot marks id ≡ (loop_does e kind m).sends → (loop_does e kind m).state ≡ e
+  loop_still : (e : EndState K) (kind : MsgKind) (m : Msg) → Options mode prot marks id ≡ (put_at_loop e kind m).sends → (put_at_loop e kind m).state ≡ e
   loop_still e (MFlush true w band) m s = cc
   loop_still e (MFlush false w band) m s = cc
   loop_still e (MIoctl n cmd) m s = refl
@@ -48,7 +48,7 @@ module _ {K : Type 0} (mode : Option ReadMode) (prot : Option Prot) (marks : Opt
   ioctl_still e n m true = refl
   ioctl_still e n m false = refl
 
-  echo_still : (e : EndState K) (kind : MsgKind) (m : Msg) → Options mode prot marks id ≡ (echo_does e kind m).sends → (echo_does e kind m).state ≡ e
+  echo_still : (e : EndState K) (kind : MsgKind) (m : Msg) → Options mode prot marks id ≡ (put_at_echo e kind m).sends → (put_at_echo e kind m).state ≡ e
   echo_still e (MIoctl n cmd) m s = ioctl_still e n m (cmd == SETOPTS)
   echo_still e (MFlush r w band) m s = loop_still e (MFlush r w band) m s
   echo_still e MData m s = loop_still e MData m s
@@ -60,7 +60,7 @@ module _ {K : Type 0} (mode : Option ReadMode) (prot : Option Prot) (marks : Opt
   echo_still e MHangup m s = refl
   echo_still e (MError rd wr) m s = refl
 
-  wire_still : (e : EndState K) (kind : MsgKind) (m : Msg) → Options mode prot marks id ≡ (wire_does e kind m).sends → (wire_does e kind m).state ≡ e
+  wire_still : (e : EndState K) (kind : MsgKind) (m : Msg) → Options mode prot marks id ≡ (put_at_wire e kind m).sends → (put_at_wire e kind m).state ≡ e
   wire_still e (MFlush true w band) m s = cc
   wire_still e (MFlush false w band) m s = cc
   wire_still e (MIoctl n cmd) m s = refl
@@ -84,10 +84,10 @@ module _ {K : Type 0} (mode : Option ReadMode) (prot : Option Prot) (marks : Opt
   had_still d e m false s = refl
 
   -- the driver that sends options up has left its end as it was
-  pub options_still : (d : Driver) (end : End) (e : EndState K) (m : Msg) → Options mode prot marks id ≡ (driver_does d end e m).sends → (driver_does d end e m).state ≡ e
+  pub options_still : (d : Driver) (end : End) (e : EndState K) (m : Msg) → Options mode prot marks id ≡ (put_at_driver d end e m).sends → (put_at_driver d end e m).state ≡ e
   options_still d end e m s = had_still d e m (has_end d end) s
 
-  wire_passes : (e far : EndState K) (kind : MsgKind) (m : Msg) → Options mode prot marks id ≡ (wire_does e kind m).sends → input_flushed Wire far kind ≡ far
+  wire_passes : (e far : EndState K) (kind : MsgKind) (m : Msg) → Options mode prot marks id ≡ (put_at_wire e kind m).sends → input_flushed Wire far kind ≡ far
   wire_passes e far (MFlush true w band) m s = cc
   wire_passes e far (MFlush false w band) m s = refl
   wire_passes e far (MIoctl n cmd) m s = refl
@@ -101,14 +101,14 @@ module _ {K : Type 0} (mode : Option ReadMode) (prot : Option Prot) (marks : Opt
   wire_passes e far (MError rd wr) m s = refl
 
   -- nor what came in to a wire
-  input_still : (d : Driver) (e far : EndState K) (m : Msg) → Options mode prot marks id ≡ (driver_does d A e m).sends → input_flushed d far m.kind ≡ far
+  input_still : (d : Driver) (e far : EndState K) (m : Msg) → Options mode prot marks id ≡ (put_at_driver d A e m).sends → input_flushed d far m.kind ≡ far
   input_still Echo e far m s = refl
   input_still Loop e far m s = refl
   input_still Line e far m s = refl
   input_still Wire e far m s = wire_passes e far m.kind m s
 
   -- nor has it changed anything else
-  pub nothing_changed : (end : End) (old new : Image K) (m : Msg) → Options mode prot marks id ≡ (driver_does old.driver end (end_of old end) m).sends → new ≡ driven old end m → new ≡ old
+  pub nothing_changed : (end : End) (old new : Image K) (m : Msg) → Options mode prot marks id ≡ (put_at_driver old.driver end (end_of old end) m).sends → new ≡ driven old end m → new ≡ old
   nothing_changed A old new m s is =
       is
       ∙ ap (λ (x : EndState K). record old { a = x; b = input_flushed old.driver old.b m.kind }) (options_still old.driver A old.a m s)

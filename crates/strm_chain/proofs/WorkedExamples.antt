@@ -10,14 +10,14 @@ use Rattle.strm_module.specs.declared.kind.Kind.{Kind}
 use Rattle.strm_module.specs.declared.kind.Kind.TheVariants.{Pass, Tee, Line}
 use Rattle.strm_module.specs.declared.driver.Driver.{Driver}
 use Rattle.strm_module.specs.declared.driver.Driver.TheVariants as D
-use Rattle.strm_qpair.specs.Pair.{QueuePair}
-use Rattle.strm_qpair.specs.End.{EndState}
-use Rattle.strm_qpair.specs.Change.{fresh_record}
-use Rattle.strm_ends.specs.declared.place.Place.TheVariants as Place
+use Rattle.strm_chain_end.specs.Pair.{QueuePair}
+use Rattle.strm_chain_end.specs.End.{EndState}
+use Rattle.strm_chain_end.specs.Change.{fresh_record}
+use Rattle.strm_chain_ends.specs.declared.place.Place.TheVariants as Place
 use Rattle.strm_chain.specs.declared.spot.Spot.TheVariants.{Down, Up}
-use Rattle.strm_ends.specs.Image.{Image}
+use Rattle.strm_chain_ends.specs.Image.{Image}
 use Rattle.strm_chain.specs.Deliver.{deliver, up_through, down_through}
-use Rattle.strm_ends.specs.Flow.{may}
+use Rattle.strm_chain_ends.specs.Flow.{may}
 use Rattle.strm_chain.specs.Service.{move}
 
 abbrev five : WaterMarks

@@ -6,7 +6,7 @@ use Rattle.strm_msg.specs.declared.words.Side.{Side}
 use Rattle.strm_msg.specs.declared.words.Side.TheVariants.{Rd, Wr}
 use Rattle.strm_module.specs.Kinds.{Meaning}
 use Rattle.strm_chain.specs.declared.chain.hop.Hop.{Hop}
-use Rattle.strm_ends.specs.Image.{Image, count_of}
+use Rattle.strm_chain_ends.specs.Image.{Image, count_of}
 use Rattle.strm_chain.specs.Deliver.{up, down}
 
 -- a message that goes up with a number of modules still ahead
@@ -16,18 +16,19 @@ up_hop head_sent e n m = record { head_sent = head_sent; side = Rd; end = e; ahe
 abbrev pub down_hop : Bool → End → ℕ → Msg → Hop
 down_hop head_sent e n m = record { head_sent = head_sent; side = Wr; end = e; ahead = n; m = m }
 
--- what module i sends for a message that came on a side: up past the modules above it, or down past those below it
+-- the hop of a message that module i sends for one that came on a side: up past the modules above it, or down
+-- past those below it
 abbrev pub hop_of : Bool → Side → End → ℕ → ℕ → Side × Msg → Hop
 hop_of head_sent Rd e i below out = up_hop head_sent e (i - 1) out.1
 hop_of head_sent Wr e i below (Wr, m) = down_hop head_sent e below m
 hop_of head_sent Wr e i below (Rd, m) = up_hop head_sent e (i - 1) m
 
--- the number of the module that is next on a way of so many modules
+-- the number of the module that is next where this many modules are still ahead
 abbrev pub next_module : {K : Type 0} → Image K → Side → End → ℕ → ℕ
 next_module image Rd e n = n
 next_module image Wr e n = count_of image e - (n - 1)
 
--- how far a message may still go
+-- the number of steps that a message may still go
 abbrev pub side_rank : Side → ℕ → ℕ
 side_rank Rd n = n + 1
 side_rank Wr n = n + 20
@@ -50,5 +51,5 @@ module _ {K : Type 0} (means : Meaning K) where
   carry image h = carry_on h.side h image
 
   -- several messages, each carried to its end before the next
-  abbrev pub carry_all : Image K → List Hop → Image K
-  carry_all image hops = fold (λ i h. carry i h) image hops
+  abbrev pub deliver_all : Image K → List Hop → Image K
+  deliver_all image hops = fold (λ i h. carry i h) image hops

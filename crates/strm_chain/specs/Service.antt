@@ -1,4 +1,4 @@
--- Service: what the move of a place does (Programmer's Guide: STREAMS, "Service Procedures"; srv(9E), getq(9F)).
+-- Service: the move of a place (Programmer's Guide: STREAMS, "Service Procedures"; srv(9E), getq(9F)).
 use Rattle.std.specs.Prelude.{◌≡◌, ℕ, ◌-◌, true, false, List, [], ◌∷◌, fold}
 use Rattle.strm_msg.specs.Message.{Msg}
 use Rattle.strm_msg.specs.declared.words.End.{End}
@@ -6,17 +6,17 @@ use Rattle.strm_msg.specs.declared.words.Side.{Side}
 use Rattle.strm_msg.specs.declared.words.Side.TheVariants.{Rd, Wr}
 use Rattle.strm_module.specs.Kinds.{Meaning}
 use Rattle.strm_module.specs.Driver.{partner}
-use Rattle.strm_qpair.specs.End.{end_serves}
-use Rattle.strm_ends.specs.declared.place.Place.{Place}
-use Rattle.strm_ends.specs.Flow.{may}
-use Rattle.strm_ends.specs.Image.{Image, end_of, count_of, with_drv}
-use Rattle.strm_chain.specs.Deliver.{Passing, passing, up, down, route}
+use Rattle.strm_chain_end.specs.End.{end_serves}
+use Rattle.strm_chain_ends.specs.declared.place.Place.{Place}
+use Rattle.strm_chain_ends.specs.Flow.{may}
+use Rattle.strm_chain_ends.specs.Image.{Image, end_of, count_of, with_drv}
+use Rattle.strm_chain.specs.Deliver.{ModuleStep, module_step, up, down, route}
 
 -- for kinds of any meaning
 module _ {K : Type 0} (means : Meaning K) where
   -- a module serves the first message of its queue of a side
-  abbrev pub serve_at : Image K → End → ℕ → Side → Passing K
-  serve_at image e i side = passing image e (end_serves means (end_of image e) i side)
+  abbrev pub serve_at : Image K → End → ℕ → Side → ModuleStep K
+  serve_at image e i side = module_step image e (end_serves means (end_of image e) i side)
 
   -- the driver sends the first message of its list up the partner
   abbrev pub move_drv : Image K → End → List Msg → Image K

@@ -1,10 +1,10 @@
 //! A chain: one or two ends over a driver, and their service.
 ghost use Rattle.std.specs.Prelude.{◌≡◌, ◌∷◌, [], ◌≤◌, OnOk, OnErr, IfErr, IfOk, IfSome, IfNone, is_ok, true, map, Some, option_map, option_copied};
-ghost use Rattle.strm_qpair.specs.End.{shapes_of, pair_at};
-ghost use Rattle.strm_qpair.specs.Modules.{IsFitEnd, HoldsCalm};
-ghost use Rattle.strm_qpair.specs.Change.{has_room, inserted, removed, closed};
-ghost use Rattle.strm_ends.specs.Image.{end_of, with_end, count_of, KeepsHeadRoom, fresh};
-ghost use Rattle.strm_ends.specs.Order.{goes_round};
+ghost use Rattle.strm_chain_end.specs.End.{shapes_of, pair_at};
+ghost use Rattle.strm_chain_end.specs.Modules.{IsFitEnd, HoldsCalm};
+ghost use Rattle.strm_chain_end.specs.Change.{has_room, inserted, removed, closed};
+ghost use Rattle.strm_chain_ends.specs.Image.{end_of, with_end, count_of, KeepsHeadRoom, fresh};
+ghost use Rattle.strm_chain_ends.specs.Order.{goes_round};
 ghost use Rattle.strm_chain.specs.Enabled.{is_enabled, DueAreEnabled};
 
 use crate::enabling::Enabling;
@@ -12,8 +12,8 @@ use arrayvec::ArrayVec;
 use std::alloc::Global;
 use std::collections::VecDeque;
 use std::marker::Model;
-use strm_ends::{Ends, Place};
-use strm_module::{Boxed, Driver, MOST_MODULES, ModuleOf, Shape};
+use strm_chain_ends::{Ends, Place};
+use strm_module::{BoxedModule, Driver, MOST_MODULES, ModuleOf, Shape};
 use strm_msg::{End, Marks, NoMem};
 
 mod deliver;
@@ -27,23 +27,22 @@ mod settle;
 pub use deliver::head_sends_once;
 use hop::Hop;
 
-/// The queues of a stream, with its modules, what its heads remember, and the places that are
-/// enabled.
+/// The queues of a stream, with its modules, the records of its heads, and the places that are enabled.
 ///
-/// A contract sees its image: the driver, whether the chain is broken, and for each end whether it
-/// is open, the lists of its head and its driver with their marks, its record, and its modules, each
-/// as its shape with two lists. An end that the driver lacks is a closed one without modules and
-/// messages. Beside the image it sees the room of the heads' lists and of a line's, and the run
+/// A contract sees its image: the driver, whether the chain is broken, and the state of each end. That is
+/// whether the end is open, the lists of its head and its driver with their marks, its record, and its
+/// modules, each as its shape with two lists. An end that the driver lacks is a closed one without modules
+/// and messages. In addition to the image it sees the room of the heads' lists and of a line's, and the run
 /// queue.
 ///
-/// No place is forgotten: one that holds a message is enabled, or it must not move and waits for the
-/// queue ahead, which knows it (Programmer's Guide: STREAMS, "Flow Control").
+/// No place is forgotten. One that holds a message is enabled, or it must not move and waits for the queue
+/// ahead, which knows it (Programmer's Guide: STREAMS, "Flow Control").
 #[derive(Drop)]
 pub struct Chain<M: ModuleOf> {
     ends: Ends<M>,
     enabling: Enabling,
-    /// Room for messages on their way, with no message in it: taken by a delivery or a service, and put back unless memory
-    /// was wanting.
+    /// Room for messages on their way, with no message in it: taken by a delivery or a service, and put back
+    /// unless memory ran out.
     hops: VecDeque<Hop>,
 }
 
@@ -59,13 +58,13 @@ impl<M: ModuleOf> Model for Chain<M> {
 }
 
 impl<M: ModuleOf> Chain<M> {
-    /// A chain without modules, whose ends are open. Refused for want of memory alone.
+    /// A chain without modules, whose ends are open. Fails only when memory runs out.
     pub fn new(alloc: Global, driver: Driver, head: Marks, drv: Marks) -> Result<Chain<M>, NoMem>
         ensures { IfOk result (λ c. c.image ≡ fresh driver head drv) }
     {
         let mut enabling = Enabling::new(alloc)?;
         let ends = Ends::new(alloc, driver, head, drv)?;
-        enabling.wake_all(&ends);
+        enabling.enable_all(&ends);
         let hops = VecDeque::new(alloc);
         Ok(Chain {
             ends,
@@ -74,27 +73,27 @@ impl<M: ModuleOf> Chain<M> {
         })
     }
 
-    /// What takes memory for the chain.
+    /// The allocator of the chain.
     pub fn alloc(&self) -> Global {
         self.ends.alloc()
     }
 
-    /// What stands at the bottom.
+    /// The driver at the bottom.
     pub fn driver(&self) -> Driver
         ensures { result ≡ self.now.image.driver }
     {
         self.ends.driver()
     }
 
-    /// Whether memory was wanting after a change. Such a chain neither delivers nor serves.
+    /// Whether memory ran out after a change. Such a chain neither delivers nor serves.
     pub fn is_broken(&self) -> bool
         ensures { result ≡ self.now.image.broken }
     {
         self.ends.is_broken()
     }
 
-    /// Breaks the chain, where memory was wanting after a change of the caller's own. It neither
-    /// delivers nor serves from then on, and the rest stays as it is.
+    /// Breaks the chain, where memory ran out after a change of the caller's own. It neither delivers nor
+    /// serves from then on, and the rest stays as it is.
     pub fn break_off(&mut self)
         ensures { self.new ≡ record self.old { image = record self.old.image { broken = true } } }
     {
@@ -133,8 +132,8 @@ impl<M: ModuleOf> Chain<M> {
         self.ends.end(end).has_room()
     }
 
-    /// Whether messages could go round a circle, answered again and again, with a module of this shape just below the head: what
-    /// refuses its push with EINVAL (I_PUSH).
+    /// Whether messages could go round a circle, answered again and again, with a module of this shape just
+    /// below the head. If so its push is refused with EINVAL (I_PUSH).
     pub fn goes_round(&self, end: End, shape: &Shape<M::Kind>) -> bool
         ensures { result ≡ goes_round M.Kind.means self.now.image end shape.now }
     {
@@ -145,7 +144,7 @@ impl<M: ModuleOf> Chain<M> {
     /// loses room.
     ///
     /// Where `has_room` is false the instance comes back, and nothing is changed.
-    pub fn insert(&mut self, end: End, instance: Boxed<M>) -> Result<(), Boxed<M>>
+    pub fn insert(&mut self, end: End, instance: BoxedModule<M>) -> Result<(), BoxedModule<M>>
         ensures variant { is_ok result ≡ has_room (end_of self.old.image end) }
         ensures ok { OnOk result (self.new.image ≡ with_end self.old.image end (inserted (end_of self.old.image end) instance)) }
         ensures err { OnErr result (self.new ≡ self.old) }
@@ -154,37 +153,36 @@ impl<M: ModuleOf> Chain<M> {
     {
         match self.ends.insert(end, instance) {
             Ok(()) => {
-                self.enabling.wake_all(&self.ends);
+                self.enabling.enable_all(&self.ends);
                 Ok(())
             }
             Err(instance) => Err(instance),
         }
     }
 
-    /// Takes the topmost module out, and drops what its queues hold (I_POP). Takes no memory, and no
+    /// Takes the topmost module out, and drops the messages in its queues (I_POP). Takes no memory, and no
     /// list loses room.
-    pub fn remove(&mut self, end: End) -> Option<Boxed<M>>
+    pub fn remove(&mut self, end: End) -> Option<BoxedModule<M>>
         ensures some { IfSome result (λ it. shapes_of (end_of self.old.image end) ≡ it ∷ shapes_of (end_of self.new.image end)) }
         ensures none { IfNone result ((end_of self.old.image end).modules ≡ []) }
         ensures image { self.new.image ≡ with_end self.old.image end (removed (end_of self.old.image end)) }
         ensures rooms { self.new.rooms ≡ self.old.rooms }
     {
         let module = self.ends.remove(end);
-        self.enabling.wake_all(&self.ends);
+        self.enabling.enable_all(&self.ends);
         module
     }
 
-    /// Takes all modules of an end out, topmost first, drops what their queues and the head's list
-    /// hold, and closes the end (close(2)). The driver's list stays. Takes no memory, and no list
-    /// loses room.
-    pub fn dismantle(&mut self, end: End) -> ArrayVec<Option<Boxed<M>>, MOST_MODULES>
+    /// Takes all modules of an end out, topmost first, drops the messages in their queues and in the head's
+    /// list, and closes the end (close(2)). The driver's list stays. Takes no memory, and no list loses room.
+    pub fn dismantle(&mut self, end: End) -> ArrayVec<Option<BoxedModule<M>>, MOST_MODULES>
         ensures instances { result.items ≡ map (λ s. Some s.shape) (end_of self.old.image end).modules }
         ensures image { self.new.image ≡ with_end self.old.image end (closed (end_of self.old.image end)) }
         ensures room { KeepsHeadRoom self.old.rooms self.new.rooms }
         ensures line_room { self.new.rooms.line ≡ self.old.rooms.line }
     {
         let modules = self.ends.dismantle(end);
-        self.enabling.wake_all(&self.ends);
+        self.enabling.enable_all(&self.ends);
         modules
     }
 

@@ -9,11 +9,11 @@ use crate::spot::Spot;
 use strm_module::ModuleOf;
 use strm_msg::Message;
 
-/// Hands a message in at a spot, and carries it and what comes of it to its end (putnext(9F)).
+/// Hands a message in at a spot, and carries it and the messages that come of it to their end (putnext(9F)).
 ///
-/// To be called where the spot is there, and the chain is not broken. Refused for want of memory
-/// alone: with `NoMem` nothing is changed, and with `Broken` the chain is broken, with the ends and
-/// the modules that the message would have left.
+/// To be called where the spot is there, and the chain is not broken. Fails only when memory runs out: with
+/// `NoMem` nothing is changed, and with `Broken` the chain is broken, with the ends and the modules that the
+/// message would have left.
 pub fn deliver<M: ModuleOf>(chain: &mut Chain<M>, spot: Spot, m: Message) -> Result<(), ChainFault>
     requires there { is_there chain.old.image spot ≡ true }
     requires whole { chain.old.image.broken ≡ false }

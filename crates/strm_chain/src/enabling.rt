@@ -1,23 +1,23 @@
-//! Which places are enabled, and which wait for a queue to drain.
-ghost use Rattle.std.specs.Prelude.{◌≡◌, ◌+◌, ◌||◌, ◌==◌, ◌<◌, ◌≤◌, ◌≢◌, [], IfOk, IfSome, IfNone, true, false, length, None, slice_get, slice_set, Some, is_some};
+//! The places that are enabled, and those that wait for a queue to drain.
+ghost use Rattle.std.specs.Prelude.{◌≡◌, ◌⊎◌, ◌+◌, ◌||◌, ◌==◌, ◌<◌, ◌≤◌, ◌≢◌, [], IfOk, IfSome, IfNone, true, false, length, None, slice_get, slice_set, Some, is_some};
 ghost use Rattle.strm_msg.specs.Count.{one_more};
 ghost use Rattle.strm_queue.specs.Run.{AreOnce, with_place};
-ghost use Rattle.strm_ends.specs.Flow.{offer_of, turn_of, may, is_due};
-ghost use Rattle.strm_ends.specs.Held.{held_by, DiffersIn, AreCalm};
-ghost use Rattle.strm_ends.specs.Next.{next_of};
-ghost use Rattle.strm_ends.specs.declared.place.NextQueue.{NextQueue};
-ghost use Rattle.strm_ends.specs.declared.place.Place.{Place};
-ghost use Rattle.strm_ends.specs.declared.place.Place.TheVariants as Places;
-ghost use Rattle.strm_ends.specs.declared.place.NextQueue.TheVariants.{Of};
-ghost use Rattle.strm_chain.specs.Number.{number_of, place_number, place_of};
-ghost use Rattle.strm_ends.specs.Image.{Image};
-ghost use Rattle.strm_chain.specs.Enabled.{is_enabled, IsReady, IsReadyBut, ArePlaces, Awaits, TurnsKnown};
+ghost use Rattle.strm_chain_ends.specs.Flow.{offer_of, turn_of, may, is_due};
+ghost use Rattle.strm_chain_ends.specs.Held.{held_by, DiffersIn, AreCalm};
+ghost use Rattle.strm_chain_ends.specs.Next.{next_of};
+ghost use Rattle.strm_chain_ends.specs.declared.place.NextQueue.{NextQueue};
+ghost use Rattle.strm_chain_ends.specs.declared.place.Place.{Place};
+ghost use Rattle.strm_chain_ends.specs.declared.place.Place.TheVariants as Places;
+ghost use Rattle.strm_chain_ends.specs.declared.place.NextQueue.TheVariants.{Of};
+ghost use Rattle.strm_chain.specs.Number.{queue_number, place_number, place_of};
+ghost use Rattle.strm_chain_ends.specs.Image.{Image};
+ghost use Rattle.strm_chain.specs.Enabled.{is_enabled, IsReady, IsReadyExcept, ArePlaces, MarksWanted, TurnsKnown};
 
 use crate::moves::Looks;
 use crate::number::{QUEUES, number_of, place_number, place_of};
 use std::alloc::Global;
 use std::marker::Model;
-use strm_ends::{Ends, NextQueue, Place};
+use strm_chain_ends::{Ends, NextQueue, Place};
 use strm_module::{ModuleOf, Turn};
 use strm_msg::{End, NoMem};
 use strm_queue::RunQueue;
@@ -43,7 +43,7 @@ impl Model for Enabling {
 }
 
 impl Enabling {
-    /// No place is enabled, and none waits. Refused for want of memory alone, which the run queue
+    /// Makes it with no place enabled, and none waiting. Fails only when memory runs out, which the run queue
     /// takes.
     pub(crate) fn new(alloc: Global) -> Result<Enabling, NoMem>
         ensures { IfOk result (λ e. e.run.items ≡ []) }
@@ -55,7 +55,7 @@ impl Enabling {
         })
     }
 
-    /// How many places were looked at since the count began, u64::MAX if more.
+    /// The number of places that were looked at since the count began, u64::MAX if more.
     pub(crate) fn looks(&self) -> Looks
         ensures { result ≡ self.now.run.given }
     {
@@ -69,7 +69,7 @@ impl Enabling {
         self.run.restart()
     }
 
-    /// How many places are enabled.
+    /// The number of places that are enabled.
     pub(crate) fn len(&self) -> usize
         ensures value { result ≡ length self.now.run.items }
         ensures few { result ≤ QUEUES }
@@ -102,9 +102,9 @@ impl Enabling {
         self.run.enable(place_number(place))
     }
 
-    /// Enables each place that holds a message, where what is next may have changed: no place waits
+    /// Enables each place that holds a message, where the queue that is next may have changed: no place waits
     /// then.
-    pub(crate) fn wake_all<M: ModuleOf>(&mut self, ends: &Ends<M>)
+    pub(crate) fn enable_all<M: ModuleOf>(&mut self, ends: &Ends<M>)
         ensures ready { IsReady M.Kind.means ends.now.image self.new }
         ensures places { ArePlaces ends.now.image self.new.run.items }
         ensures given { self.new.run.given ≡ self.old.run.given }
@@ -115,12 +115,12 @@ impl Enabling {
         let _ = ends.count(End::A);
         let _ = ends.count(End::B);
         for number in 0..QUEUES {
-            self.wake_one(ends, place_of(number));
+            self.enable_if_filled(ends, place_of(number));
         }
     }
 
     /// Enables a place, if it holds a message.
-    fn wake_one<M: ModuleOf>(&mut self, ends: &Ends<M>, place: Place)
+    fn enable_if_filled<M: ModuleOf>(&mut self, ends: &Ends<M>, place: Place)
         ensures kept { (other : Place) → is_enabled self.old.run other ≡ true → is_enabled self.new.run other ≡ true }
         ensures own { is_some (offer_of M.Kind.means ends.now.image place) ≡ true → self.new.run.items ≡ with_place self.old.run.items (place_number place) }
         ensures none { is_some (offer_of M.Kind.means ends.now.image place) ≡ false → self.new.run.items ≡ self.old.run.items }
@@ -138,22 +138,24 @@ impl Enabling {
         }
     }
 
-    /// Enables a place, if its service would do otherwise now than before, and moves something.
-    fn wake_turn<M: ModuleOf>(&mut self, ends: &Ends<M>, place: Place, before: Turn)
+    /// Enables a place, if the turn of its service is not as before, and moves something.
+    fn enable_by_turn<M: ModuleOf>(&mut self, ends: &Ends<M>, place: Place, before: Turn)
         ensures kept { (other : Place) → is_enabled self.new.run other ≡ false → is_enabled self.old.run other ≡ false }
         ensures own { is_some (offer_of M.Kind.means ends.now.image place) ≡ true → is_enabled self.new.run place ≡ false → turn_of M.Kind.means ends.now.image place ≡ before }
+        ensures only { (other : Place) → is_enabled self.old.run other ≡ false → is_enabled self.new.run other ≡ true → (other ≡ place) × (turn_of M.Kind.means ends.now.image place ≢ before) }
         ensures steady { turn_of M.Kind.means ends.now.image place ≡ before → self.new.run.items ≡ self.old.run.items }
         ensures places { ArePlaces ends.now.image self.old.run.items → ArePlaces ends.now.image self.new.run.items }
         ensures wanted { self.new.wanted ≡ self.old.wanted }
         ensures given { self.new.run.given ≡ self.old.run.given }
     {
         if ends.turn(place) != before {
-            self.wake_one(ends, place);
+            self.enable_if_filled(ends, place);
         }
     }
 
-    /// Enables both places of a module, each if its service would do otherwise now than before, and moves something.
-    pub(crate) fn wake_turns<M: ModuleOf>(
+    /// Enables both places of a module, each if the turn of its service is not as before, and moves
+    /// something.
+    pub(crate) fn enable_by_turns<M: ModuleOf>(
         &mut self,
         ends: &Ends<M>,
         end: End,
@@ -162,21 +164,27 @@ impl Enabling {
     )
         ensures known { (old : Image M.Kind) → turn_of M.Kind.means old (Places.Wr end i) ≡ before.0 → turn_of M.Kind.means old (Places.Rd end i) ≡ before.1 → ((place : Place) → place ≢ Places.Wr end i → place ≢ Places.Rd end i → turn_of M.Kind.means ends.now.image place ≡ turn_of M.Kind.means old place) → TurnsKnown M.Kind.means old ends.now.image self.new.run }
         ensures ready { (old : Image M.Kind) → IsReady M.Kind.means old self.old → IsReady M.Kind.means old self.new }
+        ensures only { (other : Place) → is_enabled self.old.run other ≡ false → is_enabled self.new.run other ≡ true → ((other ≡ Places.Wr end i) × (turn_of M.Kind.means ends.now.image (Places.Wr end i) ≢ before.0)) ⊎ ((other ≡ Places.Rd end i) × (turn_of M.Kind.means ends.now.image (Places.Rd end i) ≢ before.1)) }
         ensures steady { turn_of M.Kind.means ends.now.image (Places.Wr end i) ≡ before.0 → turn_of M.Kind.means ends.now.image (Places.Rd end i) ≡ before.1 → self.new.run.items ≡ self.old.run.items }
         ensures places { ArePlaces ends.now.image self.old.run.items → ArePlaces ends.now.image self.new.run.items }
         ensures kept { (other : Place) → is_enabled self.old.run other ≡ true → is_enabled self.new.run other ≡ true }
         ensures given { self.new.run.given ≡ self.old.run.given }
     {
         let (wr, rd) = before;
-        self.wake_turn(ends, Place::Wr { end, i }, wr);
-        self.wake_turn(ends, Place::Rd { end, i }, rd);
+        self.enable_by_turn(ends, Place::Wr { end, i }, wr);
+        self.enable_by_turn(ends, Place::Rd { end, i }, rd);
     }
 
-    /// A queue had so many messages before it changed. If it has more or fewer now, its place is
-    /// enabled, and if it has fewer, so is the place that waits for it, where that must move now
+    /// Enables places after a queue changed, which had `before` messages before. If it has more or fewer now,
+    /// its own place is enabled. If it has fewer, so is the place that waits for it, where that must move now
     /// (back-enabling).
-    pub(crate) fn wake<M: ModuleOf>(&mut self, ends: &Ends<M>, queue: NextQueue, before: usize)
-        requires { number_of queue < QUEUES }
+    pub(crate) fn enable_by_change<M: ModuleOf>(
+        &mut self,
+        ends: &Ends<M>,
+        queue: NextQueue,
+        before: usize,
+    )
+        requires { queue_number queue < QUEUES }
         ensures ready { (old : Image M.Kind) → before ≡ length (held_by old queue) → IsReady M.Kind.means old self.old → DiffersIn old ends.now.image queue → TurnsKnown M.Kind.means old ends.now.image self.old.run → IsReady M.Kind.means ends.now.image self.new }
         ensures places { ArePlaces ends.now.image self.old.run.items → ArePlaces ends.now.image self.new.run.items }
         ensures put { before ≤ length (held_by ends.now.image queue) → length self.new.run.items + before ≤ length self.old.run.items + length (held_by ends.now.image queue) }
@@ -187,15 +195,15 @@ impl Enabling {
         if after == before {
             return;
         }
-        self.wake_own(ends, queue);
+        self.enable_own(ends, queue);
         if after < before {
-            self.wake_behind(ends, queue);
+            self.back_enable(ends, queue);
         }
     }
 
     /// Enables the place of a queue, if it holds a message; a head has none.
-    fn wake_own<M: ModuleOf>(&mut self, ends: &Ends<M>, queue: NextQueue)
-        requires { number_of queue < QUEUES }
+    fn enable_own<M: ModuleOf>(&mut self, ends: &Ends<M>, queue: NextQueue)
+        requires { queue_number queue < QUEUES }
         ensures kept { (place : Place) → is_enabled self.new.run place ≡ false → is_enabled self.old.run place ≡ false }
         ensures own { (place : Place) → is_some (offer_of M.Kind.means ends.now.image place) ≡ true → is_enabled self.new.run place ≡ false → Of place ≢ queue }
         ensures places { ArePlaces ends.now.image self.old.run.items → ArePlaces ends.now.image self.new.run.items }
@@ -205,39 +213,39 @@ impl Enabling {
         ensures given { self.new.run.given ≡ self.old.run.given }
     {
         if let NextQueue::Of { place } = queue {
-            self.wake_one(ends, place);
+            self.enable_if_filled(ends, place);
         }
     }
 
     /// Enables the place that waits for a queue, if it must move now.
     #[inline(always)]
-    pub(crate) fn wake_behind<M: ModuleOf>(&mut self, ends: &Ends<M>, queue: NextQueue)
-        requires { number_of queue < QUEUES }
-        ensures ready { IsReadyBut M.Kind.means ends.now.image queue self.old → IsReady M.Kind.means ends.now.image self.new }
+    pub(crate) fn back_enable<M: ModuleOf>(&mut self, ends: &Ends<M>, queue: NextQueue)
+        requires { queue_number queue < QUEUES }
+        ensures ready { IsReadyExcept M.Kind.means ends.now.image queue self.old → IsReady M.Kind.means ends.now.image self.new }
         ensures places { ArePlaces ends.now.image self.old.run.items → ArePlaces ends.now.image self.new.run.items }
         ensures more { length self.new.run.items ≤ length self.old.run.items + 1 }
         ensures given { self.new.run.given ≡ self.old.run.given }
     {
-        if let Some(place) = self.waiting(queue) {
+        if let Some(place) = self.wanted_by(queue) {
             if ends.is_due(place) {
-                self.forget(queue);
-                self.wake_one(ends, place);
+                self.clear_wanted(queue);
+                self.enable_if_filled(ends, place);
             }
         }
     }
 
     /// The place that waits for a queue.
-    fn waiting(&self, queue: NextQueue) -> Option<Place>
-        requires { number_of queue < QUEUES }
-        ensures { slice_get self.now.wanted (number_of queue) ≡ Some result }
+    fn wanted_by(&self, queue: NextQueue) -> Option<Place>
+        requires { queue_number queue < QUEUES }
+        ensures { slice_get self.now.wanted (queue_number queue) ≡ Some result }
     {
         self.wanted[number_of(queue)]
     }
 
-    /// No place waits for a queue any longer.
-    fn forget(&mut self, queue: NextQueue)
-        requires { number_of queue < QUEUES }
-        ensures wanted { self.new.wanted ≡ slice_set self.old.wanted (number_of queue) None }
+    /// Leaves no place waiting for a queue.
+    fn clear_wanted(&mut self, queue: NextQueue)
+        requires { queue_number queue < QUEUES }
+        ensures wanted { self.new.wanted ≡ slice_set self.old.wanted (queue_number queue) None }
         ensures run { self.new.run ≡ self.old.run }
     {
         self.wanted[number_of(queue)] = None;
@@ -245,7 +253,7 @@ impl Enabling {
 
     /// Looks at the next place: takes it out of the run queue, and says whether it may move. One
     /// that may is enabled again, behind the others; one that may not waits for the queue ahead.
-    pub(crate) fn look<M: ModuleOf>(&mut self, ends: &Ends<M>) -> Option<(Place, bool)>
+    pub(crate) fn next_enabled<M: ModuleOf>(&mut self, ends: &Ends<M>) -> Option<(Place, bool)>
         ensures may { IfSome result (λ seen. may M.Kind.means ends.now.image seen.0 ≡ seen.1) }
         ensures none { IfNone result ((self.old.run.items ≡ []) × (self.new ≡ self.old)) }
         ensures ready { IsReady M.Kind.means ends.now.image self.old → IsReady M.Kind.means ends.now.image self.new }
@@ -262,16 +270,16 @@ impl Enabling {
         if may {
             self.enable(place);
         } else {
-            self.wait(ends, place);
+            self.mark_wanted(ends, place);
         }
         Some((place, may))
     }
 
-    /// A place that may not move waits for the queue ahead.
-    fn wait<M: ModuleOf>(&mut self, ends: &Ends<M>, place: Place)
+    /// Lets a place that may not move wait for the queue ahead.
+    fn mark_wanted<M: ModuleOf>(&mut self, ends: &Ends<M>, place: Place)
         ensures run { self.new.run ≡ self.old.run }
-        ensures wanted { Awaits ends.now.image place self.old.wanted self.new.wanted }
-        ensures few { (queue : NextQueue) → next_of ends.now.image place ≡ Some queue → number_of queue < length self.old.wanted }
+        ensures wanted { MarksWanted ends.now.image place self.old.wanted self.new.wanted }
+        ensures few { (queue : NextQueue) → next_of ends.now.image place ≡ Some queue → queue_number queue < length self.old.wanted }
         ensures ordinary { AreCalm ends.now.image }
     {
         // The proof learns from the numbers of modules that no high message waits below a head.

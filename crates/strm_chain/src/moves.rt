@@ -1,17 +1,18 @@
-//! Lists of moves, and what a service did.
+//! Lists of moves, and the result of a service.
 ghost use Rattle.std.specs.Prelude.{◌≡◌, ◌<◌, ◌++◌, ◌∷◌, [], IfOk, OnOk, IsTrue, ◌↔◌, length};
 ghost use Rattle.strm_chain.specs.declared.moves.TheConstants.{FEW};
 
 use std::alloc::Global;
 use std::fmt;
 use std::marker::Model;
-use strm_ends::Place;
+use strm_chain_ends::Place;
 use strm_msg::NoMem;
 
-/// How many moves are kept without memory of their own. With more the list would be larger than two words.
+/// The number of moves that are kept without memory of their own. With more the list would be larger than two
+/// words.
 const FEW: usize = 4;
 
-/// How many moves a list has room for, when it first takes memory.
+/// The number of moves for which a list has room, when it first takes memory.
 const MANY: usize = 20;
 
 /// Up to `FEW` places in the order in which they moved, which contracts see as a list.
@@ -23,7 +24,7 @@ struct FewMoves {
 
 impl Model for FewMoves {
     ghost use Rattle.std.specs.Prelude.{List, ◌≤◌, take};
-    ghost use Rattle.strm_ends.specs.declared.place.Place.{Place};
+    ghost use Rattle.strm_chain_ends.specs.declared.place.Place.{Place};
     ghost use Rattle.strm_chain.specs.declared.moves.TheConstants.{FEW};
 
     ghost Value = { List Place };
@@ -34,7 +35,7 @@ impl Model for FewMoves {
 }
 
 impl FewMoves {
-    /// No moves.
+    /// An empty list.
     fn new() -> Self
         ensures { result ≡ [] }
     {
@@ -68,10 +69,10 @@ impl FewMoves {
     }
 }
 
-/// Where moves stand.
+/// The place where moves are stored.
 #[derive(Drop)]
 enum Stored {
-    /// In place.
+    /// In the list itself.
     Few(FewMoves),
     /// In memory of their own.
     Many(Box<Vec<Place>>),
@@ -87,7 +88,7 @@ pub struct Moves {
 
 impl Model for Moves {
     ghost use Rattle.std.specs.Prelude.{List};
-    ghost use Rattle.strm_ends.specs.declared.place.Place.{Place};
+    ghost use Rattle.strm_chain_ends.specs.declared.place.Place.{Place};
     ghost use Rattle.strm_chain.specs.Moves.{places_in};
 
     ghost Value = { List Place };
@@ -102,7 +103,7 @@ impl fmt::Debug for Moves {
     }
 }
 
-/// These places and one behind them, in memory of their own. Refused for want of memory alone.
+/// These places and one behind them, in memory of their own. Fails only when memory runs out.
 fn many(alloc: Global, places: &[Place], place: Place) -> Result<Box<Vec<Place>>, NoMem>
     ensures { IfOk result (λ all. all.value.items ≡ places.now ++ place ∷ []) }
 {
@@ -113,7 +114,7 @@ fn many(alloc: Global, places: &[Place], place: Place) -> Result<Box<Vec<Place>>
 }
 
 impl Moves {
-    /// No moves. Takes no memory.
+    /// An empty list of moves. Takes no memory.
     pub fn new() -> Self
         ensures { result ≡ [] }
     {
@@ -122,7 +123,7 @@ impl Moves {
         }
     }
 
-    /// These places, in their order. Refused for want of memory alone.
+    /// These places, in their order. Fails only when memory runs out.
     pub fn from_slice(alloc: Global, places: &[Place]) -> Result<Self, NoMem>
         ensures { IfOk result (λ moves. moves ≡ places.now) }
     {
@@ -157,7 +158,7 @@ impl Moves {
         self.as_slice().is_empty()
     }
 
-    /// Puts a move behind the others. Refused for want of memory alone.
+    /// Puts a move behind the others. Fails only when memory runs out.
     pub(crate) fn push(&mut self, alloc: Global, place: Place) -> Result<(), NoMem>
         ensures { OnOk result (self.new ≡ self.old ++ place ∷ []) }
     {
@@ -173,9 +174,10 @@ impl Moves {
     }
 }
 
-/// How many places service looked at, each taken out of the run queue. A contract sees the number.
+/// The number of places that service looked at, each taken out of the run queue. A contract sees the number.
 ///
-/// Nobody but a chain counts looks: what a record of an event has of them is what the chain's run queue has given, or none.
+/// Nobody but a chain counts looks: a record of an event has those that the chain's run queue has given, or
+/// none.
 #[derive(Debug, Drop)]
 pub struct Looks {
     count: u64,
@@ -190,21 +192,21 @@ impl Model for Looks {
 }
 
 impl Looks {
-    /// No place was looked at.
+    /// The looks of a step without service: none.
     pub fn none() -> Looks
         ensures { result ≡ 0 }
     {
         Looks { count: 0 }
     }
 
-    /// So many places, as a run queue has given them.
+    /// The looks at this many places, as a run queue has given them.
     pub(crate) fn given(count: u64) -> Looks
         ensures { result ≡ count }
     {
         Looks { count }
     }
 
-    /// How many places: u64::MAX if more.
+    /// The number of places: u64::MAX if more.
     pub fn count(&self) -> u64
         ensures { result ≡ self.now }
     {
@@ -212,17 +214,17 @@ impl Looks {
     }
 }
 
-/// What a service did.
+/// The result of a service: its moves and its looks.
 #[derive(Debug, Drop)]
 pub struct Settled {
     /// The places that moved, in order.
     pub moves: Moves,
-    /// How many places were looked at.
+    /// The number of places that were looked at.
     pub looks: Looks,
 }
 
 impl Settled {
-    /// No service: no place was looked at, and none moved. Takes no memory.
+    /// The result of a step without service: no place was looked at, and none moved. Takes no memory.
     pub fn none() -> Self
         ensures moves { result.moves ≡ [] }
         ensures looks { result.looks ≡ 0 }

@@ -1,14 +1,14 @@
-//! Queues by number, for the run queue and for what is wanted.
+//! Queues by number, for the run queue and for the places that wait.
 ghost use Rattle.std.specs.Prelude.{◌≡◌, ◌<◌};
-ghost use Rattle.strm_chain.specs.Number.{at_end, number_of, place_number, place_of, end_by};
+ghost use Rattle.strm_chain.specs.Number.{at_end, queue_number, place_number, place_of, end_by};
 
-use strm_ends::{NextQueue, Place};
+use strm_chain_ends::{NextQueue, Place};
 use strm_msg::End;
 
-/// How many numbers of queues there are, with eight modules at each of two ends.
+/// The number of queue numbers, with eight modules at each of two ends.
 pub const QUEUES: usize = 40;
 
-/// A number at end A, or the one after it at end B.
+/// The number of a queue: this one at end A, or the one after it at end B.
 fn at_end(end: End, number: usize) -> usize
     requires { number < 2000 }
     ensures { result ≡ at_end end number }
@@ -21,7 +21,7 @@ fn at_end(end: End, number: usize) -> usize
 
 /// The number of a queue.
 pub(crate) fn number_of(queue: NextQueue) -> usize
-    ensures { result ≡ number_of queue }
+    ensures { result ≡ queue_number queue }
 {
     match queue {
         NextQueue::Head { end } => at_end(end, 0),

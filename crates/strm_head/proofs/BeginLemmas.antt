@@ -4,24 +4,24 @@ use Rattle.std.proofs.lemmas.Bool.{false_from_ne_true}
 use Rattle.strm_msg.specs.declared.words.End.{End}
 use Rattle.strm_module.specs.declared.shape.Shape.{Shape}
 use Rattle.strm_module.specs.Driver.{has_end}
-use Rattle.strm_ends.specs.Image.{Image, end_of}
+use Rattle.strm_chain_ends.specs.Image.{Image, end_of}
 use Rattle.strm_chain.specs.Deliver.{is_there}
 use Rattle.strm_chain.specs.declared.spot.Spot.TheVariants.{Down}
-use Rattle.strm_call.specs.declared.request.Request.{Request}
-use Rattle.strm_call.specs.declared.request.Request.TheVariants.{Close, Take, Poll}
-use Rattle.strm_call.specs.declared.refusal.Refusal.{Refusal}
-use Rattle.strm_call.specs.declared.refusal.Refusal.TheVariants.{Closed, Broken}
-use Rattle.strm_call.specs.Refusal.{first_that_holds}
-use Rattle.strm_call.specs.Request.{changes_no_queue}
-use Rattle.strm_head.specs.Begin.{refusal_of, begun_of, errors_at, common_refusals, own_refusals, is_common, finds_whole, takes_no_memory_at, sends_nothing, can_lack_memory}
+use Rattle.strm_head_calls.specs.declared.request.Request.{Request}
+use Rattle.strm_head_calls.specs.declared.request.Request.TheVariants.{Close, Take, Poll}
+use Rattle.strm_head_calls.specs.declared.refusal.Refusal.{Refusal}
+use Rattle.strm_head_calls.specs.declared.refusal.Refusal.TheVariants.{Closed, Broken}
+use Rattle.strm_head_calls.specs.Refusal.{first_that_holds}
+use Rattle.strm_head_calls.specs.Request.{changes_no_queue}
+use Rattle.strm_head.specs.Effects.{refusal_of, effect_of, errors_at, common_refusals, own_refusals, is_common, finds_whole, takes_no_memory_at, sends_no_message, can_lack_memory}
 use Rattle.strm_chain.specs.declared.fault.ChainFault.{ChainFault}
-use Rattle.strm_call.specs.declared.answer.Reply.{Reply}
+use Rattle.strm_head_calls.specs.declared.answer.Reply.{Reply}
 use Rattle.strm_chain.specs.Fault.{Fails}
-use Rattle.strm_call.specs.Reply.{has_bytes}
-use Rattle.strm_call.specs.Replied.{said}
+use Rattle.strm_head_calls.specs.Reply.{has_bytes}
+use Rattle.strm_head_calls.specs.ReplyForm.{said}
 use Rattle.strm_module.specs.Kinds.{Meaning}
-use Rattle.strm_head.specs.Begins.{IsReady, MayBegin, Begins, taken_or, done_or}
-use Rattle.strm_head.specs.Inside.{IsKept}
+use Rattle.strm_head.specs.TakesEffect.{CanSend, MayBegin, TakesEffect, taken_or, done_or}
+use Rattle.strm_head.specs.Inside.{IsWholeStream}
 use Rattle.strm_head.proofs.RefusalLemmas.{first_of_all}
 use Rattle.strm_head.proofs.KeptLemmas.{whole_of, none_before}
 
@@ -33,7 +33,7 @@ there_of : {K : Type 0} (image : Image K) (e : End) → has_end image.driver e �
 there_of image e h = rw h (search rules)
 
 -- none of those that all calls but a close share, and none of its own
-ready_of : {K : Type 0} (means : Meaning K) (image : Image K) (e : End) (request : Request (Shape K)) → IsKept means image → refusal_of means image e request ≡ None → is_common request ≡ true → finds_whole request ≡ true → IsReady image e
+ready_of : {K : Type 0} (means : Meaning K) (image : Image K) (e : End) (request : Request (Shape K)) → IsWholeStream means image → refusal_of means image e request ≡ None → is_common request ≡ true → finds_whole request ≡ true → CanSend image e
 ready_of means image e request kept h other finds =
     let whole = whole_of means image e request h finds in
     let common = none_before (first_that_holds (common_refusals image e request)) (first_that_holds (own_refusals means image e request)) (sym (first_of_all means image e request other) ∙ h) in
@@ -43,7 +43,7 @@ ready_of means image e request kept h other finds =
       idle = kept.idle whole e;
     }
 
-pub may_begin : {K : Type 0} (means : Meaning K) (image : Image K) (e : End) (request : Request (Shape K)) → IsKept means image → refusal_of means image e request ≡ None → MayBegin image e request
+pub may_begin : {K : Type 0} (means : Meaning K) (image : Image K) (e : End) (request : Request (Shape K)) → IsWholeStream means image → refusal_of means image e request ≡ None → MayBegin image e request
 may_begin means image e Close kept h = kept.ends
 may_begin means image e Take kept h = tt
 may_begin means image e Poll kept h = tt
@@ -61,19 +61,19 @@ bare_reply (Err fault) reply is bare = tt
 -- for kinds of any meaning
 module _ {K : Type 0} (means : Meaning K) where
   -- a call that sends
-  pub sent_begins : (image : Image K) (e : End) (request : Request (Shape K)) (r : Result Reply ChainFault) (after : Image K) → IfOk r (λ reply. reply ≡ (begun_of means image e request).reply) → OnOk r (after ≡ (begun_of means image e request).image) → IfErr r (λ fault. Fails fault image (begun_of means image e request).image after) → (takes_no_memory_at image e request ≡ true → IsOk r) → (sends_nothing image e request ≡ true → IsOk r) → can_lack_memory request ≡ true → changes_no_queue request ≡ false → image.broken ≡ false → Begins means image e request r after
+  pub sent_begins : (image : Image K) (e : End) (request : Request (Shape K)) (r : Result Reply ChainFault) (after : Image K) → IfOk r (λ reply. reply ≡ (effect_of means image e request).reply) → OnOk r (after ≡ (effect_of means image e request).image) → IfErr r (λ fault. Fails fault image (effect_of means image e request).image after) → (takes_no_memory_at image e request ≡ true → IsOk r) → (sends_no_message image e request ≡ true → IsOk r) → can_lack_memory request ≡ true → changes_no_queue request ≡ false → image.broken ≡ false → TakesEffect means image e request r after
   sent_begins image e request (Ok reply) after same i f takes sends can changes whole = record { reply_is = same; image_is = i }
   sent_begins image e request (Err fault) after same i f takes sends can changes whole = record {
     fails = f;
     takes = is_given (takes_no_memory_at image e request) takes;
     refused = λ is. can;
     broken = λ is. changes;
-    sends = λ is. is_given (sends_nothing image e request) sends;
+    sends = λ is. is_given (sends_no_message image e request) sends;
     whole = whole;
   }
 
   -- a call that sends, and whose reply is known before
-  pub done_begins : {X : Type 0} (image : Image K) (e : End) (request : Request (Shape K)) (r : Result X ChainFault) (reply : Reply) (after : Image K) → reply ≡ (begun_of means image e request).reply → OnOk r (after ≡ (begun_of means image e request).image) → IfErr r (λ fault. Fails fault image (begun_of means image e request).image after) → takes_no_memory_at image e request ≡ false → sends_nothing image e request ≡ false → can_lack_memory request ≡ true → changes_no_queue request ≡ false → image.broken ≡ false → Begins means image e request (done_or r reply) after
+  pub done_begins : {X : Type 0} (image : Image K) (e : End) (request : Request (Shape K)) (r : Result X ChainFault) (reply : Reply) (after : Image K) → reply ≡ (effect_of means image e request).reply → OnOk r (after ≡ (effect_of means image e request).image) → IfErr r (λ fault. Fails fault image (effect_of means image e request).image after) → takes_no_memory_at image e request ≡ false → sends_no_message image e request ≡ false → can_lack_memory request ≡ true → changes_no_queue request ≡ false → image.broken ≡ false → TakesEffect means image e request (done_or r reply) after
   done_begins image e request (Ok done) reply after same i f takes sends can changes whole = record { reply_is = same; image_is = i }
   done_begins image e request (Err fault) reply after same i f takes sends can changes whole = record {
     fails = f;
@@ -85,7 +85,7 @@ module _ {K : Type 0} (means : Meaning K) where
   }
 
   -- a call that takes what waits at the head
-  pub taken_begins : {A X : Type 0} (image : Image K) (e : End) (request : Request (Shape K)) (says : A → Reply) (r : Result A X) (after : Image K) → IfOk r (λ made. says made ≡ (begun_of means image e request).reply) → OnOk r (after ≡ (begun_of means image e request).image) → OnErr r (after ≡ image) → (takes_no_memory_at image e request ≡ true → IsOk r) → can_lack_memory request ≡ true → image.broken ≡ false → Begins means image e request (taken_or (said says r)) after
+  pub taken_begins : {A X : Type 0} (image : Image K) (e : End) (request : Request (Shape K)) (says : A → Reply) (r : Result A X) (after : Image K) → IfOk r (λ made. says made ≡ (effect_of means image e request).reply) → OnOk r (after ≡ (effect_of means image e request).image) → OnErr r (after ≡ image) → (takes_no_memory_at image e request ≡ true → IsOk r) → can_lack_memory request ≡ true → image.broken ≡ false → TakesEffect means image e request (taken_or (said says r)) after
   taken_begins image e request says (Ok made) after same i u takes can whole = record { reply_is = same; image_is = i }
   taken_begins image e request says (Err wanting) after same i u takes can whole = record {
     fails = u;
@@ -97,7 +97,7 @@ module _ {K : Type 0} (means : Meaning K) where
   }
 
   -- a call that shows it
-  pub seen_begins : {X : Type 0} (image : Image K) (e : End) (request : Request (Shape K)) (shown twins : Result Reply X) → IfOk twins (λ reply. shown ≡ Ok reply) → IfOk shown (λ reply. reply ≡ (begun_of means image e request).reply) → image ≡ (begun_of means image e request).image → (takes_no_memory_at image e request ≡ true → IsOk twins) → can_lack_memory request ≡ true → image.broken ≡ false → Begins means image e request (taken_or twins) image
+  pub seen_begins : {X : Type 0} (image : Image K) (e : End) (request : Request (Shape K)) (shown twins : Result Reply X) → IfOk twins (λ reply. shown ≡ Ok reply) → IfOk shown (λ reply. reply ≡ (effect_of means image e request).reply) → image ≡ (effect_of means image e request).image → (takes_no_memory_at image e request ≡ true → IsOk twins) → can_lack_memory request ≡ true → image.broken ≡ false → TakesEffect means image e request (taken_or twins) image
   seen_begins image e request shown (Ok reply) is same i takes can whole = record { reply_is = rw is at same; image_is = i }
   seen_begins image e request shown (Err wanting) is same i takes can whole = record {
     fails = refl;

@@ -6,36 +6,36 @@ use Rattle.std.proofs.Common.{◌≡◌, ℕ, suc, zero, not, Bool, true, false,
 use Rattle.strm_msg.specs.declared.words.End.{End}
 use Rattle.strm_module.specs.Kinds.{Meaning}
 use Rattle.strm_module.specs.declared.shape.Shape.{Shape}
-use Rattle.strm_ends.specs.declared.place.Place.{Place}
-use Rattle.strm_ends.specs.Image.{Image, end_of}
-use Rattle.strm_ends.specs.Flow.{NoneMay}
+use Rattle.strm_chain_ends.specs.declared.place.Place.{Place}
+use Rattle.strm_chain_ends.specs.Image.{Image, end_of}
+use Rattle.strm_chain_ends.specs.Flow.{NoneMay}
 use Rattle.strm_chain.specs.Fault.{Breaks}
-use Rattle.strm_call.specs.declared.request.Request.{Request}
-use Rattle.strm_call.specs.declared.request.Request.TheVariants.{Putmsg, Putpmsg, Getmsg, Getpmsg, Read, Write, Push, Nread, Peek, SetRead, GetRead, Canput, Ckband, Getband, Pop, Look, Find, Str, Flush, FlushBand, Close, Take, Poll}
-use Rattle.strm_call.specs.declared.request.Request.TheVariants as Requests
-use Rattle.strm_call.specs.declared.refusal.Refusal.{Refusal}
-use Rattle.strm_call.specs.Refusal.{first_that_holds}
-use Rattle.strm_call.specs.declared.answer.Reply.{Reply}
-use Rattle.strm_call.specs.declared.answer.Answer.{Answer}
-use Rattle.strm_call.specs.declared.answer.Answer.TheVariants.{Done, Refused, Broke}
+use Rattle.strm_head_calls.specs.declared.request.Request.{Request}
+use Rattle.strm_head_calls.specs.declared.request.Request.TheVariants.{Putmsg, Putpmsg, Getmsg, Getpmsg, Read, Write, Push, Nread, Peek, SetRead, GetRead, Canput, Ckband, Getband, Pop, Look, Find, Str, Flush, FlushBand, Close, Take, Poll}
+use Rattle.strm_head_calls.specs.declared.request.Request.TheVariants as Requests
+use Rattle.strm_head_calls.specs.declared.refusal.Refusal.{Refusal}
+use Rattle.strm_head_calls.specs.Refusal.{first_that_holds}
+use Rattle.strm_head_calls.specs.declared.answer.Reply.{Reply}
+use Rattle.strm_head_calls.specs.declared.answer.Answer.{Answer}
+use Rattle.strm_head_calls.specs.declared.answer.Answer.TheVariants.{Done, Refused, Broke}
 use Rattle.strm_msg.specs.declared.errno.Errno.{Errno}
 use Rattle.strm_msg.specs.Message.{Msg}
-use Rattle.strm_call.specs.Begun.{Begun, begun, begun_ioctl, reply_after}
-use Rattle.strm_call.specs.Request.{changes_no_queue}
-use Rattle.strm_head.specs.Begin.{begun_of, refusal_of, awaits_answer, takes_no_memory_at, can_lack_memory, pushed_of, errors_looked_at, error_refusals, closed_refusals, common_refusals, own_refusals, finds_whole, handed_out, back_of, out_of, serials_of, is_no_memory, wants_memory, BreaksNone}
-use Rattle.strm_head.specs.Begins.{needs_no_service}
-use Rattle.strm_ioctl.specs.Outside.{take_refusals}
-use Rattle.strm_ioctl.proofs.OutsideLemmas.{taken_none, taken_plain}
-use Rattle.strm_head.specs.Inside.{IsKept}
+use Rattle.strm_head_calls.specs.Effect.{Effect, effect, effect_ioctl, reply_after}
+use Rattle.strm_head_calls.specs.Request.{changes_no_queue}
+use Rattle.strm_head.specs.Effects.{effect_of, refusal_of, awaits_answer, takes_no_memory_at, can_lack_memory, pushed_of, errors_looked_at, error_refusals, closed_refusals, common_refusals, own_refusals, finds_whole, handed_out, back_of, out_of, serials_of, is_no_memory, wants_memory, BreaksNone}
+use Rattle.strm_head.specs.TakesEffect.{needs_no_service}
+use Rattle.strm_head_ioctl.specs.Outside.{take_refusals}
+use Rattle.strm_head_ioctl.proofs.OutsideLemmas.{taken_none, taken_plain}
+use Rattle.strm_head.specs.Inside.{IsWholeStream}
 use Rattle.strm_head.specs.Step.{Answers, Finishes, SettlesUnless, answered_if}
 use Rattle.strm_head.proofs.RefusalLemmas.{first_of_all}
-use Rattle.strm_head.proofs.KeptLemmas.{whole_of, begun_opens}
-use Rattle.strm_head.proofs.NothingLemmas.{served_takes, ioctl_sends, unserved_begun}
+use Rattle.strm_head.proofs.KeptLemmas.{whole_of, effect_opens}
+use Rattle.strm_head.proofs.NothingLemmas.{served_takes, ioctl_sends, unserved_effect}
 
 -- for kinds of any meaning
 module _ {K : Type 0} (means : Meaning K) where
   -- a call that want of memory can refuse has taken no module out, and was handed none
-  none_out : (image : Image K) (e : End) (request : Request (Shape K)) → can_lack_memory request ≡ true → (begun_of means image e request).out ≡ []
+  none_out : (image : Image K) (e : End) (request : Request (Shape K)) → can_lack_memory request ≡ true → (effect_of means image e request).out ≡ []
   none_out image e (Putmsg flag parts) can = refl
   none_out image e (Putpmsg band flag parts) can = refl
   none_out image e (Getmsg maxctl maxdat flag) can = refl
@@ -90,7 +90,7 @@ module _ {K : Type 0} (means : Meaning K) where
   none_pushed image e Poll can = refl
 
   -- the calls that await an answer are those that say so
-  awaits_of : (image : Image K) (e : End) (request : Request (Shape K)) → (begun_of means image e request).awaits ≡ awaits_answer request
+  awaits_of : (image : Image K) (e : End) (request : Request (Shape K)) → (effect_of means image e request).awaits ≡ awaits_answer request
   awaits_of image e (Putmsg flag parts) = refl
   awaits_of image e (Putpmsg band flag parts) = refl
   awaits_of image e (Getmsg maxctl maxdat flag) = refl
@@ -117,7 +117,7 @@ module _ {K : Type 0} (means : Meaning K) where
   awaits_of image e Take = taken_plain image e (end_of image e).drv
   awaits_of image e Poll = refl
 
-  ioctl_of : (image : Image K) (e : End) (request : Request (Shape K)) → awaits_answer request ≡ true → begun_of means image e request ≡ begun_ioctl (begun_of means image e request).image
+  ioctl_of : (image : Image K) (e : End) (request : Request (Shape K)) → awaits_answer request ≡ true → effect_of means image e request ≡ effect_ioctl (effect_of means image e request).image
   ioctl_of image e (Putmsg flag parts) awaits = cc
   ioctl_of image e (Putpmsg band flag parts) awaits = cc
   ioctl_of image e (Getmsg maxctl maxdat flag) awaits = cc
@@ -149,15 +149,15 @@ module _ {K : Type 0} (means : Meaning K) where
   awaits_finds (Str cmd dat) awaits = refl
   awaits_finds request awaits = cc
 
-  pub ioctl_whole : (image : Image K) (e : End) (request : Request (Shape K)) (new : Image K) → refusal_of means image e request ≡ None → awaits_answer request ≡ true → new ≡ (begun_of means image e request).image → new.broken ≡ false
+  pub ioctl_whole : (image : Image K) (e : End) (request : Request (Shape K)) (new : Image K) → refusal_of means image e request ≡ None → awaits_answer request ≡ true → new ≡ (effect_of means image e request).image → new.broken ≡ false
   ioctl_whole image e request new unrefused awaits is =
-      ap (λ (i : Image K). i.broken) is ∙ (begun_opens means image e request).broken ∙ whole_of means image e request unrefused (awaits_finds request awaits)
+      ap (λ (i : Image K). i.broken) is ∙ (effect_opens means image e request).broken ∙ whole_of means image e request unrefused (awaits_finds request awaits)
 
-  plain_reply : (b : Begun (Image K) K) (kept : Option Msg) → b.awaits ≡ false → reply_after b kept ≡ b.reply
+  plain_reply : (b : Effect (Image K) K) (kept : Option Msg) → b.awaits ≡ false → reply_after b kept ≡ b.reply
   plain_reply b kept h = rw h refl
 
   -- what was begun and finished, where the modules that were taken out are known
-  with_out : (e : End) (b : Begun (Image K) K) (new : Image K) (reply : Reply) (answer : Answer) (moves : List Place) (after : Image K) → new ≡ b.image → reply ≡ b.reply → b.awaits ≡ false → Finishes means e (begun new reply) answer moves [] after → Finishes means e b answer moves (serials_of b.out) after
+  with_out : (e : End) (b : Effect (Image K) K) (new : Image K) (reply : Reply) (answer : Answer) (moves : List Place) (after : Image K) → new ≡ b.image → reply ≡ b.reply → b.awaits ≡ false → Finishes means e (effect new reply) answer moves [] after → Finishes means e b answer moves (serials_of b.out) after
   with_out e b new reply (Refused refusal) moves after i r plain finishes = absurd finishes
   with_out e b new reply (Done said) moves after i r plain done =
       record {
@@ -171,40 +171,40 @@ module _ {K : Type 0} (means : Meaning K) where
       record { breaks = subst (λ (image : Image K). Breaks image after) i broke.breaks; stays = broke.stays; takes = refl }
 
   -- the same of an ioctl
-  ioctl_out : (e : End) (b : Begun (Image K) K) (new : Image K) (answer : Answer) (moves : List Place) (after : Image K) → new ≡ b.image → b ≡ begun_ioctl b.image → Finishes means e (begun_ioctl new) answer moves [] after → Finishes means e b answer moves (serials_of b.out) after
+  ioctl_out : (e : End) (b : Effect (Image K) K) (new : Image K) (answer : Answer) (moves : List Place) (after : Image K) → new ≡ b.image → b ≡ effect_ioctl b.image → Finishes means e (effect_ioctl new) answer moves [] after → Finishes means e b answer moves (serials_of b.out) after
   ioctl_out e b new answer moves after i is finishes =
-      let same : begun_ioctl new ≡ b = ap (λ image. begun_ioctl image) i ∙ sym is in
-      let none : b.out ≡ [] = ap (λ (x : Begun (Image K) K). x.out) is in
+      let same : effect_ioctl new ≡ b = ap (λ image. effect_ioctl image) i ∙ sym is in
+      let none : b.out ≡ [] = ap (λ (x : Effect (Image K) K). x.out) is in
       subst (λ o. Finishes means e b answer moves (serials_of o) after) (sym none)
       (subst (λ x. Finishes means e x answer moves [] after) same finishes)
 
-  from_begun : (image : Image K) (e : End) (request : Request (Shape K)) (answer : Answer) (moves : List Place) (after : Image K) → refusal_of means image e request ≡ None → changes_no_queue request ≡ false → (answer ≡ Broke → image.broken ≡ false) → Finishes means e (begun_of means image e request) answer moves (serials_of (begun_of means image e request).out) after → Answers means image e request answer moves (out_of means image e request answer) after
-  from_begun image e request (Refused refusal) moves after unrefused changes whole finishes = absurd finishes
-  from_begun image e request (Done reply) moves after unrefused changes whole finishes =
+  from_effect : (image : Image K) (e : End) (request : Request (Shape K)) (answer : Answer) (moves : List Place) (after : Image K) → refusal_of means image e request ≡ None → changes_no_queue request ≡ false → (answer ≡ Broke → image.broken ≡ false) → Finishes means e (effect_of means image e request) answer moves (serials_of (effect_of means image e request).out) after → Answers means image e request answer moves (out_of means image e request answer) after
+  from_effect image e request (Refused refusal) moves after unrefused changes whole finishes = absurd finishes
+  from_effect image e request (Done reply) moves after unrefused changes whole finishes =
       (unrefused, (λ quiet. absurd (let no : true ≡ false = sym quiet ∙ changes in cc)), finishes)
-  from_begun image e request Broke moves after unrefused changes whole finishes = (unrefused, changes, whole refl, finishes)
+  from_effect image e request Broke moves after unrefused changes whole finishes = (unrefused, changes, whole refl, finishes)
 
   -- a call that was begun and finished
-  pub finished_answers : (image : Image K) (e : End) (request : Request (Shape K)) (new : Image K) (reply : Reply) (answer : Answer) (moves : List Place) (after : Image K) → refusal_of means image e request ≡ None → changes_no_queue request ≡ false → awaits_answer request ≡ false → new ≡ (begun_of means image e request).image → reply ≡ (begun_of means image e request).reply → (answer ≡ Broke → new.broken ≡ false) → Finishes means e (begun new reply) answer moves [] after → Answers means image e request answer moves (out_of means image e request answer) after
+  pub finished_answers : (image : Image K) (e : End) (request : Request (Shape K)) (new : Image K) (reply : Reply) (answer : Answer) (moves : List Place) (after : Image K) → refusal_of means image e request ≡ None → changes_no_queue request ≡ false → awaits_answer request ≡ false → new ≡ (effect_of means image e request).image → reply ≡ (effect_of means image e request).reply → (answer ≡ Broke → new.broken ≡ false) → Finishes means e (effect new reply) answer moves [] after → Answers means image e request answer moves (out_of means image e request answer) after
   finished_answers image e request new reply answer moves after unrefused changes plain i r whole finishes =
-      from_begun image e request answer moves after unrefused changes
-      (λ broke. sym (begun_opens means image e request).broken ∙ ap (λ (x : Image K). x.broken) (sym i) ∙ whole broke)
-      (with_out e (begun_of means image e request) new reply answer moves after i r (awaits_of image e request ∙ plain) finishes)
+      from_effect image e request answer moves after unrefused changes
+      (λ broke. sym (effect_opens means image e request).broken ∙ ap (λ (x : Image K). x.broken) (sym i) ∙ whole broke)
+      (with_out e (effect_of means image e request) new reply answer moves after i r (awaits_of image e request ∙ plain) finishes)
 
   -- an ioctl that was sent and has its answer
-  pub ioctl_answers : (image : Image K) (e : End) (request : Request (Shape K)) (new : Image K) (answer : Answer) (moves : List Place) (after : Image K) → refusal_of means image e request ≡ None → changes_no_queue request ≡ false → awaits_answer request ≡ true → new ≡ (begun_of means image e request).image → Finishes means e (begun_ioctl new) answer moves [] after → Answers means image e request answer moves (out_of means image e request answer) after
+  pub ioctl_answers : (image : Image K) (e : End) (request : Request (Shape K)) (new : Image K) (answer : Answer) (moves : List Place) (after : Image K) → refusal_of means image e request ≡ None → changes_no_queue request ≡ false → awaits_answer request ≡ true → new ≡ (effect_of means image e request).image → Finishes means e (effect_ioctl new) answer moves [] after → Answers means image e request answer moves (out_of means image e request answer) after
   ioctl_answers image e request new answer moves after unrefused changes awaits i finishes =
-      from_begun image e request answer moves after unrefused changes
+      from_effect image e request answer moves after unrefused changes
       (λ broke. whole_of means image e request unrefused (awaits_finds request awaits))
-      (ioctl_out e (begun_of means image e request) new answer moves after i (ioctl_of image e request awaits) finishes)
+      (ioctl_out e (effect_of means image e request) new answer moves after i (ioctl_of image e request awaits) finishes)
 
   -- a stream where nothing happens is quiet, or broken as it was
-  still_if : (image : Image K) (broken : Bool) → image.broken ≡ broken → IsKept means image → SettlesUnless means broken image [] image
+  still_if : (image : Image K) (broken : Bool) → image.broken ≡ broken → IsWholeStream means image → SettlesUnless means broken image [] image
   still_if image true is kept = record { stays = refl; unchanged = refl }
   still_if image false is kept = record { leads = refl; quiet = kept.quiet is }
 
   -- a call that no service follows is finished when it was begun
-  pub quiet_answers : (image : Image K) (e : End) (request : Request (Shape K)) (reply : Reply) (answer : Answer) (moves : List Place) (after : Image K) → IsKept means image → refusal_of means image e request ≡ None → needs_no_service image e request ≡ true → after ≡ (begun_of means image e request).image → reply ≡ (begun_of means image e request).reply → answer ≡ Done reply → moves ≡ [] → Answers means image e request answer moves (out_of means image e request answer) after
+  pub quiet_answers : (image : Image K) (e : End) (request : Request (Shape K)) (reply : Reply) (answer : Answer) (moves : List Place) (after : Image K) → IsWholeStream means image → refusal_of means image e request ≡ None → needs_no_service image e request ≡ true → after ≡ (effect_of means image e request).image → reply ≡ (effect_of means image e request).reply → answer ≡ Done reply → moves ≡ [] → Answers means image e request answer moves (out_of means image e request answer) after
   quiet_answers image e Close reply answer moves after kept unrefused is i r a m = cc
   quiet_answers image e Poll reply answer moves after kept unrefused is i r a m =
       let settles : SettlesUnless means image.broken image [] image = still_if image image.broken refl kept in
@@ -212,20 +212,20 @@ module _ {K : Type 0} (means : Meaning K) where
       (unrefused, (λ quiet. refl), record { settled = image; settles = settles; replies = r; leaves = refl; takes = refl })
   quiet_answers image e request reply answer moves after kept unrefused is i r a m =
       let whole = whole_of means image e request unrefused refl in
-      let b = begun_of means image e request in
-      let quiet = unserved_begun means image e request is (kept.quiet whole) in
+      let b = effect_of means image e request in
+      let quiet = unserved_effect means image e request is (kept.quiet whole) in
       let settles : SettlesUnless means b.image.broken b.image [] b.image = subst (λ (x : Bool). SettlesUnless means x b.image [] b.image) (sym (quiet.broken ∙ whole)) (record { leads = refl; quiet = quiet.quiet }) in
       rw (a, m, i)
       (unrefused, (λ quiet. refl), record { settled = b.image; settles = settles; replies = r ∙ sym (plain_reply b (end_of b.image e).state.kept quiet.awaits); leaves = ap (λ x. answered_if x e b.image) (sym quiet.awaits); takes = refl })
 
   -- what comes back of a call that was finished
-  pub finished_back : (image : Image K) (e : End) (request : Request (Shape K)) (back : List (Option (Shape K))) (b : Begun (Image K) K) (answer : Answer) (moves : List Place) (out : List ℕ) (after : Image K) → back ≡ handed_out (begun_of means image e request).out → Finishes means e b answer moves out after → back ≡ back_of means image e request answer
+  pub finished_back : (image : Image K) (e : End) (request : Request (Shape K)) (back : List (Option (Shape K))) (b : Effect (Image K) K) (answer : Answer) (moves : List Place) (out : List ℕ) (after : Image K) → back ≡ handed_out (effect_of means image e request).out → Finishes means e b answer moves out after → back ≡ back_of means image e request answer
   finished_back image e request back b (Refused refusal) moves out after is finishes = absurd finishes
   finished_back image e request back b (Done reply) moves out after is finishes = is
   finished_back image e request back b Broke moves out after is finishes = is
 
   -- and of one that want of memory refuses
-  pub refused_back : (image : Image K) (e : End) (request : Request (Shape K)) (back : List (Option (Shape K))) (answer : Answer) (refusal : Refusal) → can_lack_memory request ≡ true → back ≡ handed_out (begun_of means image e request).out → answer ≡ Refused refusal → back ≡ back_of means image e request answer
+  pub refused_back : (image : Image K) (e : End) (request : Request (Shape K)) (back : List (Option (Shape K))) (answer : Answer) (refusal : Refusal) → can_lack_memory request ≡ true → back ≡ handed_out (effect_of means image e request).out → answer ≡ Refused refusal → back ≡ back_of means image e request answer
   refused_back image e request back answer refusal can is a =
       rw (a, is, none_out image e request can, none_pushed image e request can) refl
 
@@ -240,7 +240,7 @@ module _ {K : Type 0} (means : Meaning K) where
       let no : true ≡ false = sym sends ∙ ioctl_sends image e request awaits in cc
 
   -- where no place may move once a call has begun, its services break nothing
-  pub finished_still : (image : Image K) (e : End) (request : Request (Shape K)) (new : Image K) (answer : Answer) → new ≡ (begun_of means image e request).image → (NoneMay means new → answer ≡ Broke → ⊥) → BreaksNone means image e request answer
+  pub finished_still : (image : Image K) (e : End) (request : Request (Shape K)) (new : Image K) (answer : Answer) → new ≡ (effect_of means image e request).image → (NoneMay means new → answer ≡ Broke → ⊥) → BreaksNone means image e request answer
   finished_still image e request new answer is still sends none =
       still (subst (λ (i : Image K). NoneMay means i) (sym is) none)
 

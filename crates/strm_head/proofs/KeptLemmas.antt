@@ -9,46 +9,46 @@ use Rattle.strm_module.specs.Kinds.{Meaning, AnswersStay}
 use Rattle.strm_module.specs.declared.shape.Shape.{Shape}
 use Rattle.strm_queue.specs.Queue.{put_in}
 use Rattle.strm_module.specs.Driver.{partner, has_end, input_end}
-use Rattle.strm_ioctl.specs.Outside.{has_output, take_refusals, taken_out}
-use Rattle.strm_ioctl.specs.Ask.{is_empty}
-use Rattle.strm_qpair.specs.End.{EndState, in_drv}
-use Rattle.strm_qpair.specs.Modules.{SameEnd}
-use Rattle.strm_qpair.specs.Canput.{above, slack_in}
-use Rattle.strm_qpair.specs.Change.{with_mode, has_room, inserted, removed, closed, begun_with, ended}
-use Rattle.strm_qpair.specs.declared.record.Record.{Record}
-use Rattle.strm_ends.specs.declared.place.Place.{Place}
-use Rattle.strm_ends.specs.declared.place.Place.TheVariants as Places
-use Rattle.strm_ends.specs.Image.{Image, end_of, with_end, with_head, with_state, count_of}
+use Rattle.strm_head_ioctl.specs.Outside.{has_output, take_refusals, taken_out}
+use Rattle.strm_head_ioctl.specs.Ask.{is_empty}
+use Rattle.strm_chain_end.specs.End.{EndState, in_drv}
+use Rattle.strm_chain_end.specs.Modules.{SameEnd}
+use Rattle.strm_chain_end.specs.Canput.{above, slack_in}
+use Rattle.strm_chain_end.specs.Change.{with_mode, has_room, inserted, removed, closed, awaiting, awaiting_none}
+use Rattle.strm_chain_end.specs.declared.record.Record.{Record}
+use Rattle.strm_chain_ends.specs.declared.place.Place.{Place}
+use Rattle.strm_chain_ends.specs.declared.place.Place.TheVariants as Places
+use Rattle.strm_chain_ends.specs.Image.{Image, end_of, with_end, with_head, with_state, count_of}
 use Rattle.strm_chain.specs.declared.spot.Spot.TheVariants.{Down, Up}
-use Rattle.strm_ends.specs.Path.{ahead}
-use Rattle.strm_ends.specs.Flow.{offer_of, is_due, due_front, IsQuiet}
-use Rattle.strm_qpair.specs.declared.offer.Offer.{Offer}
-use Rattle.strm_ends.specs.Same.{SameModules}
-use Rattle.strm_ends.specs.Order.{goes_round, IsOrdered}
-use Rattle.strm_ends.proofs.OrderLemmas.{end_ordered, pushed_ordered, popped_ordered, closed_ordered}
+use Rattle.strm_chain_ends.specs.Path.{ahead}
+use Rattle.strm_chain_ends.specs.Flow.{offer_of, is_due, due_front, IsQuiet}
+use Rattle.strm_chain_end.specs.declared.offer.Offer.{Offer}
+use Rattle.strm_chain_ends.specs.Same.{SameModules}
+use Rattle.strm_chain_ends.specs.Order.{goes_round, IsOrdered}
+use Rattle.strm_chain_ends.proofs.OrderLemmas.{end_ordered, pushed_ordered, popped_ordered, closed_ordered}
 use Rattle.strm_chain.specs.Fault.{Breaks}
 use Rattle.strm_chain.specs.Deliver.{deliver}
 use Rattle.strm_chain.proofs.QuietLemmas.{same_end}
 use Rattle.strm_chain.proofs.SameLemmas.{deliver_keeps, leads_keeps, with_end_keeps}
 use Rattle.strm_chain.proofs.OrderLemmas.{delivered_ordered, led_ordered}
-use Rattle.strm_call.specs.declared.request.Request.{Request}
-use Rattle.strm_call.specs.declared.request.Request.TheVariants.{Putmsg, Putpmsg, Getmsg, Getpmsg, Read, Write, Push, Nread, Peek, SetRead, GetRead, Canput, Ckband, Getband, Pop, Look, Find, Str, Flush, FlushBand, Close, Take, Poll}
-use Rattle.strm_call.specs.declared.request.Request.TheVariants as Requests
-use Rattle.strm_call.specs.declared.refusal.Refusal.{Refusal}
-use Rattle.strm_call.specs.declared.refusal.Refusal.TheVariants.{Closed, Broken, Invalid, HungUp, WouldWait}
-use Rattle.strm_call.specs.declared.answer.Reply.{Reply}
-use Rattle.strm_call.specs.declared.answer.Answer.{Answer}
-use Rattle.strm_call.specs.declared.answer.Answer.TheVariants.{Done, Refused, Broke}
-use Rattle.strm_call.specs.Refusal.{first_that_holds}
-use Rattle.strm_call.specs.Begun.{Begun}
-use Rattle.strm_msgio.specs.Send.{sent_of, putmsg_message, putpmsg_message, ordinary_message}
-use Rattle.strm_ioctl.specs.Ioctl.{asked_of}
-use Rattle.strm_ioctl.specs.Close.{closed_image, hung_up_if, after_close}
-use Rattle.strm_ioctl.proofs.CloseLemmas.{hung_up_keeps}
-use Rattle.strm_call.specs.Request.{changes_no_queue}
-use Rattle.strm_head.specs.Begin.{begun_of, refusal_of, errors_at, finds_whole, common_refusals, own_refusals}
+use Rattle.strm_head_calls.specs.declared.request.Request.{Request}
+use Rattle.strm_head_calls.specs.declared.request.Request.TheVariants.{Putmsg, Putpmsg, Getmsg, Getpmsg, Read, Write, Push, Nread, Peek, SetRead, GetRead, Canput, Ckband, Getband, Pop, Look, Find, Str, Flush, FlushBand, Close, Take, Poll}
+use Rattle.strm_head_calls.specs.declared.request.Request.TheVariants as Requests
+use Rattle.strm_head_calls.specs.declared.refusal.Refusal.{Refusal}
+use Rattle.strm_head_calls.specs.declared.refusal.Refusal.TheVariants.{Closed, Broken, Invalid, HungUp, WouldWait}
+use Rattle.strm_head_calls.specs.declared.answer.Reply.{Reply}
+use Rattle.strm_head_calls.specs.declared.answer.Answer.{Answer}
+use Rattle.strm_head_calls.specs.declared.answer.Answer.TheVariants.{Done, Refused, Broke}
+use Rattle.strm_head_calls.specs.Refusal.{first_that_holds}
+use Rattle.strm_head_calls.specs.Effect.{Effect}
+use Rattle.strm_head_msg.specs.Send.{sent_of, putmsg_message, putpmsg_message, ordinary_message}
+use Rattle.strm_head_ioctl.specs.Ioctl.{asked_of}
+use Rattle.strm_head_ioctl.specs.Close.{closed_image, hung_up_if, after_close}
+use Rattle.strm_head_ioctl.proofs.CloseLemmas.{hung_up_keeps}
+use Rattle.strm_head_calls.specs.Request.{changes_no_queue}
+use Rattle.strm_head.specs.Effects.{effect_of, refusal_of, errors_at, finds_whole, common_refusals, own_refusals}
 use Rattle.strm_head.proofs.RefusalLemmas.{first_of_all, own_none}
-use Rattle.strm_head.specs.Inside.{HasItsEnds, IsIdle, AreIdle, IsKept, OpensNone}
+use Rattle.strm_head.specs.Inside.{HasItsEnds, IsIdle, AreIdle, IsWholeStream, OpensNone}
 use Rattle.strm_head.specs.Step.{Answers, IsDone, IsBroken, SettlesUnless, Lands, arrival, arrived_of, answered_if}
 
 -- what a message leaves opens no end
@@ -207,11 +207,11 @@ answered_idle true B old new same idle B = record { pending = refl; kept = refl 
 
 answered_quiet : {K : Type 0} (means : Meaning K) (awaits : Bool) (e : End) (image : Image K) → IsQuiet means image → IsQuiet means (answered_if awaits e image)
 answered_quiet means false e image quiet = quiet
-answered_quiet means true e image quiet = state_quiet means image e (ended (end_of image e).state) quiet
+answered_quiet means true e image quiet = state_quiet means image e (awaiting_none (end_of image e).state) quiet
 
 answered_opens : {K : Type 0} (awaits : Bool) (e : End) (image : Image K) → OpensNone image (answered_if awaits e image)
 answered_opens false e image = none_opens image
-answered_opens true e image = state_opens image e (ended (end_of image e).state)
+answered_opens true e image = state_opens image e (awaiting_none (end_of image e).state)
 
 same_but_drv : {K : Type 0} (e : EndState K) (q : List Msg) → SameEnd e (in_drv e q)
 same_but_drv e q =
@@ -223,10 +223,10 @@ same_but_drv e q =
     }
 
 -- what a call that changes no queue has done
-pub record IsQuietly {K : Type 0} (means : Meaning K) (image : Image K) (begun : Begun (Image K) K) : Type 0 where
-  pub quiet : IsQuiet means begun.image
-  pub broken : begun.image.broken ≡ image.broken
-  pub awaits : begun.awaits ≡ false
+pub record IsQuietly {K : Type 0} (means : Meaning K) (image : Image K) (effect : Effect (Image K) K) : Type 0 where
+  pub quiet : IsQuiet means effect.image
+  pub broken : effect.image.broken ≡ image.broken
+  pub awaits : effect.awaits ≡ false
 
 -- for kinds of any meaning
 module _ {K : Type 0} (means : Meaning K) where
@@ -237,7 +237,7 @@ module _ {K : Type 0} (means : Meaning K) where
   asked_opens : (image : Image K) (e : End) (cmd : ℕ) (dat : Part) (id : Option ℕ) → OpensNone image (asked_of means image e cmd dat id)
   asked_opens image e cmd dat None = none_opens image
   asked_opens image e cmd dat (Some id) =
-      let asked = with_state image e (begun_with (end_of image e).state (Some id)) in
+      let asked = with_state image e (awaiting (end_of image e).state (Some id)) in
       opens_trans image asked _ (state_opens image e _) (same_opens asked _ (deliver_keeps means asked (Down e 1) _))
 
   pub after_keeps : (broken : Bool) (image : Image K) (e : End) → SameModules image (after_close means broken image e)
@@ -249,63 +249,63 @@ module _ {K : Type 0} (means : Meaning K) where
   taken_opens image e (m ∷ q) = end_opens image e (in_drv (end_of image e) q) refl
 
   -- no call opens an end
-  pub begun_opens : (image : Image K) (e : End) (request : Request (Shape K)) → OpensNone image (begun_of means image e request).image
-  begun_opens image e (Putmsg flag parts) = sent_opens image e (putmsg_message parts.ctl parts.dat flag)
-  begun_opens image e (Putpmsg band flag parts) = sent_opens image e (putpmsg_message parts.ctl parts.dat band flag)
-  begun_opens image e (Getmsg maxctl maxdat flag) = head_opens image e _
-  begun_opens image e (Getpmsg maxctl maxdat band flag) = head_opens image e _
-  begun_opens image e (Read zero) = none_opens image
-  begun_opens image e (Read (suc n)) = head_opens image e _
-  begun_opens image e (Write dat) = sent_opens image e (ordinary_message 0 None (Some dat))
-  begun_opens image e (Push shape) = end_opens image e (inserted (end_of image e) shape) refl
-  begun_opens image e Nread = none_opens image
-  begun_opens image e (Peek maxctl maxdat flag) = none_opens image
-  begun_opens image e (SetRead mode prot) =
+  pub effect_opens : (image : Image K) (e : End) (request : Request (Shape K)) → OpensNone image (effect_of means image e request).image
+  effect_opens image e (Putmsg flag parts) = sent_opens image e (putmsg_message parts.ctl parts.dat flag)
+  effect_opens image e (Putpmsg band flag parts) = sent_opens image e (putpmsg_message parts.ctl parts.dat band flag)
+  effect_opens image e (Getmsg maxctl maxdat flag) = head_opens image e _
+  effect_opens image e (Getpmsg maxctl maxdat band flag) = head_opens image e _
+  effect_opens image e (Read zero) = none_opens image
+  effect_opens image e (Read (suc n)) = head_opens image e _
+  effect_opens image e (Write dat) = sent_opens image e (ordinary_message 0 None (Some dat))
+  effect_opens image e (Push shape) = end_opens image e (inserted (end_of image e) shape) refl
+  effect_opens image e Nread = none_opens image
+  effect_opens image e (Peek maxctl maxdat flag) = none_opens image
+  effect_opens image e (SetRead mode prot) =
       end_opens image e (record (end_of image e) { state = with_mode (end_of image e).state mode prot }) refl
-  begun_opens image e GetRead = none_opens image
-  begun_opens image e (Canput band) = none_opens image
-  begun_opens image e (Ckband band) = none_opens image
-  begun_opens image e Getband = none_opens image
-  begun_opens image e Pop = end_opens image e (removed (end_of image e)) refl
-  begun_opens image e Look = none_opens image
-  begun_opens image e Requests.List = none_opens image
-  begun_opens image e (Find name) = none_opens image
-  begun_opens image e (Str cmd dat) = asked_opens image e cmd dat (end_of image e).state.next
-  begun_opens image e (Flush r w) = same_opens image _ (deliver_keeps means image (Down e 1) _)
-  begun_opens image e (FlushBand band r w) = same_opens image _ (deliver_keeps means image (Down e 1) _)
-  begun_opens image e Take = taken_opens image e (end_of image e).drv
-  begun_opens image e Poll = none_opens image
-  begun_opens image e Close =
+  effect_opens image e GetRead = none_opens image
+  effect_opens image e (Canput band) = none_opens image
+  effect_opens image e (Ckband band) = none_opens image
+  effect_opens image e Getband = none_opens image
+  effect_opens image e Pop = end_opens image e (removed (end_of image e)) refl
+  effect_opens image e Look = none_opens image
+  effect_opens image e Requests.List = none_opens image
+  effect_opens image e (Find name) = none_opens image
+  effect_opens image e (Str cmd dat) = asked_opens image e cmd dat (end_of image e).state.next
+  effect_opens image e (Flush r w) = same_opens image _ (deliver_keeps means image (Down e 1) _)
+  effect_opens image e (FlushBand band r w) = same_opens image _ (deliver_keeps means image (Down e 1) _)
+  effect_opens image e Take = taken_opens image e (end_of image e).drv
+  effect_opens image e Poll = none_opens image
+  effect_opens image e Close =
       opens_trans image (closed_image image e) _ (closed_opens image e) (same_opens (closed_image image e) _ (after_keeps image.broken (closed_image image e) e))
 
   -- a call that changes no queue leaves a quiet stream quiet, awaits nothing and takes no module out
-  pub quiet_begun : (image : Image K) (e : End) (request : Request (Shape K)) → changes_no_queue request ≡ true → IsQuiet means image → IsQuietly means image (begun_of means image e request)
-  quiet_begun image e (Putmsg flag parts) is quiet = cc
-  quiet_begun image e (Putpmsg band flag parts) is quiet = cc
-  quiet_begun image e (Getmsg maxctl maxdat flag) is quiet = cc
-  quiet_begun image e (Getpmsg maxctl maxdat band flag) is quiet = cc
-  quiet_begun image e (Read max) is quiet = cc
-  quiet_begun image e (Write dat) is quiet = cc
-  quiet_begun image e (Push shape) is quiet = cc
-  quiet_begun image e Nread is quiet = record { quiet = quiet; broken = refl; awaits = refl }
-  quiet_begun image e (Peek maxctl maxdat flag) is quiet = record { quiet = quiet; broken = refl; awaits = refl }
-  quiet_begun image e (SetRead mode prot) is quiet =
+  pub quiet_effect : (image : Image K) (e : End) (request : Request (Shape K)) → changes_no_queue request ≡ true → IsQuiet means image → IsQuietly means image (effect_of means image e request)
+  quiet_effect image e (Putmsg flag parts) is quiet = cc
+  quiet_effect image e (Putpmsg band flag parts) is quiet = cc
+  quiet_effect image e (Getmsg maxctl maxdat flag) is quiet = cc
+  quiet_effect image e (Getpmsg maxctl maxdat band flag) is quiet = cc
+  quiet_effect image e (Read max) is quiet = cc
+  quiet_effect image e (Write dat) is quiet = cc
+  quiet_effect image e (Push shape) is quiet = cc
+  quiet_effect image e Nread is quiet = record { quiet = quiet; broken = refl; awaits = refl }
+  quiet_effect image e (Peek maxctl maxdat flag) is quiet = record { quiet = quiet; broken = refl; awaits = refl }
+  quiet_effect image e (SetRead mode prot) is quiet =
       let r = with_mode (end_of image e).state mode prot in
       record { quiet = state_quiet means image e r quiet; broken = (state_opens image e r).broken; awaits = refl }
-  quiet_begun image e GetRead is quiet = record { quiet = quiet; broken = refl; awaits = refl }
-  quiet_begun image e (Canput band) is quiet = record { quiet = quiet; broken = refl; awaits = refl }
-  quiet_begun image e (Ckband band) is quiet = record { quiet = quiet; broken = refl; awaits = refl }
-  quiet_begun image e Getband is quiet = record { quiet = quiet; broken = refl; awaits = refl }
-  quiet_begun image e Pop is quiet = cc
-  quiet_begun image e Look is quiet = record { quiet = quiet; broken = refl; awaits = refl }
-  quiet_begun image e Requests.List is quiet = record { quiet = quiet; broken = refl; awaits = refl }
-  quiet_begun image e (Find name) is quiet = record { quiet = quiet; broken = refl; awaits = refl }
-  quiet_begun image e (Str cmd dat) is quiet = cc
-  quiet_begun image e (Flush r w) is quiet = cc
-  quiet_begun image e (FlushBand band r w) is quiet = cc
-  quiet_begun image e Close is quiet = cc
-  quiet_begun image e Take is quiet = cc
-  quiet_begun image e Poll is quiet = record { quiet = quiet; broken = refl; awaits = refl }
+  quiet_effect image e GetRead is quiet = record { quiet = quiet; broken = refl; awaits = refl }
+  quiet_effect image e (Canput band) is quiet = record { quiet = quiet; broken = refl; awaits = refl }
+  quiet_effect image e (Ckband band) is quiet = record { quiet = quiet; broken = refl; awaits = refl }
+  quiet_effect image e Getband is quiet = record { quiet = quiet; broken = refl; awaits = refl }
+  quiet_effect image e Pop is quiet = cc
+  quiet_effect image e Look is quiet = record { quiet = quiet; broken = refl; awaits = refl }
+  quiet_effect image e Requests.List is quiet = record { quiet = quiet; broken = refl; awaits = refl }
+  quiet_effect image e (Find name) is quiet = record { quiet = quiet; broken = refl; awaits = refl }
+  quiet_effect image e (Str cmd dat) is quiet = cc
+  quiet_effect image e (Flush r w) is quiet = cc
+  quiet_effect image e (FlushBand band r w) is quiet = cc
+  quiet_effect image e Close is quiet = cc
+  quiet_effect image e Take is quiet = cc
+  quiet_effect image e Poll is quiet = record { quiet = quiet; broken = refl; awaits = refl }
 
   sent_idle : (image : Image K) (e : End) (m : Option Msg) → AreIdle image → AreIdle (sent_of means image e m)
   sent_idle image e None idle = idle
@@ -313,9 +313,9 @@ module _ {K : Type 0} (means : Meaning K) where
 
   asked_idle : (image : Image K) (e : End) (cmd : ℕ) (dat : Part) (id : Option ℕ) → AreIdle image → AreIdle (answered_if true e (asked_of means image e cmd dat id))
   asked_idle image e cmd dat None idle =
-      idle_with image e (record (end_of image e) { state = ended (end_of image e).state }) (record { pending = refl; kept = refl }) idle
+      idle_with image e (record (end_of image e) { state = awaiting_none (end_of image e).state }) (record { pending = refl; kept = refl }) idle
   asked_idle image e cmd dat (Some id) idle =
-      let r = begun_with (end_of image e).state (Some id) in
+      let r = awaiting (end_of image e).state (Some id) in
       idle_ended image e r _ (deliver_keeps means (with_state image e r) (Down e 1) _) idle
 
   taken_idle : (image : Image K) (e : End) (q : List Msg) → AreIdle image → AreIdle (answered_if (taken_out image e q).awaits e (taken_out image e q).image)
@@ -323,33 +323,33 @@ module _ {K : Type 0} (means : Meaning K) where
   taken_idle image e (m ∷ q) idle = idle_with image e (in_drv (end_of image e) q) (idle e) idle
 
   -- a call awaits no answer once it has it
-  begun_idle : (image : Image K) (e : End) (request : Request (Shape K)) → AreIdle image → AreIdle (answered_if (begun_of means image e request).awaits e (begun_of means image e request).image)
-  begun_idle image e (Putmsg flag parts) idle = sent_idle image e (putmsg_message parts.ctl parts.dat flag) idle
-  begun_idle image e (Putpmsg band flag parts) idle = sent_idle image e (putpmsg_message parts.ctl parts.dat band flag) idle
-  begun_idle image e (Getmsg maxctl maxdat flag) idle = idle_with image e _ (idle e) idle
-  begun_idle image e (Getpmsg maxctl maxdat band flag) idle = idle_with image e _ (idle e) idle
-  begun_idle image e (Read zero) idle = idle
-  begun_idle image e (Read (suc n)) idle = idle_with image e _ (idle e) idle
-  begun_idle image e (Write dat) idle = sent_idle image e (ordinary_message 0 None (Some dat)) idle
-  begun_idle image e (Push shape) idle = idle_with image e (inserted (end_of image e) shape) (idle e) idle
-  begun_idle image e Nread idle = idle
-  begun_idle image e (Peek maxctl maxdat flag) idle = idle
-  begun_idle image e (SetRead mode prot) idle =
+  effect_idle : (image : Image K) (e : End) (request : Request (Shape K)) → AreIdle image → AreIdle (answered_if (effect_of means image e request).awaits e (effect_of means image e request).image)
+  effect_idle image e (Putmsg flag parts) idle = sent_idle image e (putmsg_message parts.ctl parts.dat flag) idle
+  effect_idle image e (Putpmsg band flag parts) idle = sent_idle image e (putpmsg_message parts.ctl parts.dat band flag) idle
+  effect_idle image e (Getmsg maxctl maxdat flag) idle = idle_with image e _ (idle e) idle
+  effect_idle image e (Getpmsg maxctl maxdat band flag) idle = idle_with image e _ (idle e) idle
+  effect_idle image e (Read zero) idle = idle
+  effect_idle image e (Read (suc n)) idle = idle_with image e _ (idle e) idle
+  effect_idle image e (Write dat) idle = sent_idle image e (ordinary_message 0 None (Some dat)) idle
+  effect_idle image e (Push shape) idle = idle_with image e (inserted (end_of image e) shape) (idle e) idle
+  effect_idle image e Nread idle = idle
+  effect_idle image e (Peek maxctl maxdat flag) idle = idle
+  effect_idle image e (SetRead mode prot) idle =
       idle_with image e (record (end_of image e) { state = with_mode (end_of image e).state mode prot }) (record { pending = (idle e).pending; kept = (idle e).kept }) idle
-  begun_idle image e GetRead idle = idle
-  begun_idle image e (Canput band) idle = idle
-  begun_idle image e (Ckband band) idle = idle
-  begun_idle image e Getband idle = idle
-  begun_idle image e Pop idle = idle_with image e (removed (end_of image e)) (idle e) idle
-  begun_idle image e Look idle = idle
-  begun_idle image e Requests.List idle = idle
-  begun_idle image e (Find name) idle = idle
-  begun_idle image e (Str cmd dat) idle = asked_idle image e cmd dat (end_of image e).state.next idle
-  begun_idle image e (Flush r w) idle = idle_same image _ (deliver_keeps means image (Down e 1) _) idle
-  begun_idle image e (FlushBand band r w) idle = idle_same image _ (deliver_keeps means image (Down e 1) _) idle
-  begun_idle image e Take idle = taken_idle image e (end_of image e).drv idle
-  begun_idle image e Poll idle = idle
-  begun_idle image e Close idle =
+  effect_idle image e GetRead idle = idle
+  effect_idle image e (Canput band) idle = idle
+  effect_idle image e (Ckband band) idle = idle
+  effect_idle image e Getband idle = idle
+  effect_idle image e Pop idle = idle_with image e (removed (end_of image e)) (idle e) idle
+  effect_idle image e Look idle = idle
+  effect_idle image e Requests.List idle = idle
+  effect_idle image e (Find name) idle = idle
+  effect_idle image e (Str cmd dat) idle = asked_idle image e cmd dat (end_of image e).state.next idle
+  effect_idle image e (Flush r w) idle = idle_same image _ (deliver_keeps means image (Down e 1) _) idle
+  effect_idle image e (FlushBand band r w) idle = idle_same image _ (deliver_keeps means image (Down e 1) _) idle
+  effect_idle image e Take idle = taken_idle image e (end_of image e).drv idle
+  effect_idle image e Poll idle = idle
+  effect_idle image e Close idle =
       idle_same (closed_image image e) _ (after_keeps image.broken (closed_image image e) e) (idle_with image e (closed (end_of image e)) (idle e) idle)
 
   -- what changes no module keeps messages from going round
@@ -361,7 +361,7 @@ module _ {K : Type 0} (means : Meaning K) where
 
   answered_ordered : (awaits : Bool) (e : End) (image : Image K) → IsOrdered means image → IsOrdered means (answered_if awaits e image)
   answered_ordered false e image ordered = ordered
-  answered_ordered true e image ordered = state_ordered image e (ended (end_of image e).state) ordered
+  answered_ordered true e image ordered = state_ordered image e (awaiting_none (end_of image e).state) ordered
 
   taken_ordered : (image : Image K) (e : End) (q : List Msg) → IsOrdered means image → IsOrdered means (taken_out image e q).image
   taken_ordered image e [] ordered = ordered
@@ -376,7 +376,7 @@ module _ {K : Type 0} (means : Meaning K) where
     asked_ordered : (image : Image K) (e : End) (cmd : ℕ) (dat : Part) (id : Option ℕ) → IsOrdered means image → IsOrdered means (asked_of means image e cmd dat id)
     asked_ordered image e cmd dat None ordered = ordered
     asked_ordered image e cmd dat (Some id) ordered =
-        let r = begun_with (end_of image e).state (Some id) in
+        let r = awaiting (end_of image e).state (Some id) in
         delivered_ordered means stay (with_state image e r) (Down e 1) _ (state_ordered image e r ordered)
 
     hangup_ordered : (opened : Bool) (image : Image K) (e : End) → IsOrdered means image → IsOrdered means (hung_up_if means opened image e)
@@ -395,32 +395,32 @@ module _ {K : Type 0} (means : Meaning K) where
         pushed_ordered means image e shape (second_false (not (has_room (end_of image e))) (goes_round means image e shape) Invalid Invalid (((end_of image e).state.hung, HungUp) ∷ []) none) ordered
 
     -- so a call that is not refused keeps messages from going round
-    begun_ordered : (image : Image K) (e : End) (request : Request (Shape K)) → refusal_of means image e request ≡ None → IsOrdered means image → IsOrdered means (begun_of means image e request).image
-    begun_ordered image e (Putmsg flag parts) h ordered = sent_ordered image e (putmsg_message parts.ctl parts.dat flag) ordered
-    begun_ordered image e (Putpmsg band flag parts) h ordered = sent_ordered image e (putpmsg_message parts.ctl parts.dat band flag) ordered
-    begun_ordered image e (Getmsg maxctl maxdat flag) h ordered = head_ordered image e _ ordered
-    begun_ordered image e (Getpmsg maxctl maxdat band flag) h ordered = head_ordered image e _ ordered
-    begun_ordered image e (Read zero) h ordered = ordered
-    begun_ordered image e (Read (suc n)) h ordered = head_ordered image e _ ordered
-    begun_ordered image e (Write dat) h ordered = sent_ordered image e (ordinary_message 0 None (Some dat)) ordered
-    begun_ordered image e (Push shape) h ordered = push_ordered image e shape h ordered
-    begun_ordered image e Nread h ordered = ordered
-    begun_ordered image e (Peek maxctl maxdat flag) h ordered = ordered
-    begun_ordered image e (SetRead mode prot) h ordered = state_ordered image e (with_mode (end_of image e).state mode prot) ordered
-    begun_ordered image e GetRead h ordered = ordered
-    begun_ordered image e (Canput band) h ordered = ordered
-    begun_ordered image e (Ckband band) h ordered = ordered
-    begun_ordered image e Getband h ordered = ordered
-    begun_ordered image e Pop h ordered = popped_ordered means image e ordered
-    begun_ordered image e Look h ordered = ordered
-    begun_ordered image e Requests.List h ordered = ordered
-    begun_ordered image e (Find name) h ordered = ordered
-    begun_ordered image e (Str cmd dat) h ordered = asked_ordered image e cmd dat (end_of image e).state.next ordered
-    begun_ordered image e (Flush r w) h ordered = delivered_ordered means stay image (Down e 1) _ ordered
-    begun_ordered image e (FlushBand band r w) h ordered = delivered_ordered means stay image (Down e 1) _ ordered
-    begun_ordered image e Take h ordered = taken_ordered image e (end_of image e).drv ordered
-    begun_ordered image e Poll h ordered = ordered
-    begun_ordered image e Close h ordered =
+    effect_ordered : (image : Image K) (e : End) (request : Request (Shape K)) → refusal_of means image e request ≡ None → IsOrdered means image → IsOrdered means (effect_of means image e request).image
+    effect_ordered image e (Putmsg flag parts) h ordered = sent_ordered image e (putmsg_message parts.ctl parts.dat flag) ordered
+    effect_ordered image e (Putpmsg band flag parts) h ordered = sent_ordered image e (putpmsg_message parts.ctl parts.dat band flag) ordered
+    effect_ordered image e (Getmsg maxctl maxdat flag) h ordered = head_ordered image e _ ordered
+    effect_ordered image e (Getpmsg maxctl maxdat band flag) h ordered = head_ordered image e _ ordered
+    effect_ordered image e (Read zero) h ordered = ordered
+    effect_ordered image e (Read (suc n)) h ordered = head_ordered image e _ ordered
+    effect_ordered image e (Write dat) h ordered = sent_ordered image e (ordinary_message 0 None (Some dat)) ordered
+    effect_ordered image e (Push shape) h ordered = push_ordered image e shape h ordered
+    effect_ordered image e Nread h ordered = ordered
+    effect_ordered image e (Peek maxctl maxdat flag) h ordered = ordered
+    effect_ordered image e (SetRead mode prot) h ordered = state_ordered image e (with_mode (end_of image e).state mode prot) ordered
+    effect_ordered image e GetRead h ordered = ordered
+    effect_ordered image e (Canput band) h ordered = ordered
+    effect_ordered image e (Ckband band) h ordered = ordered
+    effect_ordered image e Getband h ordered = ordered
+    effect_ordered image e Pop h ordered = popped_ordered means image e ordered
+    effect_ordered image e Look h ordered = ordered
+    effect_ordered image e Requests.List h ordered = ordered
+    effect_ordered image e (Find name) h ordered = ordered
+    effect_ordered image e (Str cmd dat) h ordered = asked_ordered image e cmd dat (end_of image e).state.next ordered
+    effect_ordered image e (Flush r w) h ordered = delivered_ordered means stay image (Down e 1) _ ordered
+    effect_ordered image e (FlushBand band r w) h ordered = delivered_ordered means stay image (Down e 1) _ ordered
+    effect_ordered image e Take h ordered = taken_ordered image e (end_of image e).drv ordered
+    effect_ordered image e Poll h ordered = ordered
+    effect_ordered image e Close h ordered =
         after_ordered image.broken (closed_image image e) e (closed_ordered means image e ordered)
 
     arrived_ordered_if : (high : Bool) (image : Image K) (e at : End) (m : Msg) → IsOrdered means image → IsOrdered means (if high then deliver means image (Up e (count_of image e)) m else with_end image at (in_drv (end_of image at) (put_in (end_of image at).drv m)))
@@ -436,26 +436,26 @@ module _ {K : Type 0} (means : Meaning K) where
   broken_opens old new breaks B h = sym breaks.on_b.is_open ∙ h
 
   -- a stream that broke keeps the ends
-  broken_kept : (begun : Begun (Image K) K) (moves : List Place) (out : List ℕ) (after : Image K) → HasItsEnds begun.image → IsBroken begun moves out after → IsKept means after
-  broken_kept begun moves out after ends broke =
+  broken_kept : (effect : Effect (Image K) K) (moves : List Place) (out : List ℕ) (after : Image K) → HasItsEnds effect.image → IsBroken effect moves out after → IsWholeStream means after
+  broken_kept effect moves out after ends broke =
       record {
         quiet = λ whole. absurd (let no : true ≡ false = sym broke.breaks.is_broken ∙ whole in cc);
         idle = λ whole. absurd (let no : true ≡ false = sym broke.breaks.is_broken ∙ whole in cc);
         order = λ whole. absurd (let no : true ≡ false = sym broke.breaks.is_broken ∙ whole in cc);
-        ends = λ e h. ap (λ d. has_end d e) broke.breaks.driver ∙ ends e (broken_opens begun.image after broke.breaks e h);
+        ends = λ e h. ap (λ d. has_end d e) broke.breaks.driver ∙ ends e (broken_opens effect.image after broke.breaks e h);
       }
 
-  settled_kept : (broken : Bool) (e : End) (begun : Begun (Image K) K) (moves : List Place) (settled : Image K) → begun.image.broken ≡ broken → SettlesUnless means broken begun.image moves settled → HasItsEnds begun.image → (begun.image.broken ≡ false → AreIdle (answered_if begun.awaits e begun.image)) → (begun.image.broken ≡ false → AnswersStay means → IsOrdered means begun.image) → IsKept means (answered_if begun.awaits e settled)
-  settled_kept false e begun moves settled whole settles ends idle order =
-      let same = leads_keeps means begun.image moves settled settles.leads in
+  settled_kept : (broken : Bool) (e : End) (effect : Effect (Image K) K) (moves : List Place) (settled : Image K) → effect.image.broken ≡ broken → SettlesUnless means broken effect.image moves settled → HasItsEnds effect.image → (effect.image.broken ≡ false → AreIdle (answered_if effect.awaits e effect.image)) → (effect.image.broken ≡ false → AnswersStay means → IsOrdered means effect.image) → IsWholeStream means (answered_if effect.awaits e settled)
+  settled_kept false e effect moves settled whole settles ends idle order =
+      let same = leads_keeps means effect.image moves settled settles.leads in
       record {
-        quiet = λ whole. answered_quiet means begun.awaits e settled settles.quiet;
-        idle = λ still. answered_idle begun.awaits e begun.image settled same (idle whole);
-        order = λ still stay. answered_ordered begun.awaits e settled (led_ordered means stay begun.image moves settled settles.leads (order whole stay));
-        ends = ends_stay begun.image _ (opens_trans begun.image settled _ (same_opens begun.image settled same) (answered_opens begun.awaits e settled)) ends;
+        quiet = λ whole. answered_quiet means effect.awaits e settled settles.quiet;
+        idle = λ still. answered_idle effect.awaits e effect.image settled same (idle whole);
+        order = λ still stay. answered_ordered effect.awaits e settled (led_ordered means stay effect.image moves settled settles.leads (order whole stay));
+        ends = ends_stay effect.image _ (opens_trans effect.image settled _ (same_opens effect.image settled same) (answered_opens effect.awaits e settled)) ends;
       }
-  settled_kept true e begun moves settled broken still ends idle order =
-      let opens = answered_opens begun.awaits e settled in
+  settled_kept true e effect moves settled broken still ends idle order =
+      let opens = answered_opens effect.awaits e settled in
       let is : settled.broken ≡ true = subst (λ (i : Image K). i.broken ≡ true) (sym still.unchanged) broken in
       record {
         quiet = λ whole. absurd (let no : true ≡ false = sym is ∙ sym opens.broken ∙ whole in cc);
@@ -464,29 +464,29 @@ module _ {K : Type 0} (means : Meaning K) where
         ends = ends_stay settled _ opens (subst (λ (i : Image K). HasItsEnds i) (sym still.unchanged) ends);
       }
 
-  done_kept : (e : End) (begun : Begun (Image K) K) (reply : Reply) (moves : List Place) (out : List ℕ) (after : Image K) → HasItsEnds begun.image → (begun.image.broken ≡ false → AreIdle (answered_if begun.awaits e begun.image)) → (begun.image.broken ≡ false → AnswersStay means → IsOrdered means begun.image) → IsDone means e begun reply moves out after → IsKept means after
-  done_kept e begun reply moves out after ends idle order done =
-      rw done.leaves (settled_kept begun.image.broken e begun moves done.settled refl done.settles ends idle order)
+  done_kept : (e : End) (effect : Effect (Image K) K) (reply : Reply) (moves : List Place) (out : List ℕ) (after : Image K) → HasItsEnds effect.image → (effect.image.broken ≡ false → AreIdle (answered_if effect.awaits e effect.image)) → (effect.image.broken ≡ false → AnswersStay means → IsOrdered means effect.image) → IsDone means e effect reply moves out after → IsWholeStream means after
+  done_kept e effect reply moves out after ends idle order done =
+      rw done.leaves (settled_kept effect.image.broken e effect moves done.settled refl done.settles ends idle order)
 
-  begun_ends : (image : Image K) (e : End) (request : Request (Shape K)) → IsKept means image → HasItsEnds (begun_of means image e request).image
-  begun_ends image e request kept =
-      ends_stay image (begun_of means image e request).image (begun_opens image e request) kept.ends
+  effect_ends : (image : Image K) (e : End) (request : Request (Shape K)) → IsWholeStream means image → HasItsEnds (effect_of means image e request).image
+  effect_ends image e request kept =
+      ends_stay image (effect_of means image e request).image (effect_opens image e request) kept.ends
 
-  idle_once : (image : Image K) (e : End) (request : Request (Shape K)) → IsKept means image → (begun_of means image e request).image.broken ≡ false → AreIdle (answered_if (begun_of means image e request).awaits e (begun_of means image e request).image)
+  idle_once : (image : Image K) (e : End) (request : Request (Shape K)) → IsWholeStream means image → (effect_of means image e request).image.broken ≡ false → AreIdle (answered_if (effect_of means image e request).awaits e (effect_of means image e request).image)
   idle_once image e request kept whole =
-      begun_idle image e request (kept.idle (sym (begun_opens image e request).broken ∙ whole))
+      effect_idle image e request (kept.idle (sym (effect_opens image e request).broken ∙ whole))
 
-  order_once : (image : Image K) (e : End) (request : Request (Shape K)) → IsKept means image → refusal_of means image e request ≡ None → (begun_of means image e request).image.broken ≡ false → AnswersStay means → IsOrdered means (begun_of means image e request).image
+  order_once : (image : Image K) (e : End) (request : Request (Shape K)) → IsWholeStream means image → refusal_of means image e request ≡ None → (effect_of means image e request).image.broken ≡ false → AnswersStay means → IsOrdered means (effect_of means image e request).image
   order_once image e request kept h whole stay =
-      begun_ordered stay image e request h (kept.order (sym (begun_opens image e request).broken ∙ whole) stay)
+      effect_ordered stay image e request h (kept.order (sym (effect_opens image e request).broken ∙ whole) stay)
 
   -- a call keeps what a stream keeps
-  pub answered_kept : (image : Image K) (e : End) (request : Request (Shape K)) (answer : Answer) (moves : List Place) (out : List ℕ) (after : Image K) → IsKept means image → Answers means image e request answer moves out after → IsKept means after
+  pub answered_kept : (image : Image K) (e : End) (request : Request (Shape K)) (answer : Answer) (moves : List Place) (out : List ℕ) (after : Image K) → IsWholeStream means image → Answers means image e request answer moves out after → IsWholeStream means after
   answered_kept image e request (Refused refusal) moves out after kept answers = rw answers.unchanged kept
   answered_kept image e request (Done reply) moves out after kept answers =
-      done_kept e (begun_of means image e request) reply moves out after (begun_ends image e request kept) (idle_once image e request kept) (order_once image e request kept answers.0) answers.2
+      done_kept e (effect_of means image e request) reply moves out after (effect_ends image e request kept) (idle_once image e request kept) (order_once image e request kept answers.0) answers.2
   answered_kept image e request Broke moves out after kept answers =
-      broken_kept (begun_of means image e request) moves out after (begun_ends image e request kept) answers.3
+      broken_kept (effect_of means image e request) moves out after (effect_ends image e request kept) answers.3
 
   arrived_if : (high : Bool) (image : Image K) (e at : End) (m : Msg) → SameModules image (if high then deliver means image (Up e (count_of image e)) m else with_end image at (in_drv (end_of image at) (put_in (end_of image at).drv m)))
   arrived_if true image e at m = deliver_keeps means image (Up e (count_of image e)) m
@@ -498,7 +498,7 @@ module _ {K : Type 0} (means : Meaning K) where
   arrived_keeps image e m = arrived_if (is_high m.kind) image e (input_end image.driver) m
 
   -- and so what a stream keeps
-  pub landed_kept : (image : Image K) (e : End) (m : Msg) (answer : Answer) (moves : List Place) (out : List ℕ) (after : Image K) → IsKept means image → Lands means image e m answer moves out after → IsKept means after
+  pub landed_kept : (image : Image K) (e : End) (m : Msg) (answer : Answer) (moves : List Place) (out : List ℕ) (after : Image K) → IsWholeStream means image → Lands means image e m answer moves out after → IsWholeStream means after
   landed_kept image e m (Refused refusal) moves out after kept lands = absurd lands
   landed_kept image e m (Done reply) moves out after kept lands =
       let same = arrived_keeps image e m in

@@ -8,30 +8,30 @@ use Rattle.strm_msg.specs.declared.words.ReadMode.{ReadMode}
 use Rattle.strm_msg.specs.declared.words.Prot.{Prot}
 use Rattle.strm_module.specs.Kinds.{Meaning}
 use Rattle.strm_module.specs.declared.shape.Shape.{Shape}
-use Rattle.strm_ends.specs.Image.{Image, end_of, with_head}
-use Rattle.strm_ends.specs.Flow.{IsQuiet}
-use Rattle.strm_call.specs.declared.request.Request.{Request}
-use Rattle.strm_call.specs.declared.request.Request.TheVariants.{Putmsg, Putpmsg, Getmsg, Getpmsg, Read, Peek, Str, Take}
-use Rattle.strm_call.specs.declared.request.Priority.{Priority}
-use Rattle.strm_call.specs.declared.request.Priority.TheVariants as Priorities
-use Rattle.strm_call.specs.declared.request.PutFlag.{PutFlag}
-use Rattle.strm_call.specs.declared.request.PutFlag.TheVariants as PutFlags
-use Rattle.strm_call.specs.declared.request.Wanted.{Wanted}
-use Rattle.strm_call.specs.declared.answer.Peeked.{Peeked}
-use Rattle.strm_call.specs.declared.answer.Reply.{Reply}
-use Rattle.strm_call.specs.declared.answer.Reply.TheVariants as Replies
-use Rattle.strm_call.specs.Reply.{has_bytes}
-use Rattle.strm_call.specs.Replied.{said}
-use Rattle.strm_call.specs.Begun.{begun}
-use Rattle.strm_call.specs.Request.{changes_no_queue}
-use Rattle.strm_msgio.specs.Send.{sent_of, putmsg_message, putpmsg_message}
-use Rattle.strm_msgio.specs.Take.{taken_from, peeked_of, peek_begun, shows_nothing}
-use Rattle.strm_read.specs.Read.{read_of}
-use Rattle.strm_ioctl.specs.Ask.{is_empty}
-use Rattle.strm_ioctl.specs.Outside.{taken_out}
-use Rattle.strm_head.specs.Begin.{begun_of, has_nothing_to_do, takes_no_memory_at, sends_nothing, awaits_answer}
-use Rattle.strm_head.specs.Begins.{needs_no_service}
-use Rattle.strm_head.proofs.KeptLemmas.{IsQuietly, quiet_begun}
+use Rattle.strm_chain_ends.specs.Image.{Image, end_of, with_head}
+use Rattle.strm_chain_ends.specs.Flow.{IsQuiet}
+use Rattle.strm_head_calls.specs.declared.request.Request.{Request}
+use Rattle.strm_head_calls.specs.declared.request.Request.TheVariants.{Putmsg, Putpmsg, Getmsg, Getpmsg, Read, Peek, Str, Take}
+use Rattle.strm_head_calls.specs.declared.request.Priority.{Priority}
+use Rattle.strm_head_calls.specs.declared.request.Priority.TheVariants as Priorities
+use Rattle.strm_head_calls.specs.declared.request.PutFlag.{PutFlag}
+use Rattle.strm_head_calls.specs.declared.request.PutFlag.TheVariants as PutFlags
+use Rattle.strm_head_calls.specs.declared.request.Wanted.{Wanted}
+use Rattle.strm_head_calls.specs.declared.answer.Peeked.{Peeked}
+use Rattle.strm_head_calls.specs.declared.answer.Reply.{Reply}
+use Rattle.strm_head_calls.specs.declared.answer.Reply.TheVariants as Replies
+use Rattle.strm_head_calls.specs.Reply.{has_bytes}
+use Rattle.strm_head_calls.specs.ReplyForm.{said}
+use Rattle.strm_head_calls.specs.Effect.{effect}
+use Rattle.strm_head_calls.specs.Request.{changes_no_queue}
+use Rattle.strm_head_msg.specs.Send.{sent_of, putmsg_message, putpmsg_message}
+use Rattle.strm_head_msg.specs.Take.{taken_from, peeked_of, peek_effect, shows_nothing}
+use Rattle.strm_head_read.specs.Read.{read_of}
+use Rattle.strm_head_ioctl.specs.Ask.{is_empty}
+use Rattle.strm_head_ioctl.specs.Outside.{taken_out}
+use Rattle.strm_head.specs.Effects.{effect_of, has_nothing_to_do, takes_no_memory_at, sends_no_message, awaits_answer}
+use Rattle.strm_head.specs.TakesEffect.{needs_no_service}
+use Rattle.strm_head.proofs.KeptLemmas.{IsQuietly, quiet_effect}
 
 -- no message waits
 empty_of : {X : Type 0} (q : List X) → is_empty q ≡ true → q ≡ []
@@ -84,7 +84,7 @@ unseen_ok found says (Ok reply) r ok is plain none =
     said_ok says r (plain reply refl (ap (λ (s : Reply). has_bytes s) is ∙ bare_peek found none))
 unseen_ok found says (Err fault) r ok is plain none = absurd (let no : false ≡ true = ok in cc)
 
-pub peek_ok : {K A X : Type 0} (image : Image K) (e : End) (maxctl maxdat : Option ℕ) (flag : Wanted) (says : A → Reply) (shown : Result Reply X) (r : Result A X) → (shows_nothing image e maxctl maxdat flag ≡ true → IsOk shown) → IfOk shown (λ reply. reply ≡ (peek_begun image e maxctl maxdat flag).reply) → ((s : Reply) → shown ≡ Ok s → has_bytes s ≡ false → IsOk r) → shows_nothing image e maxctl maxdat flag ≡ true → IsOk (said says r)
+pub peek_ok : {K A X : Type 0} (image : Image K) (e : End) (maxctl maxdat : Option ℕ) (flag : Wanted) (says : A → Reply) (shown : Result Reply X) (r : Result A X) → (shows_nothing image e maxctl maxdat flag ≡ true → IsOk shown) → IfOk shown (λ reply. reply ≡ (peek_effect image e maxctl maxdat flag).reply) → ((s : Reply) → shown ≡ Ok s → has_bytes s ≡ false → IsOk r) → shows_nothing image e maxctl maxdat flag ≡ true → IsOk (said says r)
 peek_ok image e maxctl maxdat flag says shown r ok is plain none =
     unseen_ok (peeked_of (slice_get (end_of image e).head 0) maxctl maxdat flag) says shown r (ok none) is plain none
 
@@ -102,7 +102,7 @@ none_read mode prot n [] none = refl
 none_read mode prot n (m ∷ q) none = absurd cc
 
 -- a call that has left the image as it was
-left_quiet : {K : Type 0} (means : Meaning K) (image after : Image K) (reply : Reply) → after ≡ image → IsQuiet means image → IsQuietly means image (begun after reply)
+left_quiet : {K : Type 0} (means : Meaning K) (image after : Image K) (reply : Reply) → after ≡ image → IsQuiet means image → IsQuietly means image (effect after reply)
 left_quiet {K} means image after reply same quiet =
     record {
       quiet = subst (λ (i : Image K). IsQuiet means i) (sym same) quiet;
@@ -120,7 +120,7 @@ served_changes image e request needs =
     (or_parts (changes_no_queue request) (has_nothing_to_do image e request) needs).0
 
 -- an ioctl sends a message
-pub ioctl_sends : {K : Type 0} (image : Image K) (e : End) (request : Request (Shape K)) → awaits_answer request ≡ true → sends_nothing image e request ≡ false
+pub ioctl_sends : {K : Type 0} (image : Image K) (e : End) (request : Request (Shape K)) → awaits_answer request ≡ true → sends_no_message image e request ≡ false
 ioctl_sends image e (Str cmd dat) awaits = refl
 ioctl_sends image e request awaits = absurd cc
 
@@ -134,30 +134,30 @@ module _ {K : Type 0} (means : Meaning K) where
   untaken image e (m ∷ q) none quiet = absurd cc
 
   -- a call that has nothing to do leaves a quiet stream as it was
-  nothing_begun : (image : Image K) (e : End) (request : Request (Shape K)) → has_nothing_to_do image e request ≡ true → IsQuiet means image → IsQuietly means image (begun_of means image e request)
-  nothing_begun image e (Putmsg flag parts) none quiet =
+  nothing_effect : (image : Image K) (e : End) (request : Request (Shape K)) → has_nothing_to_do image e request ≡ true → IsQuiet means image → IsQuietly means image (effect_of means image e request)
+  nothing_effect image e (Putmsg flag parts) none quiet =
       left_quiet means image _ Replies.Putmsg (unsent image e (putmsg_message parts.ctl parts.dat flag) (putmsg_none parts.ctl parts.dat flag none)) quiet
-  nothing_begun image e (Putpmsg band flag parts) none quiet =
+  nothing_effect image e (Putpmsg band flag parts) none quiet =
       left_quiet means image _ Replies.Putpmsg (unsent image e (putpmsg_message parts.ctl parts.dat band flag) (putpmsg_none parts.ctl parts.dat band flag none)) quiet
-  nothing_begun image e (Getmsg maxctl maxdat flag) none quiet =
+  nothing_effect image e (Getmsg maxctl maxdat flag) none quiet =
       let q = (end_of image e).head in
       left_quiet means image _ _ (stayed image e (taken_from q maxctl maxdat) (none_taken q maxctl maxdat none)) quiet
-  nothing_begun image e (Getpmsg maxctl maxdat band flag) none quiet =
+  nothing_effect image e (Getpmsg maxctl maxdat band flag) none quiet =
       let q = (end_of image e).head in
       left_quiet means image _ _ (stayed image e (taken_from q maxctl maxdat) (none_taken q maxctl maxdat none)) quiet
-  nothing_begun image e (Read zero) none quiet = left_quiet means image image (Replies.Read []) refl quiet
-  nothing_begun image e (Read (suc n)) none quiet =
+  nothing_effect image e (Read zero) none quiet = left_quiet means image image (Replies.Read []) refl quiet
+  nothing_effect image e (Read (suc n)) none quiet =
       let end = end_of image e in
       left_quiet means image _ _ (stayed image e (read_of end.state.mode end.state.prot (suc n) end.head).stays (none_read end.state.mode end.state.prot (suc n) end.head none)) quiet
-  nothing_begun image e Take none quiet = untaken image e (end_of image e).drv none quiet
-  nothing_begun image e request none quiet = absurd cc
+  nothing_effect image e Take none quiet = untaken image e (end_of image e).drv none quiet
+  nothing_effect image e request none quiet = absurd cc
 
-  unserved_by : (image : Image K) (e : End) (request : Request (Shape K)) (quietly nothing : Bool) → changes_no_queue request ≡ quietly → has_nothing_to_do image e request ≡ nothing → (quietly || nothing) ≡ true → IsQuiet means image → IsQuietly means image (begun_of means image e request)
-  unserved_by image e request true nothing changes has needs quiet = quiet_begun means image e request changes quiet
-  unserved_by image e request false true changes has needs quiet = nothing_begun image e request has quiet
+  unserved_by : (image : Image K) (e : End) (request : Request (Shape K)) (quietly nothing : Bool) → changes_no_queue request ≡ quietly → has_nothing_to_do image e request ≡ nothing → (quietly || nothing) ≡ true → IsQuiet means image → IsQuietly means image (effect_of means image e request)
+  unserved_by image e request true nothing changes has needs quiet = quiet_effect means image e request changes quiet
+  unserved_by image e request false true changes has needs quiet = nothing_effect image e request has quiet
   unserved_by image e request false false changes has needs quiet = absurd cc
 
   -- a call that no service follows leaves a quiet stream quiet, awaits nothing and takes no module out
-  pub unserved_begun : (image : Image K) (e : End) (request : Request (Shape K)) → needs_no_service image e request ≡ true → IsQuiet means image → IsQuietly means image (begun_of means image e request)
-  unserved_begun image e request needs quiet =
+  pub unserved_effect : (image : Image K) (e : End) (request : Request (Shape K)) → needs_no_service image e request ≡ true → IsQuiet means image → IsQuietly means image (effect_of means image e request)
+  unserved_effect image e request needs quiet =
       unserved_by image e request (changes_no_queue request) (has_nothing_to_do image e request) refl refl needs quiet

@@ -4,21 +4,21 @@ use Rattle.strm_msg.specs.declared.errno.Errno.{Errno}
 use Rattle.strm_msg.specs.declared.words.End.{End}
 use Rattle.strm_module.specs.declared.shape.Shape.{Shape}
 use Rattle.strm_module.specs.Kinds.{Meaning}
-use Rattle.strm_ends.specs.Image.{Image, end_of}
-use Rattle.strm_call.specs.declared.request.Request.{Request}
-use Rattle.strm_call.specs.declared.request.Request.TheVariants.{Putmsg, Putpmsg, Getmsg, Getpmsg, Read, Write, Push, Nread, Peek, SetRead, GetRead, Canput, Ckband, Getband, Pop, Look, Find, Str, Flush, FlushBand, Close, Take, Poll}
-use Rattle.strm_call.specs.declared.request.Request.TheVariants as Requests
-use Rattle.strm_call.specs.declared.refusal.Refusal.{Refusal}
-use Rattle.strm_call.specs.declared.refusal.Refusal.TheVariants.{Closed, Broken}
-use Rattle.strm_msgio.specs.Send.{putmsg_refusals, putpmsg_refusals, write_refusals}
-use Rattle.strm_read.specs.Read.{read_refusals}
-use Rattle.strm_msgio.specs.Take.{getmsg_refusals, getpmsg_refusals}
-use Rattle.strm_ioctl.specs.Ask.{getband_refusals}
-use Rattle.strm_ioctl.specs.Modules.{push_refusals, pop_refusals, look_refusals}
-use Rattle.strm_ioctl.specs.Names.{find_refusals}
-use Rattle.strm_ioctl.specs.Ioctl.{str_refusals}
-use Rattle.strm_ioctl.specs.Flush.{flush_refusals}
-use Rattle.strm_head.specs.Begin.{error_refusals, refusals, are_in_order}
+use Rattle.strm_chain_ends.specs.Image.{Image, end_of}
+use Rattle.strm_head_calls.specs.declared.request.Request.{Request}
+use Rattle.strm_head_calls.specs.declared.request.Request.TheVariants.{Putmsg, Putpmsg, Getmsg, Getpmsg, Read, Write, Push, Nread, Peek, SetRead, GetRead, Canput, Ckband, Getband, Pop, Look, Find, Str, Flush, FlushBand, Close, Take, Poll}
+use Rattle.strm_head_calls.specs.declared.request.Request.TheVariants as Requests
+use Rattle.strm_head_calls.specs.declared.refusal.Refusal.{Refusal}
+use Rattle.strm_head_calls.specs.declared.refusal.Refusal.TheVariants.{Closed, Broken}
+use Rattle.strm_head_msg.specs.Send.{putmsg_refusals, putpmsg_refusals, write_refusals}
+use Rattle.strm_head_read.specs.Read.{read_refusals}
+use Rattle.strm_head_msg.specs.Take.{getmsg_refusals, getpmsg_refusals}
+use Rattle.strm_head_ioctl.specs.Ask.{getband_refusals}
+use Rattle.strm_head_ioctl.specs.Modules.{push_refusals, pop_refusals, look_refusals}
+use Rattle.strm_head_ioctl.specs.Names.{find_refusals}
+use Rattle.strm_head_ioctl.specs.Ioctl.{str_refusals}
+use Rattle.strm_head_ioctl.specs.Flush.{flush_refusals}
+use Rattle.strm_head.specs.Effects.{error_refusals, refusals, are_in_order}
 
 -- so it is of a call with these refusals of its own, whichever errors it looks at, where these have come up or none
 abbrev Ordered : {K : Type 0} → Image K → End → Bool × Bool → List (Bool × Refusal) → Option Errno → Option Errno → Type 0

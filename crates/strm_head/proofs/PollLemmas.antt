@@ -4,18 +4,18 @@ use Rattle.strm_msg.specs.Message.{Msg}
 use Rattle.strm_msg.specs.Kind.{is_high}
 use Rattle.strm_msg.specs.declared.errno.Errno.{Errno}
 use Rattle.strm_msg.specs.declared.words.End.{End}
-use Rattle.strm_qpair.specs.Canput.{below, full_in}
+use Rattle.strm_chain_end.specs.Canput.{below, full_in}
 use Rattle.strm_module.specs.Kinds.{Meaning}
-use Rattle.strm_ends.specs.Image.{Image, end_of}
-use Rattle.strm_call.specs.declared.refusal.Refusal.TheVariants.{TooLong, HungUp, WouldWait}
-use Rattle.strm_call.specs.Refusal.{first_that_holds}
-use Rattle.strm_call.specs.Reply.{received_of}
-use Rattle.strm_call.specs.declared.request.Wanted.TheVariants as Wanteds
-use Rattle.strm_msgio.specs.Take.{getmsg_refusals}
-use Rattle.strm_msgio.specs.Send.{is_too_long}
-use Rattle.strm_call.specs.declared.answer.Polled.{Polled}
-use Rattle.strm_ioctl.specs.Poll.{open_in, polled}
-use Rattle.strm_call.specs.Polled.{is_pri}
+use Rattle.strm_chain_ends.specs.Image.{Image, end_of}
+use Rattle.strm_head_calls.specs.declared.refusal.Refusal.TheVariants.{TooLong, HungUp, WouldWait}
+use Rattle.strm_head_calls.specs.Refusal.{first_that_holds}
+use Rattle.strm_head_calls.specs.Reply.{received_of}
+use Rattle.strm_head_calls.specs.declared.request.Wanted.TheVariants as Wanteds
+use Rattle.strm_head_msg.specs.Take.{getmsg_refusals}
+use Rattle.strm_head_msg.specs.Send.{is_too_long}
+use Rattle.strm_head_calls.specs.declared.answer.Polled.{Polled}
+use Rattle.strm_head_ioctl.specs.Poll.{open_in, polled}
+use Rattle.strm_head_calls.specs.Polled.{is_pri}
 use Rattle.strm_head.specs.Polls.{AgreesWithCalls}
 
 -- a getmsg of any message

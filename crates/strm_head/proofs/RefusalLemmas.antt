@@ -4,12 +4,12 @@ use Rattle.std.specs.Option.{option_or}
 use Rattle.strm_msg.specs.declared.words.End.{End}
 use Rattle.strm_module.specs.declared.shape.Shape.{Shape}
 use Rattle.strm_module.specs.Kinds.{Meaning}
-use Rattle.strm_ends.specs.Image.{Image}
-use Rattle.strm_call.specs.declared.request.Request.{Request}
-use Rattle.strm_call.specs.declared.request.Request.TheVariants.{Close, Take, Poll}
-use Rattle.strm_call.specs.declared.refusal.Refusal.{Refusal}
-use Rattle.strm_call.specs.Refusal.{first_that_holds}
-use Rattle.strm_head.specs.Begin.{common_refusals, own_refusals, is_common, refusal_of}
+use Rattle.strm_chain_ends.specs.Image.{Image}
+use Rattle.strm_head_calls.specs.declared.request.Request.{Request}
+use Rattle.strm_head_calls.specs.declared.request.Request.TheVariants.{Close, Take, Poll}
+use Rattle.strm_head_calls.specs.declared.refusal.Refusal.{Refusal}
+use Rattle.strm_head_calls.specs.Refusal.{first_that_holds}
+use Rattle.strm_head.specs.Effects.{common_refusals, own_refusals, is_common, refusal_of}
 
 -- of two lists, one behind the other
 pub first_of_both : (first later : List (Bool × Refusal)) → first_that_holds (first ++ later) ≡ option_or (first_that_holds first) (first_that_holds later)
@@ -30,7 +30,7 @@ common_of Take c t p = absurd (t refl)
 common_of Poll c t p = absurd (p refl)
 common_of request c t p = refl
 
-none_behind : (first later : Option Refusal) → option_or first later ≡ None → later ≡ None
+pub none_behind : (first later : Option Refusal) → option_or first later ≡ None → later ≡ None
 none_behind None later h = h
 none_behind (Some refusal) later h = cc
 

@@ -7,16 +7,16 @@ use Rattle.strm_msg.specs.Marks.{WaterMarks}
 use Rattle.strm_module.specs.declared.driver.Driver.TheVariants.{Echo}
 use Rattle.strm_module.specs.Kinds.{Meaning, serving, passed_on}
 use Rattle.strm_module.specs.Shape.{new_shape}
-use Rattle.strm_ends.specs.Image.{Image, fresh}
+use Rattle.strm_chain_ends.specs.Image.{Image, fresh}
 use Rattle.strm_chain.specs.Count.{looks_at_most}
-use Rattle.strm_call.specs.declared.request.Priority.TheVariants.{Norm, Hipri}
-use Rattle.strm_call.specs.declared.request.PutFlag.TheVariants as PutFlag
-use Rattle.strm_call.specs.declared.request.GetFlag.TheVariants as GetFlag
-use Rattle.strm_call.specs.declared.request.Wanted.TheVariants as Wanted
-use Rattle.strm_call.specs.declared.parts.Parts.{Parts}
-use Rattle.strm_call.specs.declared.request.Request.TheVariants.{Putmsg, Putpmsg, Getmsg, Getpmsg, Read, Write, Canput, Getband, Nread, Push, Pop, Look, Find, Str, Flush, Close}
-use Rattle.strm_call.specs.declared.refusal.Refusal.TheVariants.{Closed, Broken, ReadError, WriteError, Invalid, TooLong, HungUp, BadMessage, NoMessage, WouldWait}
-use Rattle.strm_head.specs.Begin.{refusal_of}
+use Rattle.strm_head_calls.specs.declared.request.Priority.TheVariants.{Norm, Hipri}
+use Rattle.strm_head_calls.specs.declared.request.PutFlag.TheVariants as PutFlag
+use Rattle.strm_head_calls.specs.declared.request.GetFlag.TheVariants as GetFlag
+use Rattle.strm_head_calls.specs.declared.request.Wanted.TheVariants as Wanted
+use Rattle.strm_head_calls.specs.declared.parts.Parts.{Parts}
+use Rattle.strm_head_calls.specs.declared.request.Request.TheVariants.{Putmsg, Putpmsg, Getmsg, Getpmsg, Read, Write, Canput, Getband, Nread, Push, Pop, Look, Find, Str, Flush, Close}
+use Rattle.strm_head_calls.specs.declared.refusal.Refusal.TheVariants.{Closed, Broken, ReadError, WriteError, Invalid, TooLong, HungUp, BadMessage, NoMessage, WouldWait}
+use Rattle.strm_head.specs.Effects.{refusal_of}
 
 -- kinds that send everything on
 abbrev plain : Meaning ℕ

@@ -1,8 +1,8 @@
-pub mod Answered
-pub mod Begin
+pub mod StepResult
+pub mod Effects
 pub mod Fault
 pub mod Inside
 pub mod Step
 pub mod Arrive
-pub mod Begins
+pub mod TakesEffect
 pub mod Polls

@@ -4,7 +4,7 @@ ghost use Rattle.strm_msg.specs.Kind.{is_high, is_from_line};
 ghost use Rattle.strm_msg.specs.declared.words.End.TheVariants as Ends;
 ghost use Rattle.strm_head.specs.Step.{can_arrive, arrived_of};
 ghost use Rattle.strm_head.specs.Arrive.{Arrives, HasGiven, NotIn};
-ghost use Rattle.strm_head.specs.Inside.{IsKept};
+ghost use Rattle.strm_head.specs.Inside.{IsWholeStream};
 
 use crate::outcome::Arrived;
 use strm_chain::{Chain, ChainFault, Spot, deliver};
@@ -24,7 +24,7 @@ pub(crate) fn can_arrive<M: ModuleOf>(chain: &Chain<M>, m: &Message) -> bool
     m.is_high() || !chain.line_full(m.band)
 }
 
-/// A high message goes up at once. Where memory is wanting before a change it comes back.
+/// Sends a high message up at once. Where memory runs out before a change it comes back.
 fn send_up<M: ModuleOf>(chain: &mut Chain<M>, m: Message) -> Result<(), Arrived>
     requires can { can_arrive chain.old.image Ends.A m ≡ true }
     requires high { is_high m.kind ≡ true }
@@ -49,7 +49,7 @@ fn send_up<M: ModuleOf>(chain: &mut Chain<M>, m: Message) -> Result<(), Arrived>
     }
 }
 
-/// An ordinary message waits in the list of what came in. It comes back for want of memory alone.
+/// Puts an ordinary message into the list of messages that came in. It comes back only when memory runs out.
 fn wait_below<M: ModuleOf>(chain: &mut Chain<M>, m: Message) -> Result<(), Arrived>
     requires can { can_arrive chain.old.image Ends.A m ≡ true }
     requires ordinary { is_high m.kind ≡ false }
@@ -66,7 +66,8 @@ fn wait_below<M: ModuleOf>(chain: &mut Chain<M>, m: Message) -> Result<(), Arriv
     }
 }
 
-/// A message that can come in does so: an ordinary one waits in the list of what came in, a high one goes up.
+/// Lets a message come in that can: an ordinary one waits in the list of messages that came in, a high one
+/// goes up.
 fn take_in<M: ModuleOf>(chain: &mut Chain<M>, m: Message) -> Result<(), Arrived>
     requires can { can_arrive chain.old.image Ends.A m ≡ true }
     ensures image { OnOk result (chain.new.image ≡ arrived_of M.Kind.means chain.old.image Ends.A m) }
@@ -78,10 +79,10 @@ fn take_in<M: ModuleOf>(chain: &mut Chain<M>, m: Message) -> Result<(), Arrived>
     wait_below(chain, m)
 }
 
-/// A message comes in from a line, and what must move moves.
+/// Lets a message come in from a line, and moves the places that must move.
 pub(crate) fn arrive<M: ModuleOf>(chain: &mut Chain<M>, m: Message) -> Arrived
     requires line { is_from_line m.kind ≡ true }
-    requires kept { IsKept M.Kind.means chain.old.image }
+    requires kept { IsWholeStream M.Kind.means chain.old.image }
     ensures arrives { Arrives M.Kind.means chain.old.image m result chain.new.image }
     ensures given { HasGiven result chain.new.run.given }
 {

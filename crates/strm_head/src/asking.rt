@@ -1,17 +1,17 @@
-//! What would refuse a call that is not made yet, of which some is known: its parts, or that it is a push.
+//! The refusals of a call that is not made yet, and of which some is known: its parts, or that it is a push.
 ghost use Rattle.std.specs.Prelude.{◌≡◌};
-ghost use Rattle.strm_call.specs.declared.request.Request.TheVariants as Requests;
-ghost use Rattle.strm_head.specs.Begin.{refusal_of};
+ghost use Rattle.strm_head_calls.specs.declared.request.Request.TheVariants as Requests;
+ghost use Rattle.strm_head.specs.Effects.{refusal_of};
 
 use crate::call::common_refusal;
-use strm_call::{Parts, Priority, PutFlag, Refusal, Request};
 use strm_chain::Chain;
-use strm_ioctl::push_refusal;
+use strm_head_calls::{Parts, Priority, PutFlag, Refusal, Request};
+use strm_head_ioctl::push_refusal;
+use strm_head_msg::{putmsg_refusal, putpmsg_refusal};
 use strm_module::{ModuleOf, Shape};
 use strm_msg::End;
-use strm_msgio::{putmsg_refusal, putpmsg_refusal};
 
-/// What would refuse a putmsg, of which a canput shares the refusals that are not its own.
+/// The refusal of a putmsg. A canput shares the refusals that are not a putmsg's own.
 pub(crate) fn refusal_of_putmsg<M: ModuleOf>(
     chain: &Chain<M>,
     end: End,
@@ -24,7 +24,7 @@ pub(crate) fn refusal_of_putmsg<M: ModuleOf>(
     common.or(putmsg_refusal(chain, end, parts, flag))
 }
 
-/// What would refuse a putpmsg, of which a canput shares the refusals that are not its own.
+/// The refusal of a putpmsg. A canput shares the refusals that are not a putpmsg's own.
 pub(crate) fn refusal_of_putpmsg<M: ModuleOf>(
     chain: &Chain<M>,
     end: End,
@@ -38,7 +38,7 @@ pub(crate) fn refusal_of_putpmsg<M: ModuleOf>(
     common.or(putpmsg_refusal(chain, end, parts, band, flag))
 }
 
-/// What would refuse a push of a module of this shape, of which a getread shares the refusals that are not its own.
+/// The refusal of a push of a module of this shape. A getread shares the refusals that are not a push's own.
 pub(crate) fn refusal_of_push<M: ModuleOf>(
     chain: &Chain<M>,
     end: End,

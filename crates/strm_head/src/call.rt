@@ -1,50 +1,52 @@
-//! A call on a chain: the first refusal that holds, what the call does, and the services after it.
+//! A call on a chain: the first refusal that holds, the effect of the call, and the services after it.
 ghost use Rattle.std.specs.Prelude.{◌≡◌, ◌≢◌, ◌||◌, true, false, [], None, IfOk};
-ghost use Rattle.strm_call.specs.declared.answer.Answer.TheVariants as Answer;
-ghost use Rattle.strm_call.specs.Refusal.{first_that_holds};
-ghost use Rattle.strm_call.specs.Reply.{acknowledged};
-ghost use Rattle.strm_call.specs.Begun.{begun, begun_ioctl};
-ghost use Rattle.strm_call.specs.Request.{changes_no_queue};
-ghost use Rattle.strm_ends.specs.Flow.{NoneMay};
-ghost use Rattle.strm_head.specs.Begin.{AreRefusalsInOrder, own_refusals, closed_refusals, errors_looked_at, error_refusals, common_refusals, refusal_of, begun_of, awaits_answer, has_nothing_to_do, takes_no_memory_at, back_of, out_of, wants_memory, BreaksNone};
-ghost use Rattle.strm_head.specs.Begins.{needs_no_service};
+ghost use Rattle.strm_head_calls.specs.declared.answer.Answer.TheVariants as Answer;
+ghost use Rattle.strm_head_calls.specs.Refusal.{first_that_holds};
+ghost use Rattle.strm_head_calls.specs.Reply.{acknowledged};
+ghost use Rattle.strm_head_calls.specs.Effect.{effect, effect_ioctl};
+ghost use Rattle.strm_head_calls.specs.Request.{changes_no_queue};
+ghost use Rattle.strm_chain_ends.specs.Flow.{NoneMay};
+ghost use Rattle.strm_head.specs.Effects.{AreRefusalsInOrder, own_refusals, closed_refusals, errors_looked_at, error_refusals, common_refusals, refusal_of, effect_of, awaits_answer, has_nothing_to_do, takes_no_memory_at, back_of, out_of, wants_memory, BreaksNone};
+ghost use Rattle.strm_head.specs.TakesEffect.{needs_no_service};
 ghost use Rattle.strm_head.specs.Polls.{PollTells};
 ghost use Rattle.strm_module.specs.Calm.{IsCalm};
-ghost use Rattle.strm_head.specs.Answered.{AreGiven, IsLooked, IsBounded};
-ghost use Rattle.strm_head.specs.Inside.{IsKept};
+ghost use Rattle.strm_head.specs.StepResult.{AreGiven, IsLooked, IsBounded};
+ghost use Rattle.strm_head.specs.Inside.{IsWholeStream};
 ghost use Rattle.strm_head.specs.Step.{Finishes, Answers};
 
-use crate::answered::Answered;
-use crate::beginning::begin;
+use crate::effects::begin;
 use crate::outcome::pushed;
+use crate::step_result::StepResult;
 use arrayvec::ArrayVec;
 use std::alloc::Global;
-use strm_call::{Acknowledged, Refusal, Replied, Reply, Request};
 use strm_chain::{Chain, ChainFault, MOST_MODULES, Settled};
-use strm_ioctl::{
+use strm_head_calls::{Acknowledged, Refusal, Reply, ReplyForm, Request};
+use strm_head_ioctl::{
     acknowledged, find_refusal, flush_refusal, getband_refusal, look_refusal, pop_refusal,
     push_refusal, str_refusal, take_refusal,
 };
-use strm_module::{Boxed, ModuleOf};
+use strm_head_msg::{
+    getmsg_refusal, getpmsg_refusal, putmsg_refusal, putpmsg_refusal, write_refusal,
+};
+use strm_head_read::read_refusal;
+use strm_module::{BoxedModule, ModuleOf};
 use strm_msg::{BoxedMessage, End, Errno, Message, NoMem};
-use strm_msgio::{getmsg_refusal, getpmsg_refusal, putmsg_refusal, putpmsg_refusal, write_refusal};
-use strm_read::read_refusal;
 
-/// A law, which nothing is done for: what may refuse a call is looked for in the order of the refusals.
+/// A law, for which nothing is done: refusals are looked for in their order, whatever the call.
 pub fn refusals_are_in_order<M: ModuleOf>()
     ensures { AreRefusalsInOrder M.Kind.means }
 {}
 
-/// A law, which nothing is done for: of an end of which a poll tells neither that it is closed nor an error, what it tells and
-/// what would refuse calls there are one thing.
+/// A law, for which nothing is done: if a poll of an end reports neither a closed end nor an error, its
+/// report agrees with the refusals that calls there would have.
 pub fn poll_tells<M: ModuleOf>()
     ensures { PollTells M.Kind.means }
 {}
 
 /// The modules that come back of a call, each as `Some`, topmost first.
-pub(crate) type Back<M> = ArrayVec<Option<Boxed<M>>, MOST_MODULES>;
+pub(crate) type Back<M> = ArrayVec<Option<BoxedModule<M>>, MOST_MODULES>;
 
-/// What refuses every call: a closed end.
+/// The refusal of a close: a closed end.
 fn closed_refusal<M: ModuleOf>(chain: &Chain<M>, end: End) -> Option<Refusal>
     ensures { result ≡ first_that_holds (closed_refusals chain.now.image end) }
 {
@@ -54,7 +56,7 @@ fn closed_refusal<M: ModuleOf>(chain: &Chain<M>, end: End) -> Option<Refusal>
     Some(Refusal::Closed)
 }
 
-/// Which errors a call looks at: that of the read side, and that of the write side.
+/// Whether a call looks at the error of the read side, and whether at that of the write side.
 fn errors_looked_at<P>(request: &Request<P>) -> (bool, bool)
     ensures { result ≡ errors_looked_at request.now }
 {
@@ -75,7 +77,8 @@ fn errors_looked_at<P>(request: &Request<P>) -> (bool, bool)
     }
 }
 
-/// The refusal by an error that came up: that of the read side before that of the write side, where each is looked at.
+/// The refusal by an error that came up: that of the read side before that of the write side, where each is
+/// looked at.
 fn error_refusal(looks: (bool, bool), rd: Option<Errno>, wr: Option<Errno>) -> Option<Refusal>
     ensures { result ≡ first_that_holds (error_refusals looks rd wr) }
 {
@@ -88,11 +91,12 @@ fn error_refusal(looks: (bool, bool), rd: Option<Errno>, wr: Option<Errno>) -> O
     }
 }
 
-/// What refuses every call but a close: a closed end, a broken stream, an error that came up and that the call looks at.
+/// The refusal that every call but a close, a take and a poll shares: a closed end, a broken stream, an error
+/// that came up and that the call looks at.
 pub(crate) fn common_refusal<M: ModuleOf>(
     chain: &Chain<M>,
     end: End,
-    request: &Request<Boxed<M>>,
+    request: &Request<BoxedModule<M>>,
 ) -> Option<Refusal>
     ensures { result ≡ first_that_holds (common_refusals chain.now.image end request.now) }
 {
@@ -106,11 +110,11 @@ pub(crate) fn common_refusal<M: ModuleOf>(
     error_refusal(errors_looked_at(request), state.rd_errno, state.wr_errno)
 }
 
-/// The first refusal of a call's own that holds.
+/// The first of a call's own refusals that holds.
 fn own_refusal<M: ModuleOf>(
     chain: &Chain<M>,
     end: End,
-    request: &Request<Boxed<M>>,
+    request: &Request<BoxedModule<M>>,
 ) -> Option<Refusal>
     ensures { result ≡ first_that_holds (own_refusals M.Kind.means chain.now.image end request.now) }
 {
@@ -141,7 +145,7 @@ fn own_refusal<M: ModuleOf>(
 pub(crate) fn first_refusal<M: ModuleOf>(
     chain: &Chain<M>,
     end: End,
-    request: &Request<Boxed<M>>,
+    request: &Request<BoxedModule<M>>,
 ) -> Option<Refusal>
     ensures { result ≡ refusal_of M.Kind.means chain.now.image end request.now }
 {
@@ -177,7 +181,11 @@ fn changes_no_queue<P>(request: &Request<P>) -> bool
 }
 
 /// Whether a call has nothing to send, or finds nothing to take.
-fn has_nothing_to_do<M: ModuleOf>(chain: &Chain<M>, end: End, request: &Request<Boxed<M>>) -> bool
+fn has_nothing_to_do<M: ModuleOf>(
+    chain: &Chain<M>,
+    end: End,
+    request: &Request<BoxedModule<M>>,
+) -> bool
     ensures { result ≡ has_nothing_to_do chain.now.image end request.now }
 {
     match request {
@@ -192,7 +200,11 @@ fn has_nothing_to_do<M: ModuleOf>(chain: &Chain<M>, end: End, request: &Request<
 }
 
 /// Whether no service follows a call, as it changes no queue or has nothing to do.
-fn needs_no_service<M: ModuleOf>(chain: &Chain<M>, end: End, request: &Request<Boxed<M>>) -> bool
+fn needs_no_service<M: ModuleOf>(
+    chain: &Chain<M>,
+    end: End,
+    request: &Request<BoxedModule<M>>,
+) -> bool
     ensures { result ≡ needs_no_service chain.now.image end request.now }
 {
     changes_no_queue(request) || has_nothing_to_do(chain, end, request)
@@ -205,20 +217,20 @@ fn awaits_answer<P>(request: &Request<P>) -> bool
     matches!(request, Request::Str { .. })
 }
 
-/// Breaks the chain, as memory was wanting after a change.
-fn broken<M: ModuleOf, A: Replied>(chain: &mut Chain<M>) -> Answered<A>
+/// Breaks the chain, as memory ran out after a change.
+fn broken<M: ModuleOf, A: ReplyForm>(chain: &mut Chain<M>) -> StepResult<A>
     ensures answer { result.answer ≡ Answer.Broke }
     ensures moves { result.moves ≡ [] }
     ensures looks { result.looks ≡ 0 }
     ensures image { chain.new.image ≡ record chain.old.image { broken = true } }
 {
     chain.break_off();
-    Answered::broke()
+    StepResult::broke()
 }
 
 /// Runs services after a call was begun, until no queue must move. On a broken chain there are none.
-fn finish<M: ModuleOf, A: Replied>(chain: &mut Chain<M>, end: End, reply: A) -> Answered<A>
-    ensures finishes { Finishes M.Kind.means end (begun chain.old.image (A.says reply)) result.answer result.moves [] chain.new.image }
+fn finish<M: ModuleOf, A: ReplyForm>(chain: &mut Chain<M>, end: End, reply: A) -> StepResult<A>
+    ensures finishes { Finishes M.Kind.means end (effect chain.old.image (A.says reply)) result.answer result.moves [] chain.new.image }
     ensures broken { result.answer ≡ Answer.Broke → chain.old.image.broken ≡ false }
     ensures still { NoneMay M.Kind.means chain.old.image → result.answer ≢ Answer.Broke }
     ensures looks { IsLooked result.answer result.moves result.looks }
@@ -226,10 +238,10 @@ fn finish<M: ModuleOf, A: Replied>(chain: &mut Chain<M>, end: End, reply: A) -> 
     ensures bound { IsCalm M.Kind.means → IsBounded chain.old.image result.answer result.moves result.looks chain.new.image }
 {
     if chain.is_broken() {
-        return Answered::done(reply, Settled::none());
+        return StepResult::done(reply, Settled::none());
     }
     match chain.settle() {
-        Ok(settled) => Answered::done(reply, settled),
+        Ok(settled) => StepResult::done(reply, settled),
         Err(_) => {
             drop(reply);
             broken(chain)
@@ -237,7 +249,7 @@ fn finish<M: ModuleOf, A: Replied>(chain: &mut Chain<M>, end: End, reply: A) -> 
     }
 }
 
-/// The answer to an ioctl that a head has kept, and an equal one. Refused for want of memory alone.
+/// The answer to an ioctl that a head has kept, and an equal one. Fails only when memory runs out.
 fn answer_of(alloc: Global, kept: &Option<BoxedMessage>) -> Result<Acknowledged, NoMem>
     ensures { IfOk result (λ answer. answer ≡ acknowledged kept.now) }
 {
@@ -249,9 +261,9 @@ fn answer_of(alloc: Global, kept: &Option<BoxedMessage>) -> Result<Acknowledged,
 
 /// Runs services after an ioctl was sent, until no queue must move, and takes its answer.
 #[inline(never)]
-fn finish_ioctl<M: ModuleOf, A: Replied>(chain: &mut Chain<M>, end: End) -> Answered<A>
+fn finish_ioctl<M: ModuleOf, A: ReplyForm>(chain: &mut Chain<M>, end: End) -> StepResult<A>
     requires { chain.old.image.broken ≡ false }
-    ensures finishes { Finishes M.Kind.means end (begun_ioctl chain.old.image) result.answer result.moves [] chain.new.image }
+    ensures finishes { Finishes M.Kind.means end (effect_ioctl chain.old.image) result.answer result.moves [] chain.new.image }
     ensures looks { IsLooked result.answer result.moves result.looks }
     ensures given { AreGiven false result.answer result.looks chain.new.run.given }
     ensures bound { IsCalm M.Kind.means → IsBounded chain.old.image result.answer result.moves result.looks chain.new.image }
@@ -265,20 +277,20 @@ fn finish_ioctl<M: ModuleOf, A: Replied>(chain: &mut Chain<M>, end: End) -> Answ
         Err(_) => return broken(chain),
     };
     let answer = acknowledged(chain.end_ioctl(end).map(BoxedMessage::into_message));
-    Answered::done(
+    StepResult::done(
         A::new(Reply::Str { answer }, Reply::Str { answer: twin }),
         settled,
     )
 }
 
 /// Begins and finishes a call that none of the refusals 1 to 9 and 11 refuses.
-pub(crate) fn perform<M: ModuleOf, A: Replied>(
+pub(crate) fn perform<M: ModuleOf, A: ReplyForm>(
     chain: &mut Chain<M>,
     end: End,
-    request: Request<Boxed<M>>,
+    request: Request<BoxedModule<M>>,
     back: &mut Back<M>,
-) -> Answered<A>
-    requires kept { IsKept M.Kind.means chain.old.image }
+) -> StepResult<A>
+    requires kept { IsWholeStream M.Kind.means chain.old.image }
     requires unrefused { refusal_of M.Kind.means chain.old.image end request ≡ None }
     requires empty { back.old.items ≡ [] }
     ensures answers { Answers M.Kind.means chain.old.image end request result.answer result.moves (out_of M.Kind.means chain.old.image end request result.answer) chain.new.image }
@@ -286,44 +298,44 @@ pub(crate) fn perform<M: ModuleOf, A: Replied>(
     ensures memory { takes_no_memory_at chain.old.image end request ≡ true → wants_memory result.answer ≡ false }
     ensures still { BreaksNone M.Kind.means chain.old.image end request result.answer }
     ensures looks { IsLooked result.answer result.moves result.looks }
-    ensures given { AreGiven (needs_no_service chain.old.image end request || (begun_of M.Kind.means chain.old.image end request).image.broken) result.answer result.looks chain.new.run.given }
-    ensures bound { IsCalm M.Kind.means → IsBounded (begun_of M.Kind.means chain.old.image end request).image result.answer result.moves result.looks chain.new.image }
+    ensures given { AreGiven (needs_no_service chain.old.image end request || (effect_of M.Kind.means chain.old.image end request).image.broken) result.answer result.looks chain.new.run.given }
+    ensures bound { IsCalm M.Kind.means → IsBounded (effect_of M.Kind.means chain.old.image end request).image result.answer result.moves result.looks chain.new.image }
 {
     let is_quiet = needs_no_service(chain, end, &request);
     let awaits = awaits_answer(&request);
     match begin::<M, A>(chain, end, request, back) {
-        Ok(reply) if is_quiet => Answered::done(reply, Settled::none()),
+        Ok(reply) if is_quiet => StepResult::done(reply, Settled::none()),
         Ok(reply) if awaits => {
             drop(reply);
             finish_ioctl(chain, end)
         }
         Ok(reply) => finish(chain, end, reply),
-        Err(ChainFault::NoMem) => Answered::refused(Refusal::NoMemory),
-        Err(ChainFault::Broken) => Answered::broke(),
+        Err(ChainFault::NoMem) => StepResult::refused(Refusal::NoMemory),
+        Err(ChainFault::Broken) => StepResult::broke(),
     }
 }
 
-/// One call, refused or begun and finished, with the modules that come back.
-pub(crate) fn answer<M: ModuleOf, A: Replied>(
+/// Makes one call: it is refused, or begun and finished. Its modules come back.
+pub(crate) fn answer<M: ModuleOf, A: ReplyForm>(
     chain: &mut Chain<M>,
     end: End,
-    request: Request<Boxed<M>>,
+    request: Request<BoxedModule<M>>,
     back: &mut Back<M>,
-) -> Answered<A>
-    requires kept { IsKept M.Kind.means chain.old.image }
+) -> StepResult<A>
+    requires kept { IsWholeStream M.Kind.means chain.old.image }
     requires empty { back.old.items ≡ [] }
     ensures answers { Answers M.Kind.means chain.old.image end request result.answer result.moves (out_of M.Kind.means chain.old.image end request result.answer) chain.new.image }
     ensures back { back.new.items ≡ back_of M.Kind.means chain.old.image end request result.answer }
     ensures memory { takes_no_memory_at chain.old.image end request ≡ true → wants_memory result.answer ≡ false }
     ensures still { BreaksNone M.Kind.means chain.old.image end request result.answer }
     ensures looks { IsLooked result.answer result.moves result.looks }
-    ensures given { AreGiven (needs_no_service chain.old.image end request || (begun_of M.Kind.means chain.old.image end request).image.broken) result.answer result.looks chain.new.run.given }
-    ensures bound { IsCalm M.Kind.means → IsBounded (begun_of M.Kind.means chain.old.image end request).image result.answer result.moves result.looks chain.new.image }
+    ensures given { AreGiven (needs_no_service chain.old.image end request || (effect_of M.Kind.means chain.old.image end request).image.broken) result.answer result.looks chain.new.run.given }
+    ensures bound { IsCalm M.Kind.means → IsBounded (effect_of M.Kind.means chain.old.image end request).image result.answer result.moves result.looks chain.new.image }
 {
     match first_refusal(chain, end, &request) {
         Some(refusal) => {
             *back = pushed(request);
-            Answered::refused(refusal)
+            StepResult::refused(refusal)
         }
         None => perform(chain, end, request, back),
     }

@@ -1,51 +1,52 @@
-//! What becomes of a call, and of a message that comes in.
+//! The outcome of a call, and of a message that comes in.
 ghost use Rattle.std.specs.Prelude.{◌≡◌};
-ghost use Rattle.strm_head.specs.Begin.{pushed_of};
+ghost use Rattle.strm_head.specs.Effects.{pushed_of};
 
-use crate::answered::Answered;
 use crate::call::Back;
+use crate::step_result::StepResult;
 use arrayvec::ArrayVec;
-use strm_call::{Answer, Request};
 use strm_chain::{Looks, MOST_MODULES, Moves};
-use strm_module::{Boxed, ModuleOf};
+use strm_head_calls::{Answer, Request};
+use strm_module::{BoxedModule, ModuleOf};
 use strm_msg::Message;
 
-/// What became of a call.
+/// The outcome of a call.
 #[derive(Drop)]
 pub struct Outcome<M: ModuleOf> {
     /// The answer.
     pub answer: Answer,
     /// The modules that come back, each as `Some`: that of a push that was refused, or those that a
     /// pop or a close has taken out, topmost first, also where the stream then broke.
-    pub back: ArrayVec<Option<Boxed<M>>, MOST_MODULES>,
+    pub back: ArrayVec<Option<BoxedModule<M>>, MOST_MODULES>,
     /// The places that moved before the stream was quiet again. Only a call that is done has any.
     pub moves: Moves,
-    /// How many places service looked at, each taken out of the run queue: u64::MAX if more, and 0
+    /// The number of places that service looked at, each taken out of the run queue: u64::MAX if more, and 0
     /// where the call is not done.
     pub looks: u64,
 }
 
-/// What became of a message that came in from a line.
+/// The outcome of a message that came in from a line.
 #[derive(Drop)]
 pub enum Arrived {
     /// It was taken.
     Taken {
         /// The places that moved before the stream was quiet again.
         moves: Moves,
-        /// How many places service looked at.
+        /// The number of places that service looked at.
         looks: Looks,
     },
     /// It was not taken, and nothing was changed: the driver is neither line nor wire, the end is closed, the
-    /// stream is broken, or the list of what came in is full in the band of an ordinary message. Here it is again.
+    /// stream is broken, or the list of messages that came in is full in the band of an ordinary message.
+    /// Here it is again.
     Full(Message),
-    /// It was not taken for want of memory, and nothing was changed. Here it is again.
+    /// It was not taken, as memory ran out, and nothing was changed. Here it is again.
     NoMem(Message),
     /// It was taken, and then memory ran out: the stream is broken from then on.
     Broke,
 }
 
 /// The module of a push, if this is one.
-pub(crate) fn pushed<M: ModuleOf>(request: Request<Boxed<M>>) -> Back<M>
+pub(crate) fn pushed<M: ModuleOf>(request: Request<BoxedModule<M>>) -> Back<M>
     ensures { result.items ≡ pushed_of request }
 {
     let mut back = ArrayVec::new();
@@ -59,8 +60,8 @@ pub(crate) fn pushed<M: ModuleOf>(request: Request<Boxed<M>>) -> Back<M>
 }
 
 impl<M: ModuleOf> Outcome<M> {
-    /// What a call answered, with the modules that come back.
-    pub(crate) fn of(answered: Answered, back: Back<M>) -> Outcome<M>
+    /// Makes the outcome of a call from its answer and the modules that come back.
+    pub(crate) fn of(answered: StepResult, back: Back<M>) -> Outcome<M>
         ensures answer { result.answer ≡ answered.answer }
         ensures moves { result.moves ≡ answered.moves }
         ensures back { result.back ≡ back }

@@ -2,55 +2,55 @@
 ghost use Rattle.std.specs.Prelude.{◌≡◌, ◌↔◌, ◌<◌, true, false, [], option_map, option_copied, IsOk, IsErrOf, IfOk, OnErr};
 ghost use Rattle.strm_msg.specs.Kind.{is_from_line};
 ghost use Rattle.strm_msg.specs.declared.words.End.TheVariants as Ends;
-ghost use Rattle.strm_qpair.specs.End.{pair_at};
-ghost use Rattle.strm_ends.specs.Image.{end_of, fresh};
-ghost use Rattle.strm_ends.specs.Order.{IsOrdered};
-ghost use Rattle.strm_call.specs.Setup.{are_marks};
-ghost use Rattle.strm_ioctl.specs.Names.{names_of};
-ghost use Rattle.strm_ioctl.specs.Outside.{first_output};
-ghost use Rattle.strm_call.specs.declared.request.Request.TheVariants as Requests;
-ghost use Rattle.strm_call.specs.declared.event.Event.TheVariants as Events;
-ghost use Rattle.strm_head.specs.Begin.{refusal_of, begun_of, takes_no_memory_at, back_of, out_of, wants_memory, BreaksNone};
+ghost use Rattle.strm_chain_end.specs.End.{pair_at};
+ghost use Rattle.strm_chain_ends.specs.Image.{end_of, fresh};
+ghost use Rattle.strm_chain_ends.specs.Order.{IsOrdered};
+ghost use Rattle.strm_head_calls.specs.Setup.{are_marks};
+ghost use Rattle.strm_head_ioctl.specs.Names.{names_of};
+ghost use Rattle.strm_head_ioctl.specs.Outside.{first_output};
+ghost use Rattle.strm_head_calls.specs.declared.request.Request.TheVariants as Requests;
+ghost use Rattle.strm_head_calls.specs.declared.event.Event.TheVariants as Events;
+ghost use Rattle.strm_head.specs.Effects.{refusal_of, effect_of, takes_no_memory_at, back_of, out_of, wants_memory, BreaksNone};
 ghost use Rattle.strm_module.specs.Calm.{IsCalm};
 ghost use Rattle.strm_module.specs.Kinds.{AnswersStay};
-ghost use Rattle.strm_head.specs.Answered.{IsLooked, IsBounded};
+ghost use Rattle.strm_head.specs.StepResult.{IsLooked, IsBounded};
 ghost use Rattle.strm_head.specs.Step.{can_arrive, Step};
 ghost use Rattle.strm_head.specs.Arrive.{Arrives};
 
-use crate::answered::Answered;
 use crate::arriving::{arrive, can_arrive};
 use crate::asking::{refusal_of_push, refusal_of_putmsg, refusal_of_putpmsg};
 use crate::call::{answer, first_refusal};
 use crate::fault::NewFault;
 use crate::outcome::{Arrived, Outcome};
+use crate::step_result::StepResult;
 use arrayvec::ArrayVec;
 use std::alloc::Global;
 use std::marker::Model;
-use strm_call::{Name, Parts, Priority, PutFlag, Refusal, Replied, Request};
 use strm_chain::{Chain, Driver, MOST_MODULES};
-use strm_ioctl::{first_output, names_of};
-use strm_module::{Boxed, ModuleOf, Shape};
+use strm_head_calls::{Name, Parts, Priority, PutFlag, Refusal, ReplyForm, Request};
+use strm_head_ioctl::{first_output, names_of};
+use strm_module::{BoxedModule, ModuleOf, Shape};
 use strm_msg::{End, Marks, Message};
 
 /// A stream: a driver with its ends, the modules on each of them, and the stream heads.
 ///
-/// A contract sees its image: the driver, whether the stream is broken, and for each end whether it
-/// is open, its lists with their marks, what its head remembers, and its modules as shapes with two
-/// lists. Between calls no queue must move, unless the stream is broken.
+/// A contract sees its image: the driver, whether the stream is broken, and the state of each end. That is
+/// whether the end is open, its lists with their marks, the record of its head, and its modules as shapes
+/// with two lists. Between calls no queue must move, unless the stream is broken.
 #[derive(Drop)]
 pub struct Stream<M: ModuleOf> {
     chain: Box<Chain<M>>,
 }
 
 impl<M: ModuleOf> Model for Stream<M> {
-    ghost use Rattle.strm_ends.specs.Image.{Image};
-    ghost use Rattle.strm_head.specs.Inside.{IsKept};
+    ghost use Rattle.strm_chain_ends.specs.Image.{Image};
+    ghost use Rattle.strm_head.specs.Inside.{IsWholeStream};
 
     ghost Value = { Image M.Kind };
 
     ghost view = { λ s. s.chain.value.image };
 
-    ghost invariant = { λ s. IsKept M.Kind.means s.chain.value.image };
+    ghost invariant = { λ s. IsWholeStream M.Kind.means s.chain.value.image };
 }
 
 /// The marks, from the high one and the low one.
@@ -66,11 +66,11 @@ fn marks_of(pair: (u32, u32)) -> Result<Marks, NewFault>
 }
 
 impl<M: ModuleOf> Stream<M> {
-    /// A stream that was just opened, with the marks of its heads and of its driver's lists as
-    /// `(high, low)`, in bytes. It has no modules, and each end that the driver has is open.
+    /// A stream that was just opened, with the marks of its heads and of its driver's lists as `(high, low)`,
+    /// in bytes. It has no modules, and each end that the driver has is open.
     ///
-    /// Refused with `Marks` exactly where a low mark is not below its high one, which is looked at
-    /// first, and with `NoMem` for want of memory.
+    /// Refused with `Marks` exactly where a low mark is not below its high one, which is looked at first, and
+    /// with `NoMem` when memory runs out.
     pub fn new(
         alloc: Global,
         driver: Driver,
@@ -101,8 +101,9 @@ impl<M: ModuleOf> Stream<M> {
         self.chain.is_open(end)
     }
 
-    /// Whether memory ran out after a change, so that every later call but a close is refused. Where it did not, no message goes round
-    /// a circle, if no message changes what the kinds answer.
+    /// Whether memory ran out after a change, so that every later call but a close and a poll is refused.
+    /// Where it did not, no message goes round a circle, if no message changes on which sides the kinds
+    /// answer.
     pub fn is_broken(&self) -> bool
         ensures value { result ≡ self.now.broken }
         ensures ordered { result ≡ false → AnswersStay M.Kind.means → IsOrdered M.Kind.means self.now }
@@ -117,29 +118,30 @@ impl<M: ModuleOf> Stream<M> {
         self.chain.driver()
     }
 
-    /// The first message that was sent down to a wire, which the next take gives. None where the driver is no wire.
+    /// The first message that was sent down to a wire. The next take gives it. None where the driver is no
+    /// wire.
     pub fn first_output(&self, end: End) -> Option<&Message>
         ensures { option_copied result ≡ first_output self.now end }
     {
         first_output(&self.chain, end)
     }
 
-    /// What would refuse a call if it were made now: the first refusal that holds, but for want of
-    /// memory. Nothing is done, and no memory is taken.
-    pub fn refusal(&self, end: End, request: &Request<Boxed<M>>) -> Option<Refusal>
+    /// The refusal that the call would have if it were made now: the first that holds, but for out of memory.
+    /// Nothing is done, and no memory is taken.
+    pub fn refusal(&self, end: End, request: &Request<BoxedModule<M>>) -> Option<Refusal>
         ensures { result ≡ refusal_of M.Kind.means self.now end request.now }
     {
         first_refusal(&self.chain, end, request)
     }
 
-    /// What would refuse a putmsg of these parts, as `refusal`. It looks at their lengths alone.
+    /// The refusal that a putmsg of these parts would have, as `refusal`. It looks at their lengths alone.
     pub fn putmsg_refusal(&self, end: End, parts: &Parts, flag: Priority) -> Option<Refusal>
         ensures { result ≡ refusal_of M.Kind.means self.now end (Requests.Putmsg flag parts.now) }
     {
         refusal_of_putmsg(&self.chain, end, parts, flag)
     }
 
-    /// What would refuse a putpmsg of these parts, as `putmsg_refusal`.
+    /// The refusal that a putpmsg of these parts would have, as `putmsg_refusal`.
     pub fn putpmsg_refusal(
         &self,
         end: End,
@@ -152,7 +154,7 @@ impl<M: ModuleOf> Stream<M> {
         refusal_of_putpmsg(&self.chain, end, parts, band, flag)
     }
 
-    /// What would refuse a push of a module of this shape, as `refusal`.
+    /// The refusal that a push of a module of this shape would have, as `refusal`.
     pub fn push_refusal(&self, end: End, shape: &Shape<M::Kind>) -> Option<Refusal>
         ensures { result ≡ refusal_of M.Kind.means self.now end (Requests.Push shape.now) }
     {
@@ -175,59 +177,60 @@ impl<M: ModuleOf> Stream<M> {
         names_of(&self.chain, end)
     }
 
-    /// One call on an end: a step of the stream, with its answer, the moves that it made, and the
-    /// modules that come back.
+    /// Makes one call on an end: a step of the stream. The outcome has its answer, the moves that it made,
+    /// and the modules that come back.
     ///
-    /// A refusal is the first that holds, in the order of `Refusal`, and leaves the stream as it was.
-    /// An end that the driver lacks is never open. Calls that change no queue make no move, and those
-    /// of them that only tell or set something never want for memory; nor do calls that have nothing to
-    /// do, as a read of no bytes, and a peek that shows nothing. Where no place may move once a call has
-    /// begun, one that sends no message breaks nothing. A push, a pop and a close have put in or taken
-    /// out their modules before memory can be wanting.
-    pub fn apply(&mut self, end: End, request: Request<Boxed<M>>) -> Outcome<M>
+    /// A refusal is the first that holds, in the order of `Refusal`, and leaves the stream as it was. An end
+    /// that the driver lacks is never open. Calls that change no queue make no move. Those of them that only
+    /// say or set something never run out of memory. Nor do calls that have nothing to do, as a read of no
+    /// bytes, and a peek that shows nothing. Where no place may move once a call has begun, one that sends no
+    /// message breaks nothing. A push, a pop and a close put in or take out their modules before memory can
+    /// run out.
+    pub fn apply(&mut self, end: End, request: Request<BoxedModule<M>>) -> Outcome<M>
         ensures step { Step M.Kind.means self.old end (Events.Asked request) result.answer result.moves (out_of M.Kind.means self.old end request result.answer) self.new }
         ensures back { result.back.items ≡ back_of M.Kind.means self.old end request result.answer }
         ensures looks { IsLooked result.answer result.moves result.looks }
-        ensures bound { IsCalm M.Kind.means → IsBounded (begun_of M.Kind.means self.old end request).image result.answer result.moves result.looks self.new }
+        ensures bound { IsCalm M.Kind.means → IsBounded (effect_of M.Kind.means self.old end request).image result.answer result.moves result.looks self.new }
         ensures memory { takes_no_memory_at self.old end request ≡ true → wants_memory result.answer ≡ false }
         ensures still { BreaksNone M.Kind.means self.old end request result.answer }
     {
         let mut back = ArrayVec::new();
-        let answered: Answered = self.call(end, request, &mut back);
+        let answered: StepResult = self.call(end, request, &mut back);
         Outcome::of(answered, back)
     }
 
-    /// One call on an end, as `apply` makes it, whose modules come back in `back`: each as `Some`, topmost
-    /// first. With `Twins` there is an equal answer too, as for a record of the call: its memory was found before the call changed
-    /// anything; for an ioctl, when its answer had come.
-    pub fn call<A: Replied>(
+    /// Makes one call on an end, as `apply` makes it. Its modules come back in `back`: each as `Some`,
+    /// topmost first. With `ReplyAndCopy` there is an equal answer too, as for a record of the call. Its memory was
+    /// found before the call changed anything; for an ioctl, when its answer had come.
+    pub fn call<A: ReplyForm>(
         &mut self,
         end: End,
-        request: Request<Boxed<M>>,
-        back: &mut ArrayVec<Option<Boxed<M>>, MOST_MODULES>,
-    ) -> Answered<A>
+        request: Request<BoxedModule<M>>,
+        back: &mut ArrayVec<Option<BoxedModule<M>>, MOST_MODULES>,
+    ) -> StepResult<A>
         requires { back.old.items ≡ [] }
         ensures step { Step M.Kind.means self.old end (Events.Asked request) result.answer result.moves (out_of M.Kind.means self.old end request result.answer) self.new }
         ensures back { back.new.items ≡ back_of M.Kind.means self.old end request result.answer }
         ensures looks { IsLooked result.answer result.moves result.looks }
-        ensures bound { IsCalm M.Kind.means → IsBounded (begun_of M.Kind.means self.old end request).image result.answer result.moves result.looks self.new }
+        ensures bound { IsCalm M.Kind.means → IsBounded (effect_of M.Kind.means self.old end request).image result.answer result.moves result.looks self.new }
         ensures memory { takes_no_memory_at self.old end request ≡ true → wants_memory result.answer ≡ false }
         ensures still { BreaksNone M.Kind.means self.old end request result.answer }
     {
         answer(&mut self.chain, end, request, back)
     }
 
-    /// Whether a message can come in from a line now, at end A: the driver is a line, the end is open, the stream is not broken, and
-    /// an ordinary message finds its band not full in the list of what came in.
+    /// Whether a message can come in from a line now, at end A: the driver is a line or a wire, the end is
+    /// open, the stream is not broken, and an ordinary message finds its band not full in the list of
+    /// messages that came in.
     pub fn can_arrive(&self, m: &Message) -> bool
         ensures { result ≡ can_arrive self.now Ends.A m.now }
     {
         can_arrive(&self.chain, m)
     }
 
-    /// A message comes in from a line, at end A: a step of the stream, unless it comes back. An ordinary
-    /// message waits in the list of what came in, a high one goes up at once. To be called with a message of a
-    /// kind that comes from a line (`Message::from_line`).
+    /// Lets a message come in from a line, at end A: a step of the stream, unless it comes back. An ordinary
+    /// message waits in the list of messages that came in, a high one goes up at once. To be called with a
+    /// message of a kind that comes from a line (`Message::from_line`).
     pub fn arrive(&mut self, m: Message) -> Arrived
         requires { is_from_line m.kind ≡ true }
         ensures { Arrives M.Kind.means self.old m result self.new }

@@ -6,7 +6,7 @@ use Rattle.strm_msg.specs.declared.kind.MsgKind.{MsgKind}
 use Rattle.strm_msg.specs.declared.kind.MsgKind.TheVariants.{MData, MProto, MIoctl, MFlush}
 use Rattle.strm_msg.specs.declared.words.Side.{Side}
 use Rattle.strm_msg.specs.declared.words.Side.TheVariants.{Rd, Wr}
-use Rattle.strm_bytes.specs.Bytes.{rest_len}
+use Rattle.strm_module.specs.Bytes.{rest_len}
 use Rattle.strm_module.specs.Kinds.{Action, AnswersStay, passed_on}
 use Rattle.strm_module.specs.Builtin.{line_splits, table_action, crnl_action, line_action, count_action, band_action, tee_action, mute_action, split_action, ordinary_action, flushed_kind, builtin_acts, builtin_answers, builtin}
 use Rattle.strm_module.specs.declared.kind.Kind.{Kind}

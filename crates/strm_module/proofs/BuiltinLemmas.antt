@@ -5,7 +5,7 @@ use Rattle.strm_msg.specs.Message.{Msg}
 use Rattle.strm_msg.specs.declared.kind.MsgKind.{MsgKind}
 use Rattle.strm_msg.specs.declared.kind.MsgKind.TheVariants.{MData}
 use Rattle.strm_msg.specs.declared.words.Side.TheVariants.{Rd}
-use Rattle.strm_bytes.specs.Bytes.{rest_len, whole_lines}
+use Rattle.strm_module.specs.Bytes.{rest_len, whole_lines}
 use Rattle.strm_module.specs.Kinds.{OutList, Action, all_go_up}
 use Rattle.strm_module.specs.Builtin.{line_splits, crnl_action, line_action, ordinary_action, builtin_acts}
 use Rattle.strm_module.specs.declared.kind.TheConstants.{MOST_KEPT}

@@ -1,13 +1,14 @@
 -- What a module makes of a calm message is calm, and sets no more options: for kinds of any calm meaning, and for those built in.
 use Rattle.std.proofs.Common.{◌≡◌, ◌≤◌, ◌==◌, ◌&&◌, ℕ, Bool, true, false, cond, nat_lt, None, List, [], ◌∷◌, ◌++◌, length, take, drop, option_map, unwrap_or, refl, ap, arith}
 use Rattle.std.proofs.lemmas.List.Sums.{sum_by-cons}
+use Rattle.std.proofs.lemmas.Bool.{and_from}
 use Rattle.strm_msg.specs.Kind.{is_high}
 use Rattle.strm_msg.specs.Message.{Msg, Part, part_len, ack_msg, data_msg}
 use Rattle.strm_msg.specs.declared.kind.MsgKind.{MsgKind}
 use Rattle.strm_msg.specs.declared.kind.MsgKind.TheVariants.{MData, MProto, MIoctl, MFlush, MError}
 use Rattle.strm_msg.specs.declared.words.Side.{Side}
 use Rattle.strm_msg.specs.declared.words.Side.TheVariants.{Rd, Wr}
-use Rattle.strm_bytes.specs.Bytes.{mapped, with_cr, without_cr, rest_len, whole_lines}
+use Rattle.strm_module.specs.Bytes.{mapped, with_cr, without_cr, rest_len, whole_lines}
 use Rattle.strm_module.specs.Calm.{is_calm, are_calm, puts_calm, options_by, options_of, options_sent, puts_options, IsCalm}
 use Rattle.strm_module.specs.Builtin.{line_splits, table_action, crnl_action, line_action, count_action, band_action, tee_action, mute_action, split_action, ordinary_action, builtin_acts, builtin_answers, builtin}
 use Rattle.strm_module.specs.Kinds.{OutList, Action, Acts, Meaning, serving}
@@ -50,11 +51,6 @@ put_keeps means s side m b calm =
 abbrev AreCalm : OutList → Type 0
 AreCalm outs = are_calm outs ≡ true
 
--- a list of one message, by whether that one is calm
-pub one_calm : (calm : Bool) → calm ≡ true → (calm && true) ≡ true
-one_calm true h = refl
-one_calm false h = h
-
 two_calm : (calm : Bool) → calm ≡ true → (calm && (calm && true)) ≡ true
 two_calm true h = refl
 two_calm false h = h
@@ -68,16 +64,16 @@ action_if_calm true x y p q = p
 action_if_calm false x y p q = q
 
 table_calm : (table : List ℕ) (side : Side) (kind : MsgKind) (m : Msg) → is_calm m.kind ≡ true → AreCalm (table_action table side kind m).outs
-table_calm table Rd kind m h = one_calm (is_calm m.kind) h
+table_calm table Rd kind m h = and_from (is_calm m.kind) true h refl
 table_calm table Wr (MIoctl id cmd) m h =
-    action_if_calm (cmd == 3) _ _ refl (one_calm (is_calm m.kind) h)
-table_calm table Wr kind m h = one_calm (is_calm m.kind) h
+    action_if_calm (cmd == 3) _ _ refl (and_from (is_calm m.kind) true h refl)
+table_calm table Wr kind m h = and_from (is_calm m.kind) true h refl
 
 crnl_calm : (side : Side) (kind : MsgKind) (m : Msg) → is_calm m.kind ≡ true → AreCalm (crnl_action side kind m).outs
-crnl_calm Rd MData m h = one_calm (is_calm m.kind) h
-crnl_calm Wr MData m h = one_calm (is_calm m.kind) h
-crnl_calm Rd kind m h = one_calm (is_calm m.kind) h
-crnl_calm Wr kind m h = one_calm (is_calm m.kind) h
+crnl_calm Rd MData m h = and_from (is_calm m.kind) true h refl
+crnl_calm Wr MData m h = and_from (is_calm m.kind) true h refl
+crnl_calm Rd kind m h = and_from (is_calm m.kind) true h refl
+crnl_calm Wr kind m h = and_from (is_calm m.kind) true h refl
 
 line_splits_calm : (bytes : List ℕ) → AreCalm (line_splits bytes).outs
 line_splits_calm bytes =
@@ -85,39 +81,39 @@ line_splits_calm bytes =
 
 line_calm : (partial : List ℕ) (side : Side) (kind : MsgKind) (m : Msg) → is_calm m.kind ≡ true → AreCalm (line_action partial side kind m).outs
 line_calm partial Rd MData m h =
-    action_if_calm (m.band == 0) _ _ (line_splits_calm (partial ++ unwrap_or m.dat [])) (one_calm (is_calm m.kind) h)
-line_calm partial Rd kind m h = one_calm (is_calm m.kind) h
-line_calm partial Wr kind m h = one_calm (is_calm m.kind) h
+    action_if_calm (m.band == 0) _ _ (line_splits_calm (partial ++ unwrap_or m.dat [])) (and_from (is_calm m.kind) true h refl)
+line_calm partial Rd kind m h = and_from (is_calm m.kind) true h refl
+line_calm partial Wr kind m h = and_from (is_calm m.kind) true h refl
 
 count_calm : (n : ℕ) (side : Side) (kind : MsgKind) (m : Msg) → is_calm m.kind ≡ true → AreCalm (count_action n side kind m).outs
-count_calm n Rd kind m h = one_calm (is_calm m.kind) h
+count_calm n Rd kind m h = and_from (is_calm m.kind) true h refl
 count_calm n Wr (MIoctl id cmd) m h =
-    action_if_calm (cmd == 1) _ _ refl (action_if_calm (cmd == 2) _ _ refl (one_calm (is_calm m.kind) h))
-count_calm n Wr kind m h = one_calm (is_calm m.kind) h
+    action_if_calm (cmd == 1) _ _ refl (action_if_calm (cmd == 2) _ _ refl (and_from (is_calm m.kind) true h refl))
+count_calm n Wr kind m h = and_from (is_calm m.kind) true h refl
 
 band_calm : (b : ℕ) (side : Side) (kind : MsgKind) (m : Msg) → is_calm m.kind ≡ true → AreCalm (band_action b side kind m).outs
-band_calm b Rd kind m h = one_calm (is_calm m.kind) h
-band_calm b Wr MData m h = one_calm (is_calm m.kind) h
-band_calm b Wr MProto m h = one_calm (is_calm m.kind) h
-band_calm b Wr kind m h = one_calm (is_calm m.kind) h
+band_calm b Rd kind m h = and_from (is_calm m.kind) true h refl
+band_calm b Wr MData m h = and_from (is_calm m.kind) true h refl
+band_calm b Wr MProto m h = and_from (is_calm m.kind) true h refl
+band_calm b Wr kind m h = and_from (is_calm m.kind) true h refl
 
 tee_calm : (side : Side) (kind : MsgKind) (m : Msg) → is_calm m.kind ≡ true → AreCalm (tee_action side kind m).outs
-tee_calm Rd kind m h = one_calm (is_calm m.kind) h
+tee_calm Rd kind m h = and_from (is_calm m.kind) true h refl
 tee_calm Wr MData m h = two_calm (is_calm m.kind) h
-tee_calm Wr kind m h = one_calm (is_calm m.kind) h
+tee_calm Wr kind m h = and_from (is_calm m.kind) true h refl
 
 mute_calm : (side : Side) (kind : MsgKind) (m : Msg) → is_calm m.kind ≡ true → AreCalm (mute_action side kind m).outs
-mute_calm Rd kind m h = one_calm (is_calm m.kind) h
+mute_calm Rd kind m h = and_from (is_calm m.kind) true h refl
 mute_calm Wr MData m h = refl
-mute_calm Wr kind m h = one_calm (is_calm m.kind) h
+mute_calm Wr kind m h = and_from (is_calm m.kind) true h refl
 
 split_calm : (n : ℕ) (side : Side) (kind : MsgKind) (m : Msg) → is_calm m.kind ≡ true → AreCalm (split_action n side kind m).outs
-split_calm n Rd kind m h = one_calm (is_calm m.kind) h
-split_calm n Wr MData m h = action_if_calm (nat_lt n (length (unwrap_or m.dat []))) _ _ refl (one_calm (is_calm m.kind) h)
-split_calm n Wr kind m h = one_calm (is_calm m.kind) h
+split_calm n Rd kind m h = and_from (is_calm m.kind) true h refl
+split_calm n Wr MData m h = action_if_calm (nat_lt n (length (unwrap_or m.dat []))) _ _ refl (and_from (is_calm m.kind) true h refl)
+split_calm n Wr kind m h = and_from (is_calm m.kind) true h refl
 
 acts_calm : (kind : Kind) (side : Side) (m : Msg) → is_calm m.kind ≡ true → AreCalm (ordinary_action kind side m).outs
-acts_calm Pass side m h = one_calm (is_calm m.kind) h
+acts_calm Pass side m h = and_from (is_calm m.kind) true h refl
 acts_calm (Table table) side m h = table_calm table side m.kind m h
 acts_calm CrNl side m h = crnl_calm side m.kind m h
 acts_calm (Line partial) side m h = line_calm partial side m.kind m h
@@ -159,7 +155,7 @@ action_if_keeps b true m x y p q = p
 action_if_keeps b false m x y p q = q
 
 -- data set no options, and nor do protocol messages
-data_sets_none : (b : Bool) (m : Msg) (dat : Part) → m.kind ≡ MData → options_by b m.kind dat ≡ 0
+pub data_sets_none : (b : Bool) (m : Msg) (dat : Part) → m.kind ≡ MData → options_by b m.kind dat ≡ 0
 data_sets_none b m dat at = ap (λ kind. options_by b kind dat) at
 
 table_keeps : (b : Bool) (table : List ℕ) (side : Side) (kind : MsgKind) (m : Msg) → m.kind ≡ kind → Keeps b m (table_action table side kind m).outs
@@ -247,5 +243,5 @@ serving_calm acts answers calm options =
 pub builtin_calm : IsCalm builtin
 builtin_calm =
     serving_calm builtin_acts builtin_answers
-    (λ kind side m h. action_if_calm (is_high m.kind) _ _ (one_calm (is_calm m.kind) h) (acts_calm kind side m h))
+    (λ kind side m h. action_if_calm (is_high m.kind) _ _ (and_from (is_calm m.kind) true h refl) (acts_calm kind side m h))
     (λ b kind side m. action_if_keeps b (is_high m.kind) m _ _ (same_keeps b side m) (acts_keep b kind side m))

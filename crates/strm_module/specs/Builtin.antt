@@ -1,5 +1,5 @@
--- What each of the built-in kinds makes of a message that it doesn't queue (Programmer's Guide: STREAMS,
--- "Modules" and "Message Types").
+-- The meaning of the built-in kinds: the messages that each makes of one that it doesn't queue (Programmer's
+-- Guide: STREAMS, "Modules" and "Message Types").
 use Rattle.std.specs.Prelude.{ℕ, ◌==◌, nat_lt, Bool, true, false, Some, None, List, [], ◌∷◌, ◌++◌, if◌then◌else◌, length, take, drop, option_map, unwrap_or}
 use Rattle.strm_msg.specs.Count.{one_more}
 use Rattle.strm_msg.specs.Kind.{is_high}
@@ -10,7 +10,7 @@ use Rattle.strm_msg.specs.declared.words.Side.{Side}
 use Rattle.strm_msg.specs.declared.words.Side.TheVariants.{Rd, Wr}
 use Rattle.strm_module.specs.Kinds.{OutList, Action, Acts, Meaning, serving, kept, passed_on, replied, answered}
 use Rattle.strm_module.specs.declared.kind.TheConstants.{MOST_KEPT}
-use Rattle.strm_bytes.specs.Bytes.{mapped, with_cr, without_cr, rest_len, whole_lines, rest_of_line}
+use Rattle.strm_module.specs.Bytes.{mapped, with_cr, without_cr, rest_len, whole_lines, rest_of_line}
 use Rattle.strm_module.specs.declared.kind.Kind.{Kind}
 use Rattle.strm_module.specs.declared.kind.Kind.TheVariants.{Pass, Table, CrNl, Line, Count, Band, Tee, Mute, Split}
 
@@ -33,15 +33,15 @@ crnl_action side kind m = passed_on CrNl side m
 abbrev pub lines_up : List ℕ → OutList
 lines_up bytes = if length bytes == 0 then [] else (Rd, data_msg 0 bytes) ∷ []
 
--- what a line discipline does with all that it has: whole lines go up and the rest is kept, but with
--- a rest of more than is ever kept all goes up
+-- the action of a line discipline on all that it has: whole lines go up and the rest is kept, but with a rest
+-- of more than is ever kept all goes up
 abbrev pub line_splits : List ℕ → Action Kind
 line_splits bytes =
     if nat_lt MOST_KEPT (rest_len bytes) then
     replied (Line []) (data_msg 0 bytes)
     else record { kind = Line (rest_of_line bytes); outs = lines_up (whole_lines bytes) }
 
--- data of band 0 on its way up is put behind what was kept
+-- data of band 0 on its way up is put behind the bytes that were kept
 abbrev pub line_action : List ℕ → Side → MsgKind → Msg → Action Kind
 line_action partial Rd MData m =
     if m.band == 0 then line_splits (partial ++ unwrap_or m.dat [])
@@ -73,7 +73,8 @@ abbrev pub mute_action : Side → MsgKind → Msg → Action Kind
 mute_action Wr MData m = kept Mute
 mute_action side kind m = passed_on Mute side m
 
--- data of more than n bytes on its way down goes on in two: its first n bytes, then the rest, of the same band
+-- data of more than n bytes on its way down goes on in two: its first n bytes, then the rest, of the same
+-- band
 abbrev pub split_action : ℕ → Side → MsgKind → Msg → Action Kind
 split_action n Wr MData m =
     let bytes = unwrap_or m.dat [] in
@@ -94,24 +95,25 @@ ordinary_action Tee side m = tee_action side m.kind m
 ordinary_action Mute side m = mute_action side m.kind m
 ordinary_action (Split n) side m = split_action n side m.kind m
 
--- a flush of the read side, of all bands or of band 0, empties what a line discipline keeps
+-- a flush of the read side, of all bands or of band 0, empties the partial line of a line discipline
 abbrev pub flushed_kind : Kind → MsgKind → Kind
 flushed_kind (Line partial) (MFlush true w None) = Line []
 flushed_kind (Line partial) (MFlush true w (Some band)) =
     if band == 0 then Line [] else Line partial
 flushed_kind kind m = kind
 
--- what the built-in kinds make of any message: a high one goes on as it is, along its side
+-- the actions of the built-in kinds on any message: a high one goes on as it is, along its side
 abbrev pub builtin_acts : Acts Kind
 builtin_acts kind side m =
     if is_high m.kind then passed_on (flushed_kind kind m.kind) side m
     else ordinary_action kind side m
 
--- what goes down is answered by a tee alone, and what comes up by none
+-- whether a built-in kind answers: messages that go down are answered by a tee alone, and those that come up
+-- by none
 abbrev pub builtin_answers : Kind → Side → Bool
 builtin_answers Tee Wr = true
 builtin_answers kind side = false
 
--- the built-in kinds always serve what waits
+-- the built-in kinds always serve the messages that wait
 abbrev pub builtin : Meaning Kind
 builtin = serving builtin_acts builtin_answers

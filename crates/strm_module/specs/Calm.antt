@@ -1,4 +1,5 @@
--- Messages that flush nothing on their way, and vocabularies that make no other of them, and no options for the head.
+-- Messages that flush nothing on their way, and vocabularies that make no other of them, and no options for
+-- the head.
 use Rattle.std.specs.Prelude.{◌≡◌, ◌≤◌, ◌==◌, ◌&&◌, ℕ, Bool, true, false, List, is_some, sum_by, if◌then◌else◌}
 use Rattle.std.specs.List.{list_all}
 use Rattle.strm_msg.specs.Message.{Msg, Part}
@@ -21,12 +22,13 @@ is_calm kind = true
 abbrev pub are_calm : OutList → Bool
 are_calm outs = list_all (λ out. is_calm out.1.kind) outs
 
--- what a put sends at once is calm (proofs alone cite it)
+-- whether the messages that a put sends at once are calm (proofs alone cite it)
 abbrev pub puts_calm : Put → Bool
 puts_calm (Queue m) = true
 puts_calm (Sent outs) = are_calm outs.items
 
--- how often a message sets options of a head, where ioctls that ask for it are answered with an M_SETOPTS, or are not
+-- the number of times that a message sets options of a head, where ioctls that ask for it are answered with
+-- an M_SETOPTS, or are not
 abbrev pub options_by : Bool → MsgKind → Part → ℕ
 options_by answered (MSetopts mode prot marks) dat = 1
 options_by answered (MIoctl id cmd) dat = if answered && (cmd == SETOPTS) && is_some (options_asked dat) then 1 else 0
@@ -42,20 +44,20 @@ options_held answered q = sum_by (options_of answered) q
 abbrev pub options_sent : Bool → OutList → ℕ
 options_sent answered outs = sum_by (λ out. options_of answered out.1) outs
 
--- the same of what a put queues, and of what it sends at once (proofs alone cite it)
+-- the same of the message that a put queues, and of those that it sends at once (proofs alone cite it)
 abbrev pub puts_options : Bool → Put → ℕ
 puts_options answered (Queue m) = options_of answered m
 puts_options answered (Sent outs) = options_sent answered outs.items
 
--- what the kinds of a vocabulary make of a calm message is calm, and options leave only where they came; what they send of their own
--- is calm, and no options
+-- a vocabulary whose kinds make calm messages of a calm message, with options only where options came. The
+-- messages of their own are calm, and set no options
 pub record MakesCalm {K : Type 0} (means : Meaning K) : Type 0 where
   pub calm : (kind : K) (side : Side) (m : Msg) → is_calm m.kind ≡ true → are_calm (means.acts kind side m).outs ≡ true
   pub options : (answered : Bool) (kind : K) (side : Side) (m : Msg) → options_sent answered (means.acts kind side m).outs ≤ options_of answered m
   pub own : (kind : K) (side : Side) → are_calm (means.own kind side).outs ≡ true
   pub own_options : (answered : Bool) (kind : K) (side : Side) → options_sent answered (means.own kind side).outs ≤ 0
 
--- no message, and nothing that a kind sends of its own, changes what a service would do
+-- no message, and nothing that a kind sends of its own, changes the turn of a service
 pub record IsSteady {K : Type 0} (means : Meaning K) : Type 0 where
   pub acts : (kind : K) (side other : Side) (m : Msg) → means.turn (means.acts kind side m).kind other ≡ means.turn kind other
   pub own : (kind : K) (side other : Side) → means.turn (means.own kind side).kind other ≡ means.turn kind other

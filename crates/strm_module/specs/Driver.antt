@@ -1,4 +1,5 @@
--- The drivers, the ends that they have, and where they send what comes down (Programmer's Guide: STREAMS, "Loop-Around Driver").
+-- The drivers, their ends, and the ends up which they send messages that come down (Programmer's Guide:
+-- STREAMS, "Loop-Around Driver").
 use Rattle.std.specs.Prelude.{ℕ, List, Bool, true, false, codes}
 use Rattle.strm_msg.specs.declared.words.End.{End}
 use Rattle.strm_msg.specs.declared.words.End.TheVariants.{A, B}
@@ -15,7 +16,8 @@ has_end Loop e = true
 has_end Wire A = true
 has_end Wire B = false
 
--- the end up whose read side a driver sends what came down an end, and what came in from outside
+-- the end up whose read side a driver sends messages that came down an end, and those that came in from
+-- outside
 abbrev pub partner : Driver → End → End
 partner Echo e = e
 partner Line e = e
@@ -31,22 +33,22 @@ is_line Loop = false
 is_line Line = true
 is_line Wire = true
 
--- the driver from which what comes down is taken from outside
+-- the driver from which messages that come down are taken from outside
 abbrev pub is_wire : Driver → Bool
 is_wire Echo = false
 is_wire Loop = false
 is_wire Line = false
 is_wire Wire = true
 
--- the end whose list holds what came in from a line: of a wire the far one, which has no head
+-- the end whose list holds messages that came in from a line: of a wire the far one, which has no head
 abbrev pub input_end : Driver → End
 input_end Echo = A
 input_end Loop = A
 input_end Line = A
 input_end Wire = B
 
--- whether the driver's list for an end is serviced, and what it holds goes up: that of each end, but of a wire that which holds what
--- came in, and not that which holds what is to be taken
+-- whether the driver's list for an end is serviced, and its messages go up. That holds of the list of each
+-- end, but of a wire only of that for messages that came in, not of that for messages that are to be taken
 abbrev pub is_serviced : Driver → End → Bool
 is_serviced Echo A = true
 is_serviced Echo B = false

@@ -1,4 +1,5 @@
--- What a vocabulary of kinds means, and what holds of every vocabulary (Programmer's Guide: STREAMS, "Modules").
+-- The meaning of a vocabulary of kinds, and the rules of every vocabulary (Programmer's Guide: STREAMS,
+-- "Modules").
 use Rattle.std.specs.Prelude.{◌≡◌, ℕ, Bool, true, false, List, [], ◌∷◌}
 use Rattle.std.specs.List.{list_all}
 use Rattle.strm_msg.specs.Message.{Msg, Part, ack_msg}
@@ -11,7 +12,7 @@ use Rattle.strm_module.specs.declared.turn.Turn.TheVariants.{Serves}
 abbrev pub OutList : Type 0
 OutList = List (Side × Msg)
 
--- what a module sends: messages in the order in which they leave
+-- the messages that a module sends, in the order in which they leave
 pub record Sends : Type 0 where
   pub items : OutList
 
@@ -24,24 +25,24 @@ is_up Wr = false
 abbrev pub all_go_up : OutList → Bool
 all_go_up outs = list_all (λ out. is_up out.0) outs
 
--- what a message does to a module: the kind with what it keeps afterwards, and what leaves
+-- the effect of a message on a module: the kind with its state afterwards, and the messages that leave
 pub record Action (K : Type 0) : Type 0 where
   pub kind : K
   pub outs : OutList
 
--- what the kinds of a vocabulary make of a message that is not queued
+-- the actions of the kinds of a vocabulary on a message that is not queued
 abbrev pub Acts : Type 0 → Type 0
 Acts K = K → Side → Msg → Action K
 
--- what the kinds of a vocabulary make of a message, what their service would do now on a side, what they send of their own, and
--- whether ordinary messages of a side may be answered on the other
+-- the meaning of a vocabulary: the actions of its kinds on a message, the turns of their services on a side,
+-- their own messages, and whether ordinary messages of a side may be answered on the other
 pub record Meaning (K : Type 0) : Type 0 where
   pub acts : Acts K
   pub turn : K → Side → Turn
   pub own : K → Side → Action K
   pub answers : K → Side → Bool
 
--- kinds that always serve what waits, and send nothing of their own
+-- kinds that always serve the messages that wait, and send nothing of their own
 abbrev pub serving : {K : Type 0} → Acts K → (K → Side → Bool) → Meaning K
 serving acts answers =
     record { acts = acts; turn = λ kind side. Serves; own = λ kind side. record { kind = kind; outs = [] }; answers = answers }

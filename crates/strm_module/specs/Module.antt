@@ -1,5 +1,5 @@
--- What a module's put and service procedures do, as functions of its shape (Programmer's Guide:
--- STREAMS, "Put and Service Procedures"; put(9E), srv(9E)).
+-- The put and service procedures of a module, as functions of its shape (Programmer's Guide: STREAMS, "Put
+-- and Service Procedures"; put(9E), srv(9E)).
 use Rattle.std.specs.Prelude.{◌≡◌, ◌&&◌, not, Bool, true, false, if◌then◌else◌}
 use Rattle.strm_msg.specs.Kind.{is_high}
 use Rattle.strm_msg.specs.Message.{Msg}
@@ -10,7 +10,7 @@ use Rattle.strm_module.specs.declared.shape.Shape.{Shape}
 use Rattle.strm_module.specs.declared.outs.Put.{Put}
 use Rattle.strm_module.specs.declared.outs.Put.TheVariants.{Queue, Sent}
 
--- the shape after a service, and what leaves
+-- the shape after a service, and the messages that leave
 pub record Served (K : Type 0) : Type 0 where
   pub shape : Shape K
   pub outs : OutList
@@ -26,7 +26,7 @@ is_queued s side m = not (is_high m.kind) && queues_on s side
 
 -- for kinds of any meaning
 module _ {K : Type 0} (means : Meaning K) where
-  -- a message is served: only what the kind keeps can change
+  -- the effect of a service: only the state of the kind can change
   abbrev pub serve_of : Shape K → Side → Msg → Served K
   serve_of s side m =
       let action = means.acts s.kind side m in
@@ -45,7 +45,7 @@ module _ {K : Type 0} (means : Meaning K) where
       else let served = serve_of s side m in
       record { shape = served.shape; answer = Sent (record { items = served.outs }) }
 
--- what a put sends at once goes up alone
+-- whether the messages that a put sends at once all go up
 abbrev pub sends_up : Put → Bool
 sends_up (Queue m) = true
 sends_up (Sent outs) = all_go_up outs.items

@@ -10,7 +10,7 @@ use Rattle.strm_module.specs.Kinds.{OutList}
 abbrev pub Leaving : Type 0
 Leaving = Option (Side × Msg)
 
--- what leaves, the first one first
+-- the messages that leave, the first one first
 abbrev pub leaving : Leaving → Leaving → OutList
 leaving first second = option_to_list first ++ option_to_list second
 
@@ -19,7 +19,7 @@ abbrev pub AreInOrder : Leaving → Leaving → Type 0
 AreInOrder None second = second ≡ None
 AreInOrder (Some sent) second = ⊤
 
--- the list tells which leaves first and which second
+-- the list says which leaves first and which second
 abbrev pub TellsBoth : Leaving → Leaving → Type 0
 TellsBoth first second = ◌≡◌ {A = Leaving × Leaving} (slice_get (leaving first second) 0, slice_get (leaving first second) 1) (first, second)
 

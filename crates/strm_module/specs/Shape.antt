@@ -1,4 +1,4 @@
--- The shape of a module: its name, its marks and what it keeps (qinit(9S), module_info(9S)).
+-- The shape of a module: its name, its marks and its kind with its state (qinit(9S), module_info(9S)).
 use Rattle.std.specs.Prelude.{◌≡◌, ℕ, ◌==◌, ◌&&◌, ◌||◌, nat_le, nat_lt, Bool, true, Option, Some, None, List, length, if◌then◌else◌, is_some, option_map, codes}
 use Rattle.std.specs.Char.{is_ascii_alphanumeric}
 use Rattle.std.specs.List.{list_all}
@@ -41,30 +41,30 @@ are_marks (Some pair) = nat_lt pair.1 pair.0
 abbrev pub marks_of : MarkPair → Option WaterMarks
 marks_of pair = option_map (λ p. record { hi = p.0; lo = p.1 }) pair
 
--- why no module is made: the name is judged before the marks
+-- the reason for which no module is made: the name is judged before the marks
 abbrev pub make_fault : List ℕ → MarkPair → MarkPair → Option MakeFault
 make_fault name rd wr =
     if is_name name then (if are_marks rd && are_marks wr then None else Some Marks) else Some Name
 
--- how many bytes a module that splits may let through at once
+-- whether a module that splits may let this many bytes through at once
 abbrev pub is_split : ℕ → Bool
 is_split n = nat_le 1 n && nat_le n MOST_SPLIT
 
--- why no module that splits is made: the number of bytes is judged last
+-- the reason for which no module that splits is made: the number of bytes is judged last
 abbrev pub split_fault : List ℕ → MarkPair → MarkPair → ℕ → Option MakeFault
 split_fault name rd wr n = option_or (make_fault name rd wr) (if is_split n then None else Some Split)
 
 -- the number of a fault
-abbrev pub number_of : MakeFault → ℕ
-number_of Name = 1
-number_of Marks = 2
-number_of Split = 3
+abbrev pub make_fault_number : MakeFault → ℕ
+make_fault_number Name = 1
+make_fault_number Marks = 2
+make_fault_number Split = 3
 
--- what a fault is printed as
-abbrev pub text_of : MakeFault → List ℕ
-text_of Name = codes "a module's name must be 1 to 8 letters, digits or `_`"
-text_of Marks = codes "the low mark of a queue must be below its high mark"
-text_of Split = codes "a module that splits must let through 1 to 4096 bytes at once"
+-- the text as which a fault is printed
+abbrev pub make_fault_text : MakeFault → List ℕ
+make_fault_text Name = codes "a module's name must be 1 to 8 letters, digits or `_`"
+make_fault_text Marks = codes "the low mark of a queue must be below its high mark"
+make_fault_text Split = codes "a module that splits must let through 1 to 4096 bytes at once"
 
 -- the shape of a new module
 abbrev pub new_shape : {K : Type 0} → ℕ → List ℕ → MarkPair → MarkPair → K → Shape K
@@ -77,7 +77,7 @@ new_shape serial name rd wr kind =
       kind = kind;
     }
 
--- the same module with the same queues: only what its kind keeps can differ
+-- the same module with the same queues: only the state of its kind can differ
 pub record IsSameModule {K : Type 0} (old new : Shape K) : Type 0 where
   pub serial : new.serial ≡ old.serial
   pub name : new.name ≡ old.name

@@ -1,15 +1,15 @@
-//! What each of the built-in kinds makes of an ordinary message.
+//! The meaning of the built-in kinds: the messages that each sends for an ordinary message.
 ghost use Rattle.std.specs.Prelude.{◌≡◌, [], ◌∷◌, IfOk, OnOk, OnErr, option_map};
 ghost use Rattle.strm_msg.specs.Message.{data_msg};
 ghost use Rattle.strm_msg.specs.declared.kind.MsgKind.TheVariants.{MData};
 ghost use Rattle.strm_module.specs.declared.kind.Kind.TheVariants as Kind;
-ghost use Rattle.strm_bytes.specs.Bytes.{mapped, with_cr, without_cr};
+ghost use Rattle.strm_module.specs.Bytes.{mapped, with_cr, without_cr};
 ghost use Rattle.strm_module.specs.Builtin.{table_action, crnl_action, line_splits, line_action, count_action, band_action, tee_action, mute_action, split_action};
 
+use crate::bytes;
 use crate::kind::MOST_KEPT;
 use crate::outs::{Outs, both, pass_on, reply};
 use std::alloc::Global;
-use strm_bytes as bytes;
 use strm_msg::{BoxedMessage, Bytes, Message, MsgKind, NoMem, Side};
 
 /// A part mapped byte by byte, where there is one.
@@ -89,7 +89,7 @@ pub(crate) fn act_crnl(alloc: Global, side: Side, m: BoxedMessage) -> Result<Out
     }
 }
 
-/// Data of band 0 goes up, in the box of another message.
+/// Sends data of band 0 up, in the box of another message.
 fn data_up(m: BoxedMessage, bytes: Vec<u8>) -> Outs
     ensures { result.items ≡ (Side.Rd, data_msg 0 bytes.items) ∷ [] }
 {
@@ -101,7 +101,8 @@ fn data_up(m: BoxedMessage, bytes: Vec<u8>) -> Outs
     }))
 }
 
-/// Sends whole lines up, in the box of the message that came last, and keeps what follows them; too long a rest goes up too.
+/// Sends whole lines up, in the box of the message that came last, and keeps the bytes that follow them. Too
+/// long a rest goes up too.
 fn split_lines(
     alloc: Global,
     partial: &mut Bytes,
@@ -126,7 +127,7 @@ fn split_lines(
     Ok(data_up(m, all))
 }
 
-/// Puts data of band 0 on its way up behind what was kept.
+/// Puts data of band 0 on its way up behind the bytes that were kept.
 pub(crate) fn act_line(
     alloc: Global,
     partial: &mut Bytes,

@@ -1,4 +1,4 @@
-//! A module in a box of its own, and what a module is and keeps in one.
+//! A module in a box of its own, and the shape of a module in one.
 ghost use Rattle.std.specs.Prelude.{◌≡◌, IfOk, OnOk, OnErr};
 ghost use Rattle.strm_module.specs.Shape.{IsSameModule};
 ghost use Rattle.strm_module.specs.Module.{put_of, serve_of, own_of, IsQueued};
@@ -12,13 +12,13 @@ use std::alloc::Global;
 use std::marker::Model;
 use strm_msg::{BoxedMessage, NoMem, Side};
 
-/// A module in a box, so that whoever hands it on moves a pointer. A contract sees the shape.
+/// A module in a box. To hand it on moves a pointer. A contract sees the shape.
 #[derive(Drop)]
-pub struct Boxed<M: ModuleOf> {
+pub struct BoxedModule<M: ModuleOf> {
     instance: Box<Instance<M>>,
 }
 
-impl<M: ModuleOf> Model for Boxed<M> {
+impl<M: ModuleOf> Model for BoxedModule<M> {
     ghost use Rattle.strm_module.specs.declared.shape.Shape.{Shape};
 
     ghost Value = { Shape M.Kind };
@@ -26,18 +26,18 @@ impl<M: ModuleOf> Model for Boxed<M> {
     ghost view = { λ b. b.instance.value };
 }
 
-impl<M: ModuleOf> Boxed<M> {
-    /// A module in a box. Refused for want of memory alone.
+impl<M: ModuleOf> BoxedModule<M> {
+    /// A module in a box. Fails only when memory runs out.
     pub fn new(alloc: Global, instance: Instance<M>) -> Result<Self, NoMem>
         ensures { IfOk result (λ boxed. boxed ≡ instance) }
     {
         match Box::new(alloc, instance) {
-            Ok(instance) => Ok(Boxed { instance }),
+            Ok(instance) => Ok(BoxedModule { instance }),
             Err(_) => Err(NoMem),
         }
     }
 
-    /// What the module is and keeps.
+    /// The shape of the module.
     pub fn shape(&self) -> &Shape<M::Kind>
         ensures { result.now ≡ self.now }
     {
@@ -51,7 +51,7 @@ impl<M: ModuleOf> Boxed<M> {
         Box::into_inner(self.instance)
     }
 
-    /// A message comes to the module on a side.
+    /// Puts a message to the module on a side.
     pub fn put(&mut self, alloc: Global, side: Side, m: BoxedMessage) -> Result<Put, NoMem>
         ensures answer { IfOk result (λ put. put ≡ (put_of M.Kind.means self.old side m).answer) }
         ensures after { OnOk result (self.new ≡ (put_of M.Kind.means self.old side m).shape) }
@@ -62,7 +62,7 @@ impl<M: ModuleOf> Boxed<M> {
         self.instance.put(alloc, side, m)
     }
 
-    /// A message that was queued on a side has its turn.
+    /// Serves a message that was queued on a side.
     pub fn serve(&mut self, alloc: Global, side: Side, m: BoxedMessage) -> Result<Outs, NoMem>
         ensures outs { IfOk result (λ outs. outs.items ≡ (serve_of M.Kind.means self.old side m).outs) }
         ensures after { OnOk result (self.new ≡ (serve_of M.Kind.means self.old side m).shape) }
@@ -72,7 +72,8 @@ impl<M: ModuleOf> Boxed<M> {
         self.instance.serve(alloc, side, m)
     }
 
-    /// The module sends something of its own on a side (srv(9E)). Refused for want of memory alone: then the shape is as before.
+    /// Sends something of the module's own on a side (srv(9E)). Fails only when memory runs out: then the
+    /// shape is as before.
     pub fn own(&mut self, alloc: Global, side: Side) -> Result<Outs, NoMem>
         ensures outs { IfOk result (λ outs. outs.items ≡ (own_of M.Kind.means self.old side).outs) }
         ensures after { OnOk result (self.new ≡ (own_of M.Kind.means self.old side).shape) }
@@ -83,7 +84,8 @@ impl<M: ModuleOf> Boxed<M> {
     }
 }
 
-/// What a module is and keeps, in a box: what a history keeps of a module, and what a text declares. A contract sees the shape.
+/// The shape of a module, in a box. A history keeps it for a module, and a text declares it. A contract sees
+/// the shape.
 #[derive(Debug, Drop)]
 pub struct BoxedShape<K = Kind> {
     shape: Box<Shape<K>>,
@@ -98,7 +100,7 @@ impl<K> Model for BoxedShape<K> {
 }
 
 impl<K: Drop> BoxedShape<K> {
-    /// A shape in a box. Refused for want of memory alone.
+    /// A shape in a box. Fails only when memory runs out.
     pub fn new(alloc: Global, shape: Shape<K>) -> Result<Self, NoMem>
         ensures { IfOk result (λ boxed. boxed ≡ shape) }
     {
@@ -108,7 +110,7 @@ impl<K: Drop> BoxedShape<K> {
         }
     }
 
-    /// What the module is and keeps.
+    /// The shape in the box.
     pub fn shape(&self) -> &Shape<K>
         ensures { result.now ≡ self.now }
     {

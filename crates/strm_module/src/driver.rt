@@ -1,4 +1,4 @@
-//! What stands at the bottom of a stream, and how many modules can stand above it.
+//! The drivers at the bottom of a stream, and the number of modules that can be above them.
 ghost use Rattle.std.specs.Prelude.{◌≡◌};
 ghost use Rattle.strm_module.specs.Driver.{has_end, partner, is_line, is_wire, input_end, is_serviced, driver_name};
 
@@ -7,19 +7,19 @@ use strm_msg::End;
 /// The most modules that an end can have.
 pub const MOST_MODULES: usize = 8;
 
-/// What stands at the bottom of a stream.
+/// The driver at the bottom of a stream.
 #[derive(Clone, Copy, Debug, PartialEq, Eq)]
 pub enum Driver {
-    /// Sends what comes down back up the same end, and the options for the head up that an ioctl of command `SETOPTS`
-    /// asks for.
+    /// Sends messages that come down back up the same end. An ioctl of command `SETOPTS` makes it send the
+    /// options for the head up that the ioctl asks for.
     Echo,
-    /// Sends what comes down one end up the other.
+    /// Sends messages that come down one end up the other.
     Loop,
-    /// Consumes data and protocol messages that come down, answers flushes and ioctls, and sends up
-    /// what comes in from a line.
+    /// Consumes data and protocol messages that come down, answers flushes and ioctls, and sends up messages
+    /// that come in from a line.
     Line,
-    /// Keeps data and protocol messages that come down until they are taken from outside, answers flushes and ioctls, and
-    /// sends up what comes in from a line: a loop of which the outside has end B.
+    /// Keeps data and protocol messages that come down until they are taken from outside, answers flushes and
+    /// ioctls, and sends up messages that come in from a line. It is a loop of which the outside has end B.
     Wire,
 }
 
@@ -34,7 +34,8 @@ impl Driver {
         }
     }
 
-    /// The end up whose read side it sends what came down an end, and to which the hangup goes when that one is closed.
+    /// The end up whose read side it sends messages that came down an end, and to which the hangup goes when
+    /// that one is closed.
     pub fn partner_of(self, end: End) -> End
         ensures { result ≡ partner self end }
     {
@@ -54,14 +55,14 @@ impl Driver {
         matches!(self, Driver::Line | Driver::Wire)
     }
 
-    /// Whether what comes down is taken from outside.
+    /// Whether messages that come down are taken from outside.
     pub fn is_wire(self) -> bool
         ensures { result ≡ is_wire self }
     {
         self == Driver::Wire
     }
 
-    /// The end whose list holds what came in from a line.
+    /// The end whose list holds messages that came in from a line.
     pub fn input_end(self) -> End
         ensures { result ≡ input_end self }
     {
@@ -71,7 +72,7 @@ impl Driver {
         }
     }
 
-    /// Whether its list for an end is serviced: what it holds goes up.
+    /// Whether the driver's list for an end is serviced, so that its messages go up.
     pub fn services(self, end: End) -> bool
         ensures { result ≡ is_serviced self end }
     {
@@ -82,7 +83,7 @@ impl Driver {
         }
     }
 
-    /// Its name, as a list of what stands on an end has it (streamio(7), I_LIST).
+    /// Its name, as in a list of the names on an end (streamio(7), I_LIST).
     pub fn name(self) -> &'static [u8]
         ensures { result.now ≡ driver_name self }
     {

@@ -46,7 +46,7 @@ impl<M: ModuleOf> Instance<M> {
         Instance { shape, object }
     }
 
-    /// What the module is and keeps.
+    /// The shape of the module.
     pub fn shape(&self) -> &Shape<M::Kind>
         ensures { result.now ≡ self.now }
     {
@@ -59,9 +59,9 @@ impl<M: ModuleOf> Instance<M> {
         object
     }
 
-    /// A message comes to the module on a side: the object's put procedure has it (put(9E)).
+    /// Puts a message to the module on a side: the object's put procedure has it (put(9E)).
     ///
-    /// Refused for want of memory alone: then the shape is as before, and the message is dropped.
+    /// Fails only when memory runs out: then the shape is as before, and the message is dropped.
     pub fn put(&mut self, alloc: Global, side: Side, m: BoxedMessage) -> Result<Put, NoMem>
         ensures answer { IfOk result (λ put. put ≡ (put_of M.Kind.means self.old side m).answer) }
         ensures after { OnOk result (self.new ≡ (put_of M.Kind.means self.old side m).shape) }
@@ -72,10 +72,9 @@ impl<M: ModuleOf> Instance<M> {
         self.object.put(alloc, &mut self.shape, side, m)
     }
 
-    /// A message that was queued on a side has its turn: the object's service procedure has it
-    /// (srv(9E)).
+    /// Serves a message that was queued on a side: the object's service procedure has it (srv(9E)).
     ///
-    /// Refused for want of memory alone: then the shape is as before, and the message is dropped.
+    /// Fails only when memory runs out: then the shape is as before, and the message is dropped.
     pub fn serve(&mut self, alloc: Global, side: Side, m: BoxedMessage) -> Result<Outs, NoMem>
         ensures outs { IfOk result (λ outs. outs.items ≡ (serve_of M.Kind.means self.old side m).outs) }
         ensures after { OnOk result (self.new ≡ (serve_of M.Kind.means self.old side m).shape) }
@@ -85,7 +84,8 @@ impl<M: ModuleOf> Instance<M> {
         self.object.serve(alloc, &mut self.shape, side, m)
     }
 
-    /// The module sends something of its own on a side (srv(9E)). Refused for want of memory alone: then the shape is as before.
+    /// Sends something of the module's own on a side (srv(9E)). Fails only when memory runs out: then the
+    /// shape is as before.
     pub fn own(&mut self, alloc: Global, side: Side) -> Result<Outs, NoMem>
         ensures outs { IfOk result (λ outs. outs.items ≡ (own_of M.Kind.means self.old side).outs) }
         ensures after { OnOk result (self.new ≡ (own_of M.Kind.means self.old side).shape) }

@@ -17,10 +17,10 @@ pub const MOST_KEPT: usize = 4096;
 /// The greatest number of bytes that a `Kind::Split` lets through at once.
 pub const MOST_SPLIT: u16 = 4096;
 
-/// The built-in kinds of module: what each does with messages, and what it keeps for that.
+/// A built-in kind of module: the way in which it treats messages, and the state that it keeps for that.
 ///
-/// Only ordinary messages are meant, and what is not named goes on unchanged, along its side. High
-/// ones go on unchanged, whatever the kind.
+/// Only ordinary messages are meant. A message that is not named goes on unchanged, along its side. High ones
+/// go on unchanged, whatever the kind.
 #[derive(Debug, Drop, PartialEq, Eq)]
 pub enum Kind {
     /// Each message goes on unchanged.
@@ -29,24 +29,23 @@ pub enum Kind {
     /// answered with its own data mapped, and the length of that data as value, which is 0 without
     /// data.
     Table {
-        /// What stands for each byte.
+        /// The byte that stands for each byte.
         map: [u8; 256],
     },
     /// In data on its way down each LF becomes CR LF. In data on its way up each CR that an LF
     /// directly follows in the same message is removed.
     CrNl,
-    /// Data of band 0 on its way up is kept until its line ends: whole lines go up, each with its
-    /// LF, several in one message. A rest of over `MOST_KEPT` bytes goes up with all that stands
-    /// before it. A flush of the read side that is of all bands or of band 0 drops what is kept,
-    /// whichever way it passes.
+    /// Data of band 0 on its way up is kept until its line ends: whole lines go up, each with its LF, several
+    /// in one message. A rest of over `MOST_KEPT` bytes goes up with all that is before it. A flush of the
+    /// read side that is of all bands or of band 0 drops the bytes that are kept, whichever way it passes.
     Line {
-        /// What came since the last LF. No service leaves more than `MOST_KEPT` bytes of it.
+        /// The bytes that came since the last LF. No service leaves more than `MOST_KEPT` bytes of it.
         partial: Bytes,
     },
-    /// Data messages on their way down are counted. An ioctl of command 1 on its way down is
-    /// answered with the count as value, and so is one of command 2, which then sets it to 0.
+    /// Data messages on their way down are counted. An ioctl of command 1 on its way down is answered with
+    /// the count as value. One of command 2 is answered so too, and then sets the count to 0.
     Count {
-        /// How many came, up to the greatest `u64`.
+        /// The number of messages that came, up to the greatest `u64`.
         n: u64,
     },
     /// Data and protocol messages on their way down are put into a band.
@@ -58,14 +57,15 @@ pub enum Kind {
     Tee,
     /// Data messages on their way down are dropped.
     Mute,
-    /// A data message of more bytes on its way down goes on as two of its band: its first bytes, then the rest.
+    /// A data message of more bytes on its way down goes on as two of its band: its first bytes, then the
+    /// rest.
     Split {
-        /// How many bytes of a message go first.
+        /// The number of bytes of a message that go first.
         n: u16,
     },
 }
 
-/// An ordinary message, by the kind of the module.
+/// Processes an ordinary message, by the kind of the module.
 fn act(alloc: Global, kind: &mut Kind, side: Side, m: BoxedMessage) -> Result<Outs, NoMem>
     ensures outs { IfOk result (λ outs. outs.items ≡ (ordinary_action kind.old side m).outs) }
     ensures kept { OnOk result (kind.new ≡ (ordinary_action kind.old side m).kind) }

@@ -10,37 +10,35 @@ use crate::vocabulary::Kinds;
 use std::alloc::Global;
 use strm_msg::{BoxedMessage, NoMem, Side};
 
-/// A module's put and service procedures (qinit(9S)), for kinds of any vocabulary. Implement this
-/// for the objects of a discipline that you port; for one of the built-in kinds implement `Module`,
-/// which may be boxed.
+/// A module's put and service procedures (qinit(9S)), for kinds of any vocabulary. Implement this for the
+/// objects of a discipline that you port; for one of the built-in kinds implement `Module`, which may be
+/// boxed.
 ///
 /// # The object and its shape
 ///
-/// A module is an object of a type that implements this trait, together with a `Shape`, which is
-/// plain data. An `Instance` has both, and lends the shape to each call. The shape's kind says what
-/// the module makes of messages, and holds all that this depends on, as a count or a partial line.
-/// The shape's marks say on which sides the module has a queue. What else the object keeps, as a
-/// tally or a handle, is its private data, which the framework never looks at: no answer may depend
-/// on it, but for whether memory is wanting.
+/// A module is an object of a type that implements this trait, together with a `Shape`, which is plain data.
+/// An `Instance` has both, and lends the shape to each call. The shape's kind decides which messages the
+/// module sends for those that come, and holds all that this depends on, as a count or a partial line. The
+/// shape's marks say on which sides the module has a queue. All else that the object keeps, as a tally or a
+/// handle, is its private data. The framework never looks at it: no answer may depend on it, but for whether
+/// memory runs out.
 ///
 /// # Sides
 ///
-/// `side` is the side on which a message came: `Wr` on its way down, from the head to the driver,
-/// and `Rd` on its way up. Each message that leaves names its own side. A module may turn one
-/// round from the write side to the read side, as the answer to an ioctl; what comes up is only
-/// sent further up.
+/// `side` is the side on which a message came: `Wr` on its way down, from the head to the driver, and `Rd` on
+/// its way up. Each message that leaves names its own side. A module may turn one round from the write side
+/// to the read side, as the answer to an ioctl. A message that comes up is only sent further up.
 ///
 /// # What they do
 ///
-/// `put` is called for each message that comes. Queueing is an answer and no act: for an ordinary
-/// message of a side with marks it is `Queue`, with the message unchanged, and the shape stays as
-/// it is. The caller then puts the message into the queue of that side, which flow control is
-/// about. For every other message it is `Sent`: high ones never wait, and neither does what the
-/// module makes of ordinary ones on a side without marks. A flush also empties the module's queues,
-/// which is the caller's work.
+/// `put` is called for each message that comes. Queueing is an answer and no act: for an ordinary message of
+/// a side with marks it is `Queue`, with the message unchanged, and the shape stays as it is. The caller then
+/// puts the message into the queue of that side, which flow control is about. For every other message it is
+/// `Sent`: high ones never wait, and neither do ordinary ones on a side without marks. A flush also empties
+/// the module's queues, which is the caller's work.
 ///
-/// `serve` is called with a message that was taken from the module's queue, once the queue ahead
-/// is not full in the message's band. It sends what the module makes of it.
+/// `serve` is called with a message that was taken from the module's queue, once the queue ahead is not full
+/// in the message's band. It sends the messages that the module makes of it.
 ///
 /// `own` is called in the place of `serve` while the kind says that a side sends something of its own.
 ///
@@ -58,20 +56,20 @@ use strm_msg::{BoxedMessage, NoMem, Side};
 /// }
 /// ```
 ///
-/// After `Err`, which is for want of memory alone, the shape is as before and the message is
-/// dropped. An object that is lent the shape of another kind does what that shape says.
+/// After `Err`, which is only when memory runs out, the shape is as before and the message is dropped. An
+/// object that is lent the shape of another kind does what that shape says.
 ///
 /// # Opening and closing
 ///
-/// To make the object is the open routine. Its `Drop` is the close routine, which runs once, when
-/// whoever took the module out of the stream lets go of it.
+/// To make the object is the open routine. Its `Drop` is the close routine, which runs once, when the owner
+/// that took the module out of the stream drops it.
 pub trait ModuleOf: Send + Drop {
     /// The vocabulary that the module's kind is of.
     type Kind: Kinds;
 
-    /// A message comes to the module on a side (put(9E)).
+    /// Puts a message to the module on a side (put(9E)).
     ///
-    /// Refused for want of memory alone: then the shape is as before, and the message is dropped.
+    /// Fails only when memory runs out: then the shape is as before, and the message is dropped.
     fn put(
         &mut self,
         alloc: Global,
@@ -86,9 +84,9 @@ pub trait ModuleOf: Send + Drop {
         shape.put(alloc, side, m)
     }
 
-    /// A message that was queued on a side has its turn (srv(9E)).
+    /// Serves a message that was queued on a side (srv(9E)).
     ///
-    /// Refused for want of memory alone: then the shape is as before, and the message is dropped.
+    /// Fails only when memory runs out: then the shape is as before, and the message is dropped.
     fn serve(
         &mut self,
         alloc: Global,
@@ -103,9 +101,9 @@ pub trait ModuleOf: Send + Drop {
         shape.serve(alloc, side, m)
     }
 
-    /// The module sends something of its own on a side (srv(9E)).
+    /// Sends something of the module's own on a side (srv(9E)).
     ///
-    /// Refused for want of memory alone: then the shape is as before.
+    /// Fails only when memory runs out: then the shape is as before.
     fn own(
         &mut self,
         alloc: Global,
@@ -120,15 +118,15 @@ pub trait ModuleOf: Send + Drop {
     }
 }
 
-/// A module of the built-in kinds, which may be boxed: what `ModuleOf` asks for the vocabulary `Kind`,
-/// where all that both traits ask is said.
+/// A module of the built-in kinds, which may be boxed. It is `ModuleOf` for the vocabulary `Kind`; `ModuleOf`
+/// says all that both traits ask.
 ///
-/// A module whose purpose is none of the kinds takes the kind by which it acts on messages, as
-/// `Pass` for one that only watches them go by, and keeps its purpose in its private data.
+/// A module whose purpose is none of the kinds takes the kind by which it acts on messages, as `Pass` for one
+/// that only watches them go by. It keeps its purpose in its private data.
 pub trait Module: Send + Drop {
-    /// A message comes to the module on a side (put(9E)).
+    /// Puts a message to the module on a side (put(9E)).
     ///
-    /// Refused for want of memory alone: then the shape is as before, and the message is dropped.
+    /// Fails only when memory runs out: then the shape is as before, and the message is dropped.
     fn put(
         &mut self,
         alloc: Global,
@@ -143,9 +141,9 @@ pub trait Module: Send + Drop {
         shape.put(alloc, side, m)
     }
 
-    /// A message that was queued on a side has its turn (srv(9E)).
+    /// Serves a message that was queued on a side (srv(9E)).
     ///
-    /// Refused for want of memory alone: then the shape is as before, and the message is dropped.
+    /// Fails only when memory runs out: then the shape is as before, and the message is dropped.
     fn serve(
         &mut self,
         alloc: Global,
@@ -160,9 +158,9 @@ pub trait Module: Send + Drop {
         shape.serve(alloc, side, m)
     }
 
-    /// Something of the module's own is sent on a side (srv(9E)).
+    /// Sends something of the module's own on a side (srv(9E)).
     ///
-    /// Refused for want of memory alone: then the shape is as before.
+    /// Fails only when memory runs out: then the shape is as before.
     fn own(&mut self, alloc: Global, shape: &mut Shape, side: Side) -> Result<Outs, NoMem>
         ensures outs { IfOk result (λ outs. outs.items ≡ (own_of builtin shape.old side).outs) }
         ensures after { OnOk result (shape.new ≡ (own_of builtin shape.old side).shape) }

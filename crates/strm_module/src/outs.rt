@@ -1,4 +1,4 @@
-//! What a module answers and sends.
+//! The answer of a module, and the messages that it sends.
 ghost use Rattle.std.specs.Prelude.{◌≡◌, [], ◌∷◌};
 ghost use Rattle.strm_msg.specs.declared.words.Side.TheVariants as Side;
 ghost use Rattle.strm_module.specs.Outs.{AreInOrder, leaving};
@@ -6,9 +6,9 @@ ghost use Rattle.strm_module.specs.Outs.{AreInOrder, leaving};
 use std::marker::Model;
 use strm_msg::{BoxedMessage, Side as Sides};
 
-/// What a module sends: at most two messages, in the order in which they leave, each with its side.
-/// `Wr` goes down, to the next module or the driver, and `Rd` goes up, to the next module or the
-/// head. `Outs::new()` sends nothing; `pass_on`, `reply` and `both` make one. A contract sees a list, `items`.
+/// The messages that a module sends: at most two, in the order in which they leave, each with its side. `Wr`
+/// goes down, to the next module or the driver, and `Rd` goes up, to the next module or the head.
+/// `Outs::new()` sends nothing; `pass_on`, `reply` and `both` make one. A contract sees a list, `items`.
 #[derive(Debug, Drop, PartialEq, Eq)]
 pub struct Outs {
     first: Option<(Sides, BoxedMessage)>,
@@ -33,7 +33,7 @@ impl Model for Outs {
 }
 
 impl Outs {
-    /// Nothing is sent.
+    /// No messages.
     pub fn new() -> Self
         ensures { result.items ≡ [] }
     {
@@ -53,7 +53,7 @@ impl Outs {
     }
 }
 
-/// What a module does with a message that comes to it.
+/// The answer of a module to a message that comes to it.
 #[derive(Debug, Drop, PartialEq, Eq)]
 pub enum Put {
     /// The message waits in the module's queue of the side on which it came. It is handed to

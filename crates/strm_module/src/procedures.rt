@@ -13,10 +13,10 @@ use std::alloc::Global;
 use strm_msg::{BoxedMessage, Class, NoMem, Side as Sides};
 
 impl<K: Kinds> Shape<K> {
-    /// What a module of this shape does with a message that comes to it on a side (put(9E)): an
-    /// ordinary one is queued where the side has marks, and any other is served at once.
+    /// Puts a message that comes on a side to a module of this shape (put(9E)): an ordinary one is queued
+    /// where the side has marks, and any other is served at once.
     ///
-    /// Refused for want of memory alone: then the shape is as before, and the message is dropped.
+    /// Fails only when memory runs out: then the shape is as before, and the message is dropped.
     pub fn put(&mut self, alloc: Global, side: Sides, m: BoxedMessage) -> Result<Put, NoMem>
         ensures answer { IfOk result (λ put. put ≡ (put_of K.means self.old side m).answer) }
         ensures after { OnOk result (self.new ≡ (put_of K.means self.old side m).shape) }
@@ -30,9 +30,9 @@ impl<K: Kinds> Shape<K> {
         Ok(Put::Sent(self.serve(alloc, side, m)?))
     }
 
-    /// What a module of this shape does with a message that was queued on a side (srv(9E)).
+    /// Serves a message that was queued on a side of a module of this shape (srv(9E)).
     ///
-    /// Refused for want of memory alone: then the shape is as before, and the message is dropped.
+    /// Fails only when memory runs out: then the shape is as before, and the message is dropped.
     pub fn serve(&mut self, alloc: Global, side: Sides, m: BoxedMessage) -> Result<Outs, NoMem>
         ensures outs { IfOk result (λ outs. outs.items ≡ (serve_of K.means self.old side m).outs) }
         ensures after { OnOk result (self.new ≡ (serve_of K.means self.old side m).shape) }
@@ -43,9 +43,9 @@ impl<K: Kinds> Shape<K> {
         self.kind.process(alloc, side, m)
     }
 
-    /// What a module of this shape sends of its own on a side (srv(9E)).
+    /// Sends something of its own on a side of a module of this shape (srv(9E)).
     ///
-    /// Refused for want of memory alone: then the shape is as before.
+    /// Fails only when memory runs out: then the shape is as before.
     pub fn own(&mut self, alloc: Global, side: Sides) -> Result<Outs, NoMem>
         ensures outs { IfOk result (λ outs. outs.items ≡ (own_of K.means self.old side).outs) }
         ensures after { OnOk result (self.new ≡ (own_of K.means self.old side).shape) }
@@ -56,7 +56,7 @@ impl<K: Kinds> Shape<K> {
         self.kind.own(alloc, side)
     }
 
-    /// What the service of a side would do now (srv(9E)).
+    /// The turn of the service of a side, as things are now (srv(9E)).
     pub fn turn(&self, side: Sides) -> Turn
         ensures { result ≡ K.means.turn self.now.kind side }
     {

@@ -1,8 +1,8 @@
-//! What a module is and what it keeps.
+//! The shape of a module: its name, its queues, its kind and the state of that.
 ghost use Rattle.std.specs.Prelude.{◌≡◌, is_some, is_ok, is_none, IfSome, IfOk, IfErr, Some};
 ghost use Rattle.std.specs.Fmt.{padded};
 ghost use Rattle.std.specs.List.{list_all};
-ghost use Rattle.strm_module.specs.Shape.{queues_on, is_name_byte, is_name, are_marks, marks_of, make_fault, number_of, text_of, new_shape};
+ghost use Rattle.strm_module.specs.Shape.{queues_on, is_name_byte, is_name, are_marks, marks_of, make_fault, make_fault_number, make_fault_text, new_shape};
 
 use crate::kind::Kind;
 use crate::vocabulary::Kinds;
@@ -15,14 +15,14 @@ use thiserror::Error;
 /// The longest name of a module, in bytes.
 pub const LONGEST_NAME: usize = 8;
 
-/// A module as others see it: its name, its queues, its kind and what it keeps (module_info(9S)).
+/// A module as others see it: its name, its queues, its kind and its state (module_info(9S)).
 ///
-/// It is plain data. `Shape::new` judges the name and the marks. Written out by its fields a shape
-/// may also have a name that `Shape::new` refuses, or a partial line longer than any that is kept:
-/// a module of that shape still does what the meaning of its kind says.
+/// It is plain data. `Shape::new` judges the name and the marks. Written out by its fields a shape may also
+/// have a name that `Shape::new` refuses, or a partial line longer than any that is kept. A module of that
+/// shape still acts by the meaning of its kind.
 #[derive(Debug, Drop, PartialEq, Eq)]
 pub struct Shape<K = Kind> {
-    /// Which module this is, among those of a program, which chooses the number.
+    /// The number of this module among those of a program, which chooses it.
     pub serial: u64,
     /// 1 to 8 letters, digits and `_`, where `Shape::new` made it.
     pub name: ArrayVec<u8, LONGEST_NAME>,
@@ -30,11 +30,11 @@ pub struct Shape<K = Kind> {
     pub rd: Option<Marks>,
     /// The water marks of the write queue, in bytes, where ordinary messages of that side wait.
     pub wr: Option<Marks>,
-    /// What the module does, and what it keeps.
+    /// The kind of the module, with the state that it keeps.
     pub kind: K,
 }
 
-/// Why a module was not made.
+/// The reason for which a module was not made.
 #[derive(Clone, Copy, Debug, PartialEq, Eq, Error)]
 pub enum MakeFault {
     /// The name is not of 1 to 8 letters, digits and `_`. It is looked at before the marks.
@@ -48,7 +48,7 @@ pub enum MakeFault {
 impl MakeFault {
     /// The number of the fault: 1 for a name, 2 for marks, 3 for a split.
     pub fn number(self) -> u8
-        ensures { result ≡ number_of self }
+        ensures { result ≡ make_fault_number self }
     {
         match self {
             MakeFault::Name => 1,
@@ -57,9 +57,9 @@ impl MakeFault {
         }
     }
 
-    /// What was asked for and not given.
+    /// The requirement that was not met.
     fn text(self) -> &'static str
-        ensures { result.now ≡ text_of self }
+        ensures { result.now ≡ make_fault_text self }
     {
         match self {
             MakeFault::Name => "a module's name must be 1 to 8 letters, digits or `_`",
@@ -69,25 +69,25 @@ impl MakeFault {
     }
 }
 
-/// Printed as what a name, marks or a number of bytes must be.
+/// Printed as the requirement on a name, on marks or on a number of bytes.
 impl fmt::Display for MakeFault {
-    ghost output = { λ fault. Some (text_of fault) };
+    ghost output = { λ fault. Some (make_fault_text fault) };
 
-    ghost styled_output = { λ fault spec. Some (padded spec (text_of fault)) };
+    ghost styled_output = { λ fault spec. Some (padded spec (make_fault_text fault)) };
 
     fn fmt<W: fmt::Write>(&self, f: &mut fmt::Formatter<W>) -> fmt::Result {
         f.pad(self.text())
     }
 }
 
-/// Whether a byte may stand in a name.
+/// Whether a byte may be in a name.
 fn is_name_byte(b: u8) -> bool
     ensures { result ≡ is_name_byte b }
 {
     b.is_ascii_alphanumeric() || b == b'_'
 }
 
-/// Whether each byte may stand in a name.
+/// Whether each byte may be in a name.
 fn are_name_bytes(bytes: &[u8]) -> bool
     ensures { result ≡ list_all is_name_byte bytes.now }
 {
@@ -150,7 +150,7 @@ impl<K: Kinds> Shape<K> {
         })
     }
 
-    /// An equal shape. Refused for want of memory alone.
+    /// An equal shape. Fails only when memory runs out.
     pub fn copy(&self, alloc: Global) -> Result<Self, NoMem>
         ensures { IfOk result (λ copy. copy ≡ self.now) }
     {

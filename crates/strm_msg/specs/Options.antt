@@ -1,4 +1,5 @@
--- What an ioctl may ask a driver to set at the stream head: this project's own format, of 3 bytes or 11.
+-- Requests that an ioctl makes of a driver: settings for the stream head, in this project's own format of 3
+-- bytes or 11.
 use Rattle.std.specs.Prelude.{ℕ, ◌+◌, ◌==◌, ◌&&◌, nat_lt, Option, Some, None, List, [], ◌∷◌, length, slice_index, if◌then◌else◌}
 use Rattle.std.specs.Int.{from_be_bytes, w32}
 use Rattle.strm_msg.specs.declared.kind.MsgKind.{MsgKind}
@@ -28,7 +29,7 @@ number_at bytes i =
 abbrev pub marks_if_fit : ℕ → ℕ → Option (Option (ℕ × ℕ))
 marks_if_fit hi lo = if nat_lt lo hi then Some (Some (hi, lo)) else None
 
--- the third byte tells whether marks follow, the high one first, and then nothing else
+-- the marks, if they follow: the third byte says so. The high one is first, and nothing else follows
 abbrev pub marks_in : List ℕ → Option (Option (ℕ × ℕ))
 marks_in bytes =
     if (slice_index bytes 2 == 0) && (length bytes == 3) then Some None else (if (slice_index bytes 2 == 1) && (length bytes == 11) then marks_if_fit (number_at bytes 3) (number_at bytes 7) else None)

@@ -12,7 +12,8 @@ use std::marker::Model;
 use std::mem;
 use std::ops::Deref;
 
-/// A message in a box, so that whoever hands it on moves a pointer, as STREAMS hand on an mblk. A contract sees the message.
+/// A message in a box. To hand it on moves a pointer, as STREAMS hand on an mblk. A contract sees the
+/// message.
 #[derive(Debug, Drop)]
 pub struct BoxedMessage {
     m: Box<Message>,
@@ -54,7 +55,7 @@ impl Eq for BoxedMessage {
 }
 
 impl BoxedMessage {
-    /// A message in a box. It comes back for want of memory alone.
+    /// A message in a box. It comes back only when memory runs out.
     pub fn try_new(alloc: Global, m: Message) -> Result<Self, Message>
         ensures ok { IfOk result (λ boxed. boxed ≡ m) }
         ensures back { IfErr result (λ same. same ≡ m) }
@@ -65,7 +66,7 @@ impl BoxedMessage {
         }
     }
 
-    /// A message in a box. Refused for want of memory alone: then the message is dropped.
+    /// A message in a box. Fails only when memory runs out: then the message is dropped.
     pub fn new(alloc: Global, m: Message) -> Result<Self, NoMem>
         ensures { IfOk result (λ boxed. boxed ≡ m) }
     {
@@ -75,7 +76,7 @@ impl BoxedMessage {
         }
     }
 
-    /// An equal message in a box of its own (copymsg(9F)). Refused for want of memory alone.
+    /// An equal message in a box of its own (copymsg(9F)). Fails only when memory runs out.
     pub fn copy(&self, alloc: Global) -> Result<Self, NoMem>
         ensures { IfOk result (λ copy. copy ≡ self.now) }
     {
@@ -89,7 +90,7 @@ impl BoxedMessage {
         Box::into_inner(self.m)
     }
 
-    /// Another message in this box; the one that stood there is dropped. Takes no memory.
+    /// Puts another message into this box, and drops the one that was there. Takes no memory.
     pub fn becoming(mut self, m: Message) -> Self
         ensures { result ≡ m }
     {
@@ -97,8 +98,8 @@ impl BoxedMessage {
         self
     }
 
-    /// The message with this data part, or without one, in its box: kind, band and control part stay. To be called where the
-    /// kind may have it. Takes no memory.
+    /// The message with this data part, or without one, in its box: kind, band and control part stay. To be
+    /// called where the kind may have it. Takes no memory.
     pub fn with_dat(mut self, dat: Option<Bytes>) -> Self
         requires { IsTrue (is_formed self.kind self.band self.ctl dat) }
         ensures { result ≡ record self { dat = dat } }
@@ -107,8 +108,8 @@ impl BoxedMessage {
         self.becoming(Message { dat, ..m })
     }
 
-    /// The message in another band, in its box: kind and parts stay. To be called where the kind may have it, as data and
-    /// protocol messages alone are of a band other than 0. Takes no memory.
+    /// The message in another band, in its box: kind and parts stay. To be called where the kind may have it,
+    /// as data and protocol messages alone are of a band other than 0. Takes no memory.
     pub fn with_band(mut self, band: u8) -> Self
         requires { IsTrue (is_formed self.kind band self.ctl self.dat) }
         ensures { result ≡ record self { band = band } }

@@ -3,11 +3,11 @@ ghost use Rattle.std.specs.Prelude.{◌≡◌, ◌↔◌, ◌<◌, IsSome, IfSom
 
 use std::marker::Model;
 
-/// The water marks of a queue, in bytes. They hold for each band by itself, and the low mark is
-/// below the high one.
+/// The water marks of a queue, in bytes. They hold for each band by itself, and the low mark is below the
+/// high one.
 ///
-/// What waits behind a full band must stay, and behind a slack one it must move. Between the marks
-/// it may move and need not, so the low mark shows only in what must move.
+/// Messages that wait behind a full band must stay, and behind a slack one they must move. Between the marks
+/// they may move and need not, so the low mark decides only which messages must move.
 #[derive(Clone, Copy, Debug, PartialEq, Eq)]
 pub struct Marks {
     /// A band is full where it holds at least this many bytes.

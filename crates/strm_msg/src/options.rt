@@ -1,4 +1,4 @@
-//! What an ioctl may ask a driver to set at the stream head.
+//! Requests that an ioctl makes of a driver: settings for the stream head.
 ghost use Rattle.std.specs.Prelude.{◌≡◌, ◌+◌, ◌<◌, ◌≤◌, length};
 ghost use Rattle.strm_msg.specs.Options.{mode_of, prot_of, number_at, marks_in, options_in, options_asked};
 
@@ -7,7 +7,8 @@ use crate::kind::MsgKind;
 use crate::marks::Marks;
 use crate::words::{Prot, ReadMode};
 
-/// The command of the ioctl that asks an echo to send the options up that its data name. It is this project's own.
+/// The command of the ioctl that asks an echo to send options up: those that its data name. It is this
+/// project's own.
 pub const SETOPTS: u32 = 16;
 
 /// The read mode that a byte stands for, where 0 keeps the one that is set.
@@ -44,7 +45,7 @@ fn number_at(bytes: &[u8], i: usize) -> u32
     u32::from_be_bytes([bytes[i], bytes[i + 1], bytes[i + 2], bytes[i + 3]])
 }
 
-/// The water marks that are asked for, if any are: the third byte tells whether they follow.
+/// The water marks that are asked for, if any are: the third byte says whether they follow.
 fn marks_in(bytes: &[u8]) -> Option<Option<(u32, u32)>>
     requires { 3 ≤ length bytes.now }
     ensures { result ≡ marks_in bytes.now }
@@ -74,10 +75,10 @@ fn options_in(bytes: &[u8]) -> Option<MsgKind>
 
 /// The `MSetopts` that the data of an ioctl ask for, if they are such a request. Takes no memory.
 ///
-/// The format is this project's own. Byte 0 is the read mode: 0 keeps it, and 1, 2 and 3 are `Rnorm`, `Rmsgn` and
-/// `Rmsgd`. Byte 1 is the treatment of control parts: 0 keeps it, and 1, 2 and 3 are `Norm`, `Dat` and `Dis`. Byte 2 is 0
-/// where no marks follow, and then it is the last. Where it is 1, the high water mark follows and then the low one, which
-/// is below it, each in four bytes, greatest first.
+/// The format is this project's own. Byte 0 is the read mode: 0 keeps it, and 1, 2 and 3 are `Rnorm`, `Rmsgn`
+/// and `Rmsgd`. Byte 1 is the treatment of control parts: 0 keeps it, and 1, 2 and 3 are `Norm`, `Dat` and
+/// `Dis`. Byte 2 is 0 where no marks follow, and then it is the last byte. Where it is 1, the high water mark
+/// follows and then the low one, each in four bytes, greatest first. The low mark is below the high one.
 pub fn options_asked(dat: &Option<Bytes>) -> Option<MsgKind>
     ensures { result ≡ options_asked dat.now }
 {

@@ -6,11 +6,12 @@ use Rattle.std.proofs.Math.Seq.{take-suc-set}
 use Rattle.std.proofs.lemmas.Grind.{flat_map-append}
 use Rattle.std.proofs.lemmas.List.{nil_from_length, get_or-set_same, append-nil}
 use Rattle.std.proofs.lemmas.List.Elements.{filter-append}
+use Rattle.std.proofs.lemmas.Bool.{and_parts}
 use Rattle.strm_msg.specs.Message.{Msg, rank_of}
 use Rattle.strm_queue.specs.Queue.{is_flushed, flush_of, put_in, put_back_in}
-use Rattle.strm_queue.specs.Lanes.{Ranked, stands_in, is_laned, messages_of, spare_of, IsPlace, StaysEmpty}
+use Rattle.strm_queue.specs.Lanes.{Ranked, is_of_rank, is_laned, messages_of, spare_of, IsPlace, StaysEmpty}
 use Rattle.strm_queue.proofs.FrontLemmas.{set-empty}
-use Rattle.strm_queue.proofs.ListLemmas.{right_of, all_filter, filter_ext, filter_twice}
+use Rattle.strm_queue.proofs.ListLemmas.{all_filter, filter_ext, filter_twice}
 use Rattle.strm_queue.proofs.PlaceLemmas.{lane_at, stands-place, is_laned-set, spare-set, length-set_lane, put_in-set, put_back_in-set, first-set, flush-set}
 
 pub on_ok : {A E : Type 0} (r : Result A E) (P Q : Type 0) → (P → Q) → OnOk r P → OnOk r Q
@@ -26,11 +27,11 @@ module _ (lanes : List Ranked) (at : ℕ) (lane new : Ranked) (less : at < lengt
   its_rank = same ∙ ap (λ (x : Ranked). x.rank) is
 
   -- what stood in the lane stands in it
-  pub stood : is_laned lanes ≡ true → list_all (stands_in lane.rank) lane.messages ≡ true
-  stood h = subst (λ (x : Ranked). list_all (stands_in x.rank) x.messages ≡ true) (sym is) (stands-place lanes at lane h less)
+  pub stood : is_laned lanes ≡ true → list_all (is_of_rank lane.rank) lane.messages ≡ true
+  stood h = subst (λ (x : Ranked). list_all (is_of_rank x.rank) x.messages ≡ true) (sym is) (stands-place lanes at lane h less)
 
-  pub changed-laned : is_laned lanes ≡ true → list_all (stands_in lane.rank) new.messages ≡ true → is_laned (set lanes at new) ≡ true
-  changed-laned h stands = is_laned-set new lane lanes at h less its_rank (subst (λ rank. list_all (stands_in rank) new.messages ≡ true) (sym same) stands)
+  pub changed-laned : is_laned lanes ≡ true → list_all (is_of_rank lane.rank) new.messages ≡ true → is_laned (set lanes at new) ≡ true
+  changed-laned h stands = is_laned-set new lane lanes at h less its_rank (subst (λ rank. list_all (is_of_rank rank) new.messages ≡ true) (sym same) stands)
 
   pub changed-spare : (lost : ℕ) → lane.spare ≤ new.spare + lost → (other : ℕ) → spare_of other lanes ≤ spare_of other (set lanes at new) + lost
   changed-spare lost spare other = spare-set new lane lost other lanes at less its_rank (subst (λ (x : Ranked). x.spare ≤ new.spare + lost) is spare)
@@ -62,15 +63,15 @@ module _ (lanes : List Ranked) (at : ℕ) (lane new : Ranked) (less : at < lengt
   pub taken : (m : Msg) → messages_of (take at lanes) ≡ [] → lane.messages ≡ m ∷ new.messages → messages_of lanes ≡ m ∷ messages_of (set lanes at new)
   taken m empty e = first-set new lane m lanes at less empty (ap (λ (x : Ranked). x.messages) (sym is) ∙ e)
 
-  pub flushed : is_laned lanes ≡ true → new.messages ≡ flush_of lane.messages → messages_of (set lanes at new) ≡ filter (λ m. not (is_flushed m.kind && stands_in lane.rank m)) (messages_of lanes)
+  pub flushed : is_laned lanes ≡ true → new.messages ≡ flush_of lane.messages → messages_of (set lanes at new) ≡ filter (λ m. not (is_flushed m.kind && is_of_rank lane.rank m)) (messages_of lanes)
   flushed h e =
-      subst (λ (x : Ranked). messages_of (set lanes at new) ≡ filter (λ m. not (is_flushed m.kind && stands_in x.rank m)) (messages_of lanes)) (sym is) (flush-set new lane lanes at h less (e ∙ ap (λ (x : Ranked). flush_of x.messages) is))
+      subst (λ (x : Ranked). messages_of (set lanes at new) ≡ filter (λ m. not (is_flushed m.kind && is_of_rank x.rank m)) (messages_of lanes)) (sym is) (flush-set new lane lanes at h less (e ∙ ap (λ (x : Ranked). flush_of x.messages) is))
 
   pub counted : length (messages_of (set lanes at new)) + length lane.messages ≡ length (messages_of lanes) + length new.messages
   counted = subst (λ (x : Ranked). length (messages_of (set lanes at new)) + length x.messages ≡ length (messages_of lanes) + length new.messages) (sym is) (length-set_lane new lane lanes at less)
 
   pub flushed-laned : is_laned lanes ≡ true → new.messages ≡ flush_of lane.messages → is_laned (set lanes at new) ≡ true
-  flushed-laned h e = changed-laned h (rw e (all_filter (stands_in lane.rank) (λ (m : Msg). not (is_flushed m.kind)) lane.messages (stood h)))
+  flushed-laned h e = changed-laned h (rw e (all_filter (is_of_rank lane.rank) (λ (m : Msg). not (is_flushed m.kind)) lane.messages (stood h)))
 
 -- the first message stands in the first lane that has one
 pub first-get : (d : Ranked) (lanes : List Ranked) (at : ℕ) → at < length lanes → messages_of (take at lanes) ≡ [] → 0 < length (get_or lanes at d).messages → slice_get (messages_of lanes) 0 ≡ slice_get (get_or lanes at d).messages 0
@@ -132,8 +133,8 @@ module _ (lanes : List Ranked) (at : ℕ) (lane new : Ranked) (less : at < lengt
       rw (more, filter-append stays (messages_of (take at lanes)) new.messages) (rw (done, again) refl)
 
 -- the first lane has what its first message leaves
-pub left_standing : (rank : ℕ) (m : Msg) (q : List Msg) → list_all (stands_in rank) (m ∷ q) ≡ true → list_all (stands_in rank) q ≡ true
-left_standing rank m q h = right_of (stands_in rank m) (list_all (stands_in rank) q) h
+pub left_standing : (rank : ℕ) (m : Msg) (q : List Msg) → list_all (is_of_rank rank) (m ∷ q) ≡ true → list_all (is_of_rank rank) q ≡ true
+left_standing rank m q h = (and_parts (is_of_rank rank m) (list_all (is_of_rank rank) q) h).1
 
 -- the room of a lane that was written at its place
 pub spare-there : (rank : ℕ) (lanes : List Ranked) (at : ℕ) (new : Ranked) → is_laned (set lanes at new) ≡ true → at < length lanes → new.rank ≡ rank → spare_of rank (set lanes at new) ≡ new.spare

@@ -2,39 +2,32 @@
 use Rattle.std.proofs.Common.{◌≡◌, ℕ, ◌<◌, ◌&&◌, not, ap, Bool, true, false, cond, List, [], ◌∷◌, ◌++◌, length, get_or, filter, refl, suc, zero, arith}
 use Rattle.std.specs.List.{list_all}
 use Rattle.std.specs.Cmp.Derive.{both_true}
+use Rattle.std.proofs.lemmas.Bool.{and_parts}
 use Rattle.strm_msg.specs.Message.{Msg}
 use Rattle.strm_queue.specs.Queue.{is_flushed}
-
-pub left_of : (a b : Bool) → (a && b) ≡ true → a ≡ true
-left_of true b h = refl
-left_of false b h = h
-
-pub right_of : (a b : Bool) → (a && b) ≡ true → b ≡ true
-right_of true b h = h
-right_of false b h = cc
 
 -- what passes one test passes another that is weaker
 pub all_so : {X : Type 0} (p q : X → Bool) (xs : List X) → ((x : X) → p x ≡ true → q x ≡ true) → list_all p xs ≡ true → list_all q xs ≡ true
 all_so p q [] so h = refl
-all_so p q (x ∷ xs) so h = both_true (so x (left_of (p x) (list_all p xs) h)) (all_so p q xs so (right_of (p x) (list_all p xs) h))
+all_so p q (x ∷ xs) so h = both_true (so x ((and_parts (p x) (list_all p xs) h).0)) (all_so p q xs so ((and_parts (p x) (list_all p xs) h).1))
 
 -- lists that pass, one after another
 pub all_both : {X : Type 0} (p : X → Bool) (xs ys : List X) → list_all p xs ≡ true → list_all p ys ≡ true → list_all p (xs ++ ys) ≡ true
 all_both p [] ys h k = k
-all_both p (x ∷ xs) ys h k = both_true (left_of (p x) (list_all p xs) h) (all_both p xs ys (right_of (p x) (list_all p xs) h) k)
+all_both p (x ∷ xs) ys h k = both_true ((and_parts (p x) (list_all p xs) h).0) (all_both p xs ys ((and_parts (p x) (list_all p xs) h).1) k)
 
 pub all_get : {X : Type 0} (p : X → Bool) (xs : List X) (i : ℕ) (d : X) → list_all p xs ≡ true → i < length xs → p (get_or xs i d) ≡ true
 all_get p [] i d h less = absurd (omega arith)
-all_get p (x ∷ xs) zero d h less = left_of (p x) (list_all p xs) h
-all_get p (x ∷ xs) (suc i) d h less = all_get p xs i d (right_of (p x) (list_all p xs) h) (omega arith)
+all_get p (x ∷ xs) zero d h less = (and_parts (p x) (list_all p xs) h).0
+all_get p (x ∷ xs) (suc i) d h less = all_get p xs i d ((and_parts (p x) (list_all p xs) h).1) (omega arith)
 
 -- what all elements pass, those that a filter leaves pass
 pub all_filter : {X : Type 0} (test keep : X → Bool) (xs : List X) → list_all test xs ≡ true → list_all test (filter keep xs) ≡ true
 all_filter test keep [] h = refl
 all_filter test keep (x ∷ xs) h =
-    let rest = all_filter test keep xs (right_of (test x) (list_all test xs) h) in
+    let rest = all_filter test keep xs ((and_parts (test x) (list_all test xs) h).1) in
     elim (keep x) as (λ b. list_all test (cond b (x ∷ filter keep xs) (filter keep xs)) ≡ true) [
-      | true ↦ both_true (left_of (test x) (list_all test xs) h) rest
+      | true ↦ both_true ((and_parts (test x) (list_all test xs) h).0) rest
       | false ↦ rest
     ]
 
@@ -42,8 +35,8 @@ all_filter test keep (x ∷ xs) h =
 pub filter_so : {X : Type 0} (p q r : X → Bool) (xs : List X) → ((x : X) → p x ≡ true → q x ≡ r x) → list_all p xs ≡ true → filter q xs ≡ filter r xs
 filter_so p q r [] so h = refl
 filter_so p q r (x ∷ xs) so h =
-    let rest = filter_so p q r xs so (right_of (p x) (list_all p xs) h) in
-    rw (so x (left_of (p x) (list_all p xs) h), rest) refl
+    let rest = filter_so p q r xs so ((and_parts (p x) (list_all p xs) h).1) in
+    rw (so x ((and_parts (p x) (list_all p xs) h).0), rest) refl
 
 pub filter_true : {X : Type 0} (xs : List X) → filter (λ _. true) xs ≡ xs
 filter_true [] = refl

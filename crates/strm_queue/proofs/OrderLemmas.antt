@@ -1,11 +1,11 @@
 -- Messages in order of rank.
 use Rattle.std.proofs.Common.{◌≡◌, ℕ, ◌-◌, ◌<◌, ◌≤◌, nat_le, nat_lt, true, List, [], ◌∷◌, length, get_or, insert, ap, suc, zero, arith}
 use Rattle.std.specs.List.{list_all, suffix_len}
-use Rattle.std.proofs.lemmas.Bool.{leb-true, leb-false, lt-ltb, le-ltb}
+use Rattle.std.proofs.lemmas.Bool.{leb-true, leb-false, lt-ltb, le-ltb, and_parts}
 use Rattle.std.proofs.lemmas.List.Sums.{prefix_len-le-length, prefix_len_stops, prefix_len_passes, suffix_len_is}
 use Rattle.strm_msg.specs.Message.{Msg, rank_of}
 use Rattle.strm_queue.specs.Queue.{front_len, is_ordered, put_in, behind_last}
-use Rattle.strm_queue.proofs.ListLemmas.{left_of, right_of, all_get}
+use Rattle.strm_queue.proofs.ListLemmas.{all_get}
 
 -- a later message has no greater rank
 rank_of-later : (q : List Msg) (i j : ℕ) (d : Msg) → is_ordered q ≡ true → i ≤ j → j < length q → rank_of (get_or q j d) ≤ rank_of (get_or q i d)
@@ -13,11 +13,11 @@ rank_of-later [] i j d h le less = absurd (omega arith)
 rank_of-later (x ∷ q) zero zero d h le less = omega arith
 rank_of-later (x ∷ q) zero (suc j) d h le less =
     let test = λ (y : Msg). nat_le (rank_of y) (rank_of x) in
-    leb-true (rank_of (get_or q j d)) (rank_of x) (all_get test q j d (left_of (list_all test q) (is_ordered q) h) (omega arith))
+    leb-true (rank_of (get_or q j d)) (rank_of x) (all_get test q j d ((and_parts (list_all test q) (is_ordered q) h).0) (omega arith))
 rank_of-later (x ∷ q) (suc i) zero d h le less = absurd (omega arith)
 rank_of-later (x ∷ q) (suc i) (suc j) d h le less =
     let test = λ (y : Msg). nat_le (rank_of y) (rank_of x) in
-    rank_of-later q i j d (right_of (list_all test q) (is_ordered q) h) (omega arith) (omega arith)
+    rank_of-later q i j d ((and_parts (list_all test q) (is_ordered q) h).1) (omega arith) (omega arith)
 
 -- in order, the front of at least a rank ends where the rest of less begins
 front_len-last : (least : ℕ) (q : List Msg) (d : Msg) → is_ordered q ≡ true → front_len least q ≡ length q - suffix_len (λ x. nat_lt (rank_of x) least) q

@@ -4,14 +4,14 @@ use Rattle.std.specs.Prelude.{if◌then◌else◌}
 use Rattle.std.specs.List.{list_all}
 use Rattle.std.specs.List.Sorted.{IsPartitionedBy}
 use Rattle.std.specs.Cmp.Derive.{both_true}
-use Rattle.std.proofs.lemmas.Bool.{ltb-true, ltb-false, lt-ltb, eqb-true, eq-eqb}
+use Rattle.std.proofs.lemmas.Bool.{ltb-true, ltb-false, lt-ltb, eqb-true, eq-eqb, and_parts}
 use Rattle.std.proofs.lemmas.Bool.Decides.{nat_tests}
 use Rattle.std.proofs.lemmas.List.{nil_from_length}
 use Rattle.std.proofs.lemmas.List.Elements.{filter-append}
 use Rattle.strm_msg.specs.Message.{Msg, rank_of}
 use Rattle.strm_queue.specs.Queue.{front_len, is_flushed, flush_of, put_in, put_back_in}
-use Rattle.strm_queue.specs.Lanes.{Ranked, stands_in, is_laned, messages_of, lane_of, spare_of, place_of, IsPlace}
-use Rattle.strm_queue.proofs.ListLemmas.{left_of, right_of, all_so, all_both, all_get, filter_so, none_flushed, and-true}
+use Rattle.strm_queue.specs.Lanes.{Ranked, is_of_rank, is_laned, messages_of, lane_of, spare_of, place_of, IsPlace}
+use Rattle.strm_queue.proofs.ListLemmas.{all_so, all_both, all_get, filter_so, none_flushed, and-true}
 use Rattle.strm_queue.proofs.StandLemmas.{all_reach, all_below, filter_other}
 use Rattle.strm_queue.proofs.LanesLemmas.{its_own, lanes_fall, lanes_after, is_absent, absent_below, lane_of-absent, lanes_filter, lanes_below}
 
@@ -29,7 +29,7 @@ pub lane_at : (rank : ℕ) (lanes : List Ranked) (at : ℕ) (lane : Ranked) → 
 lane_at rank lanes at lane h place is = rw (← place.1 lane) (lane_of-place lanes at lane h place.0 ∙ sym is)
 
 -- the messages at a place stand there
-pub stands-place : (lanes : List Ranked) (at : ℕ) (d : Ranked) → is_laned lanes ≡ true → at < length lanes → list_all (stands_in (get_or lanes at d).rank) (get_or lanes at d).messages ≡ true
+pub stands-place : (lanes : List Ranked) (at : ℕ) (d : Ranked) → is_laned lanes ≡ true → at < length lanes → list_all (is_of_rank (get_or lanes at d).rank) (get_or lanes at d).messages ≡ true
 stands-place [] at d h less = absurd (omega arith)
 stands-place (lane ∷ lanes) zero d h less = its_own lane lanes h
 stands-place (lane ∷ lanes) (suc i) d h less = stands-place lanes i d (lanes_after lane lanes h) (omega arith)
@@ -74,14 +74,14 @@ module _ (new d : Ranked) where
   falls-set most [] at less same h = absurd (omega arith)
   falls-set most (lane ∷ lanes) zero less same h =
       let test = λ (other : Ranked). nat_lt other.rank most in
-      let here : test new ≡ true = rw same (left_of (test lane) (list_all test lanes) h) in
-      both_true here (right_of (test lane) (list_all test lanes) h)
+      let here : test new ≡ true = rw same ((and_parts (test lane) (list_all test lanes) h).0) in
+      both_true here ((and_parts (test lane) (list_all test lanes) h).1)
   falls-set most (lane ∷ lanes) (suc i) less same h =
       let test = λ (other : Ranked). nat_lt other.rank most in
-      both_true (left_of (test lane) (list_all test lanes) h) (falls-set most lanes i (omega arith) same (right_of (test lane) (list_all test lanes) h))
+      both_true ((and_parts (test lane) (list_all test lanes) h).0) (falls-set most lanes i (omega arith) same ((and_parts (test lane) (list_all test lanes) h).1))
 
   -- the lanes stay in order
-  pub is_laned-set : (lanes : List Ranked) (at : ℕ) → is_laned lanes ≡ true → at < length lanes → new.rank ≡ (get_or lanes at d).rank → list_all (stands_in new.rank) new.messages ≡ true → is_laned (set lanes at new) ≡ true
+  pub is_laned-set : (lanes : List Ranked) (at : ℕ) → is_laned lanes ≡ true → at < length lanes → new.rank ≡ (get_or lanes at d).rank → list_all (is_of_rank new.rank) new.messages ≡ true → is_laned (set lanes at new) ≡ true
   is_laned-set [] at h less same stands = absurd (omega arith)
   is_laned-set (lane ∷ lanes) zero h less same stands =
       let falls : list_all (λ (other : Ranked). nat_lt other.rank new.rank) lanes ≡ true = rw same (lanes_fall lane lanes h) in
@@ -122,14 +122,14 @@ front_step least [] rest m h = refl
 front_step least (x ∷ q) rest m h =
     let test = λ (y : Msg). nat_le least (rank_of y) in
     let next : 1 + front_len least (q ++ rest) ≡ suc (front_len least (q ++ rest)) = omega arith in
-    rw (left_of (test x) (list_all test q) h, next) (ap (λ ys. x ∷ ys) (front_step least q rest m (right_of (test x) (list_all test q) h)))
+    rw ((and_parts (test x) (list_all test q) h).0, next) (ap (λ ys. x ∷ ys) (front_step least q rest m ((and_parts (test x) (list_all test q) h).1)))
 
 -- nothing stands before messages of lesser ranks
 front_none : (least : ℕ) (q : List Msg) → list_all (λ y. nat_lt (rank_of y) least) q ≡ true → front_len least q ≡ 0
 front_none least [] h = refl
 front_none least (x ∷ q) h =
     let test = λ (y : Msg). nat_lt (rank_of y) least in
-    let less = ltb-true (rank_of x) least (left_of (test x) (list_all test q) h) in
+    let less = ltb-true (rank_of x) least ((and_parts (test x) (list_all test q) h).0) in
     let stop : nat_le least (rank_of x) ≡ false = grind (arith, nat_tests) in
     rw stop refl
 
@@ -170,22 +170,22 @@ first-set new d m (lane ∷ lanes) (suc i) less empty is =
     rw none (first-set new d m lanes i (omega arith) rest is)
 
 -- a flush of the lane of a rank removes what stands there and is flushed
-pub flush-set : (new d : Ranked) (lanes : List Ranked) (at : ℕ) → is_laned lanes ≡ true → at < length lanes → new.messages ≡ flush_of (get_or lanes at d).messages → messages_of (set lanes at new) ≡ filter (λ m. not (is_flushed m.kind && stands_in (get_or lanes at d).rank m)) (messages_of lanes)
+pub flush-set : (new d : Ranked) (lanes : List Ranked) (at : ℕ) → is_laned lanes ≡ true → at < length lanes → new.messages ≡ flush_of (get_or lanes at d).messages → messages_of (set lanes at new) ≡ filter (λ m. not (is_flushed m.kind && is_of_rank (get_or lanes at d).rank m)) (messages_of lanes)
 flush-set new d [] at h less is = absurd (omega arith)
 flush-set new d (lane ∷ lanes) zero h less is =
-    let stays = λ (m : Msg). not (is_flushed m.kind && stands_in lane.rank m) in
+    let stays = λ (m : Msg). not (is_flushed m.kind && is_of_rank lane.rank m) in
     let split = filter-append stays lane.messages (messages_of lanes) in
-    let here : filter stays lane.messages ≡ flush_of lane.messages = filter_so (stands_in lane.rank) stays (λ (m : Msg). not (is_flushed m.kind)) lane.messages (λ m stands. rw (stands, and-true (is_flushed m.kind)) refl) (its_own lane lanes h) in
+    let here : filter stays lane.messages ≡ flush_of lane.messages = filter_so (is_of_rank lane.rank) stays (λ (m : Msg). not (is_flushed m.kind)) lane.messages (λ m stands. rw (stands, and-true (is_flushed m.kind)) refl) (its_own lane lanes h) in
     let absent = absent_below lane.rank lane.rank lanes (omega arith) (lanes_fall lane lanes h) in
-    let none : filter (stands_in lane.rank) (messages_of lanes) ≡ [] = lanes_filter lane.rank lanes (lanes_after lane lanes h) ∙ ap (λ (x : Ranked). x.messages) (lane_of-absent lane.rank lanes absent) in
-    rw (split, here, none_flushed (stands_in lane.rank) (messages_of lanes) none, is) refl
+    let none : filter (is_of_rank lane.rank) (messages_of lanes) ≡ [] = lanes_filter lane.rank lanes (lanes_after lane lanes h) ∙ ap (λ (x : Ranked). x.messages) (lane_of-absent lane.rank lanes absent) in
+    rw (split, here, none_flushed (is_of_rank lane.rank) (messages_of lanes) none, is) refl
 flush-set new d (lane ∷ lanes) (suc i) h less is =
     let rank = (get_or lanes i d).rank in
-    let stays = λ (m : Msg). not (is_flushed m.kind && stands_in rank m) in
+    let stays = λ (m : Msg). not (is_flushed m.kind && is_of_rank rank m) in
     let split = filter-append stays lane.messages (messages_of lanes) in
     let under = ltb-true rank lane.rank (all_get (λ (other : Ranked). nat_lt other.rank lane.rank) lanes i d (lanes_fall lane lanes h) (omega arith)) in
     let differs : (lane.rank == rank) ≡ false = grind (arith, nat_tests) in
-    let here : filter stays lane.messages ≡ lane.messages = none_flushed (stands_in rank) lane.messages (filter_other lane.rank rank lane.messages differs (its_own lane lanes h)) in
+    let here : filter stays lane.messages ≡ lane.messages = none_flushed (is_of_rank rank) lane.messages (filter_other lane.rank rank lane.messages differs (its_own lane lanes h)) in
     rw (split, here) (ap (λ ys. lane.messages ++ ys) (flush-set new d lanes i (lanes_after lane lanes h) (omega arith) is))
 
 -- a new lane without messages, put at the place of a rank that no lane has
@@ -202,13 +202,13 @@ module _ (new : Ranked) (empty : new.messages ≡ []) where
   falls-insert most (lane ∷ lanes) zero less h = both_true (lt-ltb new.rank most less) h
   falls-insert most (lane ∷ lanes) (suc i) less h =
       let test = λ (other : Ranked). nat_lt other.rank most in
-      both_true (left_of (test lane) (list_all test lanes) h) (falls-insert most lanes i less (right_of (test lane) (list_all test lanes) h))
+      both_true ((and_parts (test lane) (list_all test lanes) h).0) (falls-insert most lanes i less ((and_parts (test lane) (list_all test lanes) h).1))
 
   pub is_laned-insert : (lanes : List Ranked) → is_laned lanes ≡ true → is_absent new.rank lanes ≡ true → is_laned (insert lanes (place_of new.rank lanes) new) ≡ true
   is_laned-insert [] h absent = rw empty refl
   is_laned-insert (lane ∷ lanes) h absent =
-      let here = left_of (not (lane.rank == new.rank)) (is_absent new.rank lanes) absent in
-      let others = right_of (not (lane.rank == new.rank)) (is_absent new.rank lanes) absent in
+      let here = (and_parts (not (lane.rank == new.rank)) (is_absent new.rank lanes) absent).0 in
+      let others = (and_parts (not (lane.rank == new.rank)) (is_absent new.rank lanes) absent).1 in
       elim (nat_lt new.rank lane.rank) as (λ b. nat_lt new.rank lane.rank ≡ b → is_laned (insert (lane ∷ lanes) (cond b (1 + place_of new.rank lanes) 0) new) ≡ true) [
         | true ↦ λ e.
             let above = ltb-true new.rank lane.rank e in
@@ -218,7 +218,7 @@ module _ (new : Ranked) (empty : new.messages ≡ []) where
             let at_most = ltb-false new.rank lane.rank e in
             let under : lane.rank < new.rank = grind (arith, nat_tests) in
             let falls = all_so (λ (other : Ranked). nat_lt other.rank lane.rank) (λ (other : Ranked). nat_lt other.rank new.rank) lanes (λ other less. lt-ltb other.rank new.rank (let deeper = ltb-true other.rank lane.rank less in omega (arith, deeper, under))) (lanes_fall lane lanes h) in
-            let stands : list_all (stands_in new.rank) new.messages ≡ true = rw empty refl in
+            let stands : list_all (is_of_rank new.rank) new.messages ≡ true = rw empty refl in
             both_true stands (both_true (both_true (lt-ltb lane.rank new.rank under) falls) h)
       ] refl
 
@@ -234,7 +234,7 @@ module _ (new : Ranked) (empty : new.messages ≡ []) where
         | false ↦ λ e. omega arith
       ] refl
   spare-insert other (lane ∷ lanes) (suc i) absent =
-      let rest = spare-insert other lanes i (right_of (not (lane.rank == new.rank)) (is_absent new.rank lanes) absent) in
+      let rest = spare-insert other lanes i ((and_parts (not (lane.rank == new.rank)) (is_absent new.rank lanes) absent).1) in
       elim (lane.rank == other) as (λ b. (if b then lane else lane_of other lanes).spare ≤ (if b then lane else lane_of other (insert lanes i new)).spare) [
         | true ↦ omega arith
         | false ↦ rest

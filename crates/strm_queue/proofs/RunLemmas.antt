@@ -6,10 +6,11 @@ use Rattle.std.proofs.lemmas.Bool.Decides.{nat_tests}
 use Rattle.std.proofs.lemmas.List.Folds.{list_any-append}
 use Rattle.std.proofs.lemmas.Map.Keys.{IsDistinct-push, IsDistinct-tail}
 use Rattle.std.proofs.lemmas.Map.Steps.{length-le_from_distinct_below}
-use Rattle.strm_queue.specs.Run.{stands_in, AreOnce}
+use Rattle.std.proofs.lemmas.Bool.{or_right, or_left}
+use Rattle.strm_queue.specs.Run.{is_listed, AreOnce}
 
 -- the test of a list the other way round
-pub stands_turned : (p : ℕ) (items : List ℕ) → list_any (λ x. nat_eq x p) items ≡ stands_in p items
+pub stands_turned : (p : ℕ) (items : List ℕ) → list_any (λ x. nat_eq x p) items ≡ is_listed p items
 stands_turned p [] = refl
 stands_turned p (x ∷ items) = rw (nat_eq_equiv.symm x p) (ap (λ b. nat_eq p x || b) (stands_turned p items))
 
@@ -19,20 +20,20 @@ or_last false true = refl
 or_last false false = refl
 
 -- who stands in a list with one more behind it
-pub stands_behind : (q p : ℕ) (items : List ℕ) → stands_in q (items ++ p ∷ []) ≡ (stands_in q items || nat_eq q p)
-stands_behind q p items = list_any-append (nat_eq q) items (p ∷ []) ∙ or_last (stands_in q items) (nat_eq q p)
+pub stands_behind : (q p : ℕ) (items : List ℕ) → is_listed q (items ++ p ∷ []) ≡ (is_listed q items || nat_eq q p)
+stands_behind q p items = list_any-append (nat_eq q) items (p ∷ []) ∙ or_last (is_listed q items) (nat_eq q p)
 
 or_same : (a b : Bool) → (b ≡ true → a ≡ true) → a ≡ (a || b)
 or_same true b h = refl
 or_same false true h = h refl
 or_same false false h = refl
 
-stands_as : (q p : ℕ) (items : List ℕ) → stands_in p items ≡ true → nat_eq q p ≡ true → stands_in q items ≡ true
+stands_as : (q p : ℕ) (items : List ℕ) → is_listed p items ≡ true → nat_eq q p ≡ true → is_listed q items ≡ true
 stands_as q p items h e = let same : q ≡ p = grind (arith, nat_tests) in rw same h
 
 -- who stands in a list in which a place was enabled
-pub stands_with : (q p : ℕ) (items : List ℕ) (b : Bool) → stands_in p items ≡ b → stands_in q (cond b items (items ++ p ∷ [])) ≡ (stands_in q items || nat_eq q p)
-stands_with q p items true h = or_same (stands_in q items) (nat_eq q p) (stands_as q p items h)
+pub stands_with : (q p : ℕ) (items : List ℕ) (b : Bool) → is_listed p items ≡ b → is_listed q (cond b items (items ++ p ∷ [])) ≡ (is_listed q items || nat_eq q p)
+stands_with q p items true h = or_same (is_listed q items) (nat_eq q p) (stands_as q p items h)
 stands_with q p items false h = stands_behind q p items
 
 or_cases : (a b : Bool) (C : Type 0) → (a || b) ≡ true → (a ≡ true → C) → (b ≡ true → C) → C
@@ -40,31 +41,23 @@ or_cases true b C h x y = x refl
 or_cases false b C h x y = y h
 
 -- one more place
-pub once_behind : (n p : ℕ) (items : List ℕ) → AreOnce n items → p < n → stands_in p items ≡ false → AreOnce n (items ++ p ∷ [])
+pub once_behind : (n p : ℕ) (items : List ℕ) → AreOnce n items → p < n → is_listed p items ≡ false → AreOnce n (items ++ p ∷ [])
 once_behind n p items a less h =
     let once = IsDistinct-push nat_eq_equiv items p a.once h in
-    let below : (q : ℕ) → stands_in q (items ++ p ∷ []) ≡ true → q < n =
-    λ q e. or_cases (stands_in q items) (nat_eq q p) (q < n) (sym (stands_behind q p items) ∙ e) (a.below q) (λ s. let same : q ≡ p = grind (arith, nat_tests) in rw same less) in
+    let below : (q : ℕ) → is_listed q (items ++ p ∷ []) ≡ true → q < n =
+    λ q e. or_cases (is_listed q items) (nat_eq q p) (q < n) (sym (stands_behind q p items) ∙ e) (a.below q) (λ s. let same : q ≡ p = grind (arith, nat_tests) in rw same less) in
     record { once = once; below = below; few = length-le_from_distinct_below (items ++ p ∷ []) n once below }
-
-or_right : (a b : Bool) → b ≡ true → (a || b) ≡ true
-or_right true b h = refl
-or_right false b h = h
 
 -- without the first
 pub once_rest : (n p : ℕ) (items : List ℕ) → AreOnce n (p ∷ items) → AreOnce n items
 once_rest n p items a =
-    record { once = IsDistinct-tail nat_eq p items a.once; below = λ q e. a.below q (or_right (nat_eq q p) (stands_in q items) e); few = let f : length (p ∷ items) ≤ n = a.few in omega arith }
-
-or_left : (a b : Bool) → a ≡ true → (a || b) ≡ true
-or_left true b h = refl
-or_left false b h = cc
+    record { once = IsDistinct-tail nat_eq p items a.once; below = λ q e. a.below q (or_right (nat_eq q p) (is_listed q items) e); few = let f : length (p ∷ items) ≤ n = a.few in omega arith }
 
 -- the first is below n
 pub first_below : (n p : ℕ) (items : List ℕ) → AreOnce n (p ∷ items) → p < n
-first_below n p items a = a.below p (or_left (nat_eq p p) (stands_in p items) (nat_eq_equiv.refl p))
+first_below n p items a = a.below p (or_left (nat_eq p p) (is_listed p items) (nat_eq_equiv.refl p))
 
-none_below : (p n : ℕ) → stands_in p [] ≡ true → p < n
+none_below : (p n : ℕ) → is_listed p [] ≡ true → p < n
 none_below p n e = cc
 
 -- no place

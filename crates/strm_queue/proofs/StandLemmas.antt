@@ -11,7 +11,7 @@ use Rattle.strm_msg.specs.Kind.{is_high}
 use Rattle.strm_msg.specs.declared.kind.MsgKind.{MsgKind}
 use Rattle.strm_msg.specs.declared.kind.MsgKind.TheVariants.{MPcproto}
 use Rattle.strm_queue.specs.Queue.{is_flushed, is_of_band, is_pcproto, weight_in, held_of, flush_band_of}
-use Rattle.strm_queue.specs.Lanes.{stands_in}
+use Rattle.strm_queue.specs.Lanes.{is_of_rank}
 use Rattle.strm_queue.proofs.ListLemmas.{all_so, filter_so, filter_true, filter_false, filter_ext, filter_twice}
 
 one_lane : (high : Bool) (a b band : ℕ) → (if high then a == 256 else (nat_lt a 256 && (band == a))) ≡ true → (if high then b == 256 else (nat_lt b 256 && (band == b))) ≡ (a == b)
@@ -19,7 +19,7 @@ one_lane true a b band h = grind (arith, nat_tests)
 one_lane false a b band h = grind (arith, nat_tests)
 
 -- a message of one lane stands in another only if it is the same
-pub stands_elsewhere : (a b : ℕ) (m : Msg) → stands_in a m ≡ true → stands_in b m ≡ (a == b)
+pub stands_elsewhere : (a b : ℕ) (m : Msg) → is_of_rank a m ≡ true → is_of_rank b m ≡ (a == b)
 stands_elsewhere a b m h = one_lane (is_high m.kind) a b m.band h
 
 its_rank : (high : Bool) (a band : ℕ) → (if high then a == 256 else (nat_lt a 256 && (band == a))) ≡ true → (if high then 256 else band) ≡ a
@@ -27,24 +27,24 @@ its_rank true a band h = grind (arith, nat_tests)
 its_rank false a band h = grind (arith, nat_tests)
 
 -- a message stands in the lane of its rank
-pub rank_of-stands : (a : ℕ) (m : Msg) → stands_in a m ≡ true → rank_of m ≡ a
+pub rank_of-stands : (a : ℕ) (m : Msg) → is_of_rank a m ≡ true → rank_of m ≡ a
 rank_of-stands a m h = its_rank (is_high m.kind) a m.band h
 
 -- messages of a lane have at least what its rank reaches
-pub all_reach : (least a : ℕ) (q : List Msg) → least ≤ a → list_all (stands_in a) q ≡ true → list_all (λ m. nat_le least (rank_of m)) q ≡ true
-all_reach least a q le h = all_so (stands_in a) (λ m. nat_le least (rank_of m)) q (λ m stands. let rank = rank_of-stands a m stands in rw rank (le-leb least a le)) h
+pub all_reach : (least a : ℕ) (q : List Msg) → least ≤ a → list_all (is_of_rank a) q ≡ true → list_all (λ m. nat_le least (rank_of m)) q ≡ true
+all_reach least a q le h = all_so (is_of_rank a) (λ m. nat_le least (rank_of m)) q (λ m stands. let rank = rank_of-stands a m stands in rw rank (le-leb least a le)) h
 
-pub all_below : (most a : ℕ) (q : List Msg) → a < most → list_all (stands_in a) q ≡ true → list_all (λ m. nat_lt (rank_of m) most) q ≡ true
-all_below most a q less h = all_so (stands_in a) (λ m. nat_lt (rank_of m) most) q (λ m stands. let rank = rank_of-stands a m stands in rw rank (lt-ltb a most less)) h
+pub all_below : (most a : ℕ) (q : List Msg) → a < most → list_all (is_of_rank a) q ≡ true → list_all (λ m. nat_lt (rank_of m) most) q ≡ true
+all_below most a q less h = all_so (is_of_rank a) (λ m. nat_lt (rank_of m) most) q (λ m stands. let rank = rank_of-stands a m stands in rw rank (lt-ltb a most less)) h
 
-pub filter_own : (a b : ℕ) (q : List Msg) → (a == b) ≡ true → list_all (stands_in a) q ≡ true → filter (stands_in b) q ≡ q
-filter_own a b q same h = rw (filter_so (stands_in a) (stands_in b) (λ _. true) q (λ m stands. rw (stands_elsewhere a b m stands) same) h) (filter_true q)
+pub filter_own : (a b : ℕ) (q : List Msg) → (a == b) ≡ true → list_all (is_of_rank a) q ≡ true → filter (is_of_rank b) q ≡ q
+filter_own a b q same h = rw (filter_so (is_of_rank a) (is_of_rank b) (λ _. true) q (λ m stands. rw (stands_elsewhere a b m stands) same) h) (filter_true q)
 
-pub filter_other : (a b : ℕ) (q : List Msg) → (a == b) ≡ false → list_all (stands_in a) q ≡ true → filter (stands_in b) q ≡ []
-filter_other a b q other h = rw (filter_so (stands_in a) (stands_in b) (λ _. false) q (λ m stands. rw (stands_elsewhere a b m stands) other) h) (filter_false q)
+pub filter_other : (a b : ℕ) (q : List Msg) → (a == b) ≡ false → list_all (is_of_rank a) q ≡ true → filter (is_of_rank b) q ≡ []
+filter_other a b q other h = rw (filter_so (is_of_rank a) (is_of_rank b) (λ _. false) q (λ m stands. rw (stands_elsewhere a b m stands) other) h) (filter_false q)
 
 -- a band above 0 has what stands in its lane
-pub ordinary_band : (band : ℕ) (m : Msg) → (band == 0) ≡ false → band < 256 → is_of_band band m ≡ stands_in band m
+pub ordinary_band : (band : ℕ) (m : Msg) → (band == 0) ≡ false → band < 256 → is_of_band band m ≡ is_of_rank band m
 ordinary_band band m other less = by_class (is_high m.kind)
   where
     by_class : (high : Bool) → (if high then band == 0 else (m.band == band)) ≡ (if high then band == 256 else (nat_lt band 256 && (m.band == band)))
@@ -56,10 +56,10 @@ zero_band : (high : Bool) (band : ℕ) → (if high then 0 == 0 else (band == 0)
 zero_band true band = refl
 zero_band false band = grind (arith, nat_tests)
 
-pub band_zero : (m : Msg) → is_of_band 0 m ≡ (stands_in 0 m || stands_in 256 m)
+pub band_zero : (m : Msg) → is_of_band 0 m ≡ (is_of_rank 0 m || is_of_rank 256 m)
 band_zero m = zero_band (is_high m.kind) m.band
 
-pub not_in_both : (m : Msg) → (stands_in 0 m && stands_in 256 m) ≡ false
+pub not_in_both : (m : Msg) → (is_of_rank 0 m && is_of_rank 256 m) ≡ false
 not_in_both m = by_class (is_high m.kind)
   where
     by_class : (high : Bool) → ((if high then 0 == 256 else (nat_lt 0 256 && (m.band == 0))) && (if high then 256 == 256 else (nat_lt 256 256 && (m.band == 256)))) ≡ false
@@ -67,49 +67,49 @@ not_in_both m = by_class (is_high m.kind)
     by_class false = grind (arith, nat_tests)
 
 -- a band above 0 holds what stands in its lane
-pub held-ordinary : (band : ℕ) (q : List Msg) → (band == 0) ≡ false → band < 256 → held_of q band ≡ sum_by weight_of (filter (stands_in band) q)
+pub held-ordinary : (band : ℕ) (q : List Msg) → (band == 0) ≡ false → band < 256 → held_of q band ≡ sum_by weight_of (filter (is_of_rank band) q)
 held-ordinary band [] other less = refl
 held-ordinary band (x ∷ q) other less =
     let rest = held-ordinary band q other less in
     let sum = sum_by-cons (weight_in band) x q in
     let here = ordinary_band band x other less in
-    elim (stands_in band x) as (λ b. stands_in band x ≡ b → held_of (x ∷ q) band ≡ sum_by weight_of (cond b (x ∷ filter (stands_in band) q) (filter (stands_in band) q))) [
+    elim (is_of_rank band x) as (λ b. is_of_rank band x ≡ b → held_of (x ∷ q) band ≡ sum_by weight_of (cond b (x ∷ filter (is_of_rank band) q) (filter (is_of_rank band) q))) [
       | true ↦ λ e.
           let mine : weight_in band x ≡ weight_of x = rw (here, e) refl in
-          let more = sum_by-cons weight_of x (filter (stands_in band) q) in
+          let more = sum_by-cons weight_of x (filter (is_of_rank band) q) in
           omega (arith, rest, sum, mine, more)
       | false ↦ λ e.
           let mine : weight_in band x ≡ 0 = rw (here, e) refl in
           omega (arith, rest, sum, mine)
     ] refl
 
-weight_zero : (m : Msg) (a b : Bool) → stands_in 0 m ≡ a → stands_in 256 m ≡ b → weight_in 0 m ≡ (if a || b then weight_of m else 0)
-weight_zero m a b d e = ap (λ s. if s then weight_of m else 0) (band_zero m ∙ ap (λ s. s || stands_in 256 m) d ∙ ap (λ s. a || s) e)
+weight_zero : (m : Msg) (a b : Bool) → is_of_rank 0 m ≡ a → is_of_rank 256 m ≡ b → weight_in 0 m ≡ (if a || b then weight_of m else 0)
+weight_zero m a b d e = ap (λ s. if s then weight_of m else 0) (band_zero m ∙ ap (λ s. s || is_of_rank 256 m) d ∙ ap (λ s. a || s) e)
 
 -- band 0 holds the high messages too
-pub held-zero : (q : List Msg) → held_of q 0 ≡ sum_by weight_of (filter (stands_in 0) q) + sum_by weight_of (filter (stands_in 256) q)
+pub held-zero : (q : List Msg) → held_of q 0 ≡ sum_by weight_of (filter (is_of_rank 0) q) + sum_by weight_of (filter (is_of_rank 256) q)
 held-zero [] = refl
 held-zero (x ∷ q) =
     let rest = held-zero q in
     let sum = sum_by-cons (weight_in 0) x q in
-    let low = sum_by-cons weight_of x (filter (stands_in 0) q) in
-    let high = sum_by-cons weight_of x (filter (stands_in 256) q) in
+    let low = sum_by-cons weight_of x (filter (is_of_rank 0) q) in
+    let high = sum_by-cons weight_of x (filter (is_of_rank 256) q) in
     let weight = weight_zero x in
-    elim (stands_in 0 x) as (λ a. stands_in 0 x ≡ a → held_of (x ∷ q) 0 ≡ sum_by weight_of (cond a (x ∷ filter (stands_in 0) q) (filter (stands_in 0) q)) + sum_by weight_of (filter (stands_in 256) (x ∷ q))) [
-      | true ↦ λ d. elim (stands_in 256 x) as (λ b. stands_in 256 x ≡ b → held_of (x ∷ q) 0 ≡ sum_by weight_of (x ∷ filter (stands_in 0) q) + sum_by weight_of (cond b (x ∷ filter (stands_in 256) q) (filter (stands_in 256) q))) [
-        | true ↦ λ e. let no_both : true ≡ false = ap (λ s. s && true) (sym d) ∙ ap (λ s. stands_in 0 x && s) (sym e) ∙ not_in_both x in cc
+    elim (is_of_rank 0 x) as (λ a. is_of_rank 0 x ≡ a → held_of (x ∷ q) 0 ≡ sum_by weight_of (cond a (x ∷ filter (is_of_rank 0) q) (filter (is_of_rank 0) q)) + sum_by weight_of (filter (is_of_rank 256) (x ∷ q))) [
+      | true ↦ λ d. elim (is_of_rank 256 x) as (λ b. is_of_rank 256 x ≡ b → held_of (x ∷ q) 0 ≡ sum_by weight_of (x ∷ filter (is_of_rank 0) q) + sum_by weight_of (cond b (x ∷ filter (is_of_rank 256) q) (filter (is_of_rank 256) q))) [
+        | true ↦ λ e. let no_both : true ≡ false = ap (λ s. s && true) (sym d) ∙ ap (λ s. is_of_rank 0 x && s) (sym e) ∙ not_in_both x in cc
         | false ↦ λ e. omega (arith, rest, sum, weight true false d e, low)
       ] refl
-      | false ↦ λ d. elim (stands_in 256 x) as (λ b. stands_in 256 x ≡ b → held_of (x ∷ q) 0 ≡ sum_by weight_of (filter (stands_in 0) q) + sum_by weight_of (cond b (x ∷ filter (stands_in 256) q) (filter (stands_in 256) q))) [
+      | false ↦ λ d. elim (is_of_rank 256 x) as (λ b. is_of_rank 256 x ≡ b → held_of (x ∷ q) 0 ≡ sum_by weight_of (filter (is_of_rank 0) q) + sum_by weight_of (cond b (x ∷ filter (is_of_rank 256) q) (filter (is_of_rank 256) q))) [
         | true ↦ λ e. omega (arith, rest, sum, weight false true d e, high)
         | false ↦ λ e. omega (arith, rest, sum, weight false false d e)
       ] refl
     ] refl
 
 -- what a flush of a band above 0 leaves
-pub flush-ordinary : (band : ℕ) (q : List Msg) → (band == 0) ≡ false → band < 256 → filter (λ m. not (is_flushed m.kind && stands_in band m)) q ≡ flush_band_of band q
+pub flush-ordinary : (band : ℕ) (q : List Msg) → (band == 0) ≡ false → band < 256 → filter (λ m. not (is_flushed m.kind && is_of_rank band m)) q ≡ flush_band_of band q
 flush-ordinary band q other less =
-    filter_ext (λ (m : Msg). not (is_flushed m.kind && stands_in band m)) (λ (m : Msg). not (is_flushed m.kind && is_of_band band m)) q (λ m. rw (ordinary_band band m other less) refl)
+    filter_ext (λ (m : Msg). not (is_flushed m.kind && is_of_rank band m)) (λ (m : Msg). not (is_flushed m.kind && is_of_band band m)) q (λ m. rw (ordinary_band band m other less) refl)
 
 both_flushes : (f a b : Bool) → (not (f && a) && not (f && b)) ≡ not (f && (a || b))
 both_flushes true true b = refl
@@ -117,11 +117,11 @@ both_flushes true false b = refl
 both_flushes false a b = refl
 
 -- what a flush of band 0 leaves
-pub flush-zero : (q : List Msg) → filter (λ m. not (is_flushed m.kind && stands_in 256 m)) (filter (λ m. not (is_flushed m.kind && stands_in 0 m)) q) ≡ flush_band_of 0 q
+pub flush-zero : (q : List Msg) → filter (λ m. not (is_flushed m.kind && is_of_rank 256 m)) (filter (λ m. not (is_flushed m.kind && is_of_rank 0 m)) q) ≡ flush_band_of 0 q
 flush-zero q =
-    let low = λ (m : Msg). not (is_flushed m.kind && stands_in 0 m) in
-    let high = λ (m : Msg). not (is_flushed m.kind && stands_in 256 m) in
-    filter_twice low high q ∙ filter_ext (λ (m : Msg). low m && high m) (λ (m : Msg). not (is_flushed m.kind && is_of_band 0 m)) q (λ m. rw (band_zero m) (both_flushes (is_flushed m.kind) (stands_in 0 m) (stands_in 256 m)))
+    let low = λ (m : Msg). not (is_flushed m.kind && is_of_rank 0 m) in
+    let high = λ (m : Msg). not (is_flushed m.kind && is_of_rank 256 m) in
+    filter_twice low high q ∙ filter_ext (λ (m : Msg). low m && high m) (λ (m : Msg). not (is_flushed m.kind && is_of_band 0 m)) q (λ m. rw (band_zero m) (both_flushes (is_flushed m.kind) (is_of_rank 0 m) (is_of_rank 256 m)))
 
 -- what a test finds stands where all that pass it stand
 pub found-in : (test stand : Msg → Bool) (q : List Msg) → ((m : Msg) → test m ≡ true → stand m ≡ true) → list_any test (filter stand q) ≡ list_any test q
@@ -136,7 +136,7 @@ found-in test stand (x ∷ q) so =
       ] refl
     ] refl
 
-pub pcproto_stands : (m : Msg) → is_pcproto m.kind ≡ true → stands_in 256 m ≡ true
+pub pcproto_stands : (m : Msg) → is_pcproto m.kind ≡ true → is_of_rank 256 m ≡ true
 pcproto_stands m h = by_kind m.kind h
   where
     by_kind : (kind : MsgKind) → is_pcproto kind ≡ true → (if is_high kind then 256 == 256 else (nat_lt 256 256 && (m.band == 256))) ≡ true
@@ -144,13 +144,13 @@ pcproto_stands m h = by_kind m.kind h
     by_kind kind h = cc
 
 -- an ordinary message of a band is there where one stands in its lane
-pub has-band : (band : ℕ) (q : List Msg) → band < 256 → list_any (λ m. not (is_high m.kind) && (m.band == band)) q ≡ not (length (filter (stands_in band) q) == 0)
+pub has-band : (band : ℕ) (q : List Msg) → band < 256 → list_any (λ m. not (is_high m.kind) && (m.band == band)) q ≡ not (length (filter (is_of_rank band) q) == 0)
 has-band band [] less = refl
 has-band band (x ∷ q) less =
     let rest = has-band band q less in
-    let here : (not (is_high x.kind) && (x.band == band)) ≡ stands_in band x = by_class (is_high x.kind) in
-    rw here (elim (stands_in band x) as (λ b. (b || list_any (λ m. not (is_high m.kind) && (m.band == band)) q) ≡ not (length (cond b (x ∷ filter (stands_in band) q) (filter (stands_in band) q)) == 0)) [
-      | true ↦ rw (eqb-suc-zero (length (filter (stands_in band) q))) refl
+    let here : (not (is_high x.kind) && (x.band == band)) ≡ is_of_rank band x = by_class (is_high x.kind) in
+    rw here (elim (is_of_rank band x) as (λ b. (b || list_any (λ m. not (is_high m.kind) && (m.band == band)) q) ≡ not (length (cond b (x ∷ filter (is_of_rank band) q) (filter (is_of_rank band) q)) == 0)) [
+      | true ↦ rw (eqb-suc-zero (length (filter (is_of_rank band) q))) refl
       | false ↦ rest
     ])
   where

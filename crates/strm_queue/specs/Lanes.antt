@@ -1,23 +1,23 @@
--- A queue kept as one list for each rank. No public clause cites what stands here.
+-- A queue kept as one list for each rank. No public clause cites the definitions here.
 use Rattle.std.specs.Prelude.{◌≡◌, ℕ, ◌^◌, ◌==◌, ◌<◌, ◌&&◌, nat_lt, Bool, true, List, [], ◌∷◌, length, take, if◌then◌else◌, slice_index_or}
 use Rattle.std.specs.List.{list_all, flat_map, prefix_len}
 use Rattle.strm_msg.specs.Message.{Msg, weight_of}
 use Rattle.strm_msg.specs.Kind.{is_high}
 
--- the messages of one rank in order, and how many more of them there is room for
+-- the messages of one rank in order, and the number of further ones for which there is room
 pub record Ranked : Type 0 where
   pub rank : ℕ
   pub messages : List Msg
   pub spare : ℕ
 
--- the high messages stand in the lane of rank 256, and the ordinary ones in that of their band
-abbrev pub stands_in : ℕ → Msg → Bool
-stands_in rank m = if is_high m.kind then rank == 256 else (nat_lt rank 256 && (m.band == rank))
+-- the high messages are in the lane of rank 256, and the ordinary ones in that of their band
+abbrev pub is_of_rank : ℕ → Msg → Bool
+is_of_rank rank m = if is_high m.kind then rank == 256 else (nat_lt rank 256 && (m.band == rank))
 
 -- greatest rank first, and each message in the lane of its rank
 abbrev pub is_laned : List Ranked → Bool
 is_laned [] = true
-is_laned (lane ∷ lanes) = list_all (stands_in lane.rank) lane.messages && (list_all (λ other. nat_lt other.rank lane.rank) lanes && is_laned lanes)
+is_laned (lane ∷ lanes) = list_all (is_of_rank lane.rank) lane.messages && (list_all (λ other. nat_lt other.rank lane.rank) lanes && is_laned lanes)
 
 -- the messages of the lanes, one lane after another
 abbrev pub messages_of : List Ranked → List Msg
@@ -29,18 +29,18 @@ lane_of rank [] = record { rank = rank; messages = []; spare = 0 }
 lane_of rank (lane ∷ lanes) = if lane.rank == rank then lane else lane_of rank lanes
 
 -- the messages of one rank
-abbrev pub at_rank : ℕ → List Ranked → List Msg
-at_rank rank lanes = (lane_of rank lanes).messages
+abbrev pub messages_of_rank : ℕ → List Ranked → List Msg
+messages_of_rank rank lanes = (lane_of rank lanes).messages
 
--- how many more messages of a rank its lane has room for
+-- the number of messages of a rank for which its lane still has room
 abbrev pub spare_of : ℕ → List Ranked → ℕ
 spare_of rank lanes = (lane_of rank lanes).spare
 
--- how many lanes stand before the place of a rank
+-- the number of lanes before the place of a rank
 abbrev pub place_of : ℕ → List Ranked → ℕ
 place_of rank lanes = prefix_len (λ lane. nat_lt rank lane.rank) lanes
 
--- the lane of a rank stands there
+-- the lane of a rank is there
 abbrev pub IsPlace : ℕ → ℕ → List Ranked → Type 0
 IsPlace rank at lanes = (at < length lanes) × ((d : Ranked) → (slice_index_or lanes at d).rank ≡ rank)
 
@@ -56,9 +56,9 @@ StaysEmpty old new = (n : ℕ) → IsEmptyBefore n old → IsEmptyBefore n new
 abbrev pub is_light : Msg → Bool
 is_light m = nat_lt (weight_of m) (2 ^ 65)
 
--- the lanes of a queue, with how many at the front are known to be empty, and the count of its messages, of which
--- there are fewer than 2 ^ 63
-pub record IsKept (lanes : List Ranked) (front count : ℕ) : Type 0 where
+-- the lanes of a queue, the number of those at the front that are known to be empty, and the number of its
+-- messages, which is below 2 ^ 63
+pub record IsQueue (lanes : List Ranked) (front count : ℕ) : Type 0 where
   pub laned : is_laned lanes ≡ true
   pub empty : IsEmptyBefore front lanes
   pub counted : count ≡ length (messages_of lanes)

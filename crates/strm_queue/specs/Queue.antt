@@ -1,4 +1,5 @@
--- Queues of messages (Programmer's Guide: STREAMS, "Message Queues and Service Procedures"; putq(9F) and kin).
+-- Queues of messages (Programmer's Guide: STREAMS, "Message Queues and Service Procedures"; putq(9F) and
+-- kin).
 use Rattle.std.specs.Prelude.{ℕ, ◌+◌, ◌-◌, ◌==◌, ◌&&◌, not, nat_le, nat_lt, Bool, true, false, List, [], ◌∷◌, length, if◌then◌else◌, filter, sum_by, insert}
 use Rattle.std.specs.List.{prefix_len, suffix_len, list_any, list_all}
 use Rattle.strm_msg.specs.Marks.{WaterMarks}
@@ -7,14 +8,14 @@ use Rattle.strm_msg.specs.Kind.{is_high}
 use Rattle.strm_msg.specs.declared.kind.MsgKind.{MsgKind}
 use Rattle.strm_msg.specs.declared.kind.MsgKind.TheVariants.{MData, MProto, MPcproto}
 
--- a queue: its marks, its messages in the order in which they are taken, and for each rank how many
--- more it takes without memory
+-- a queue: its marks, its messages in the order in which they are taken, and for each rank the number of
+-- messages that it takes without memory
 pub record Queue : Type 0 where
   pub marks : WaterMarks
   pub messages : List Msg
   pub room : List ℕ
 
--- how many messages at the front have at least this rank
+-- the number of messages at the front that have at least this rank
 abbrev pub front_len : ℕ → List Msg → ℕ
 front_len least q = prefix_len (λ x. nat_le least (rank_of x)) q
 
@@ -42,7 +43,7 @@ is_flushed MProto = true
 is_flushed MPcproto = true
 is_flushed kind = false
 
--- what a flush leaves
+-- the messages that a flush leaves
 abbrev pub flush_of : List Msg → List Msg
 flush_of q = filter (λ m. not (is_flushed m.kind)) q
 
@@ -50,11 +51,11 @@ flush_of q = filter (λ m. not (is_flushed m.kind)) q
 abbrev pub is_of_band : ℕ → Msg → Bool
 is_of_band band m = if is_high m.kind then band == 0 else (m.band == band)
 
--- what a flush of one band leaves (flushband)
+-- the messages that a flush of one band leaves (flushband)
 abbrev pub flush_band_of : ℕ → List Msg → List Msg
 flush_band_of band q = filter (λ m. not (is_flushed m.kind && is_of_band band m)) q
 
--- what a message adds to a band
+-- the weight that a message adds to a band
 abbrev pub weight_in : ℕ → Msg → ℕ
 weight_in band m = if is_of_band band m then weight_of m else 0
 

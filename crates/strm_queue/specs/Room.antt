@@ -1,4 +1,4 @@
--- How many more messages of each rank a queue takes without memory.
+-- The number of messages of each rank that a queue takes without memory.
 use Rattle.std.specs.Prelude.{ℕ, List, map, slice_index, replicate, min}
 use Rattle.std.specs.List.{range_with_len}
 use Rattle.strm_queue.specs.Lanes.{Ranked, spare_of}
@@ -7,7 +7,8 @@ use Rattle.strm_queue.specs.Lanes.{Ranked, spare_of}
 unfoldable pub same_room : ℕ → List ℕ
 same_room n = replicate 257 n
 
--- the number for each of the ranks 0 to 256: what its lane has room for, and what is left to the queue at most
+-- the number for each of the ranks 0 to 256: the room of its lane, and at most the number that is left to the
+-- queue
 unfoldable pub lane_room : ℕ → List Ranked → List ℕ
 lane_room left lanes = map (λ rank. min left (spare_of rank lanes)) (range_with_len 0 257)
 

@@ -10,7 +10,7 @@ use std::collections::VecDeque;
 use std::marker::Model;
 use strm_msg::{BoxedMessage, Message, MsgKind, NoMem};
 
-/// The messages of one rank in order, and what they weigh together.
+/// A lane: the messages of one rank in order, and the sum of their weights.
 ///
 /// A lane that has run empty keeps its place and its list's memory for the messages to come.
 #[derive(Debug, Drop)]
@@ -48,7 +48,7 @@ fn stays(m: &BoxedMessage) -> bool
     !is_flushed(m.kind)
 }
 
-/// What messages weigh together.
+/// The sum of the weights of messages.
 fn weigh(messages: &VecDeque<BoxedMessage>) -> u128
     requires { list_all is_light messages.now.items ≡ true }
     ensures { result ≡ sum_by weight_of messages.now.items }
@@ -92,7 +92,7 @@ impl Lane {
         self.messages.len()
     }
 
-    /// What the messages weigh together.
+    /// The sum of the weights of the lane's messages.
     pub(crate) fn weight(&self) -> u128
         ensures value { result ≡ sum_by weight_of self.now.messages }
         ensures most { result ≤ length self.now.messages * 2 ^ 65 }
@@ -110,7 +110,7 @@ impl Lane {
         }
     }
 
-    /// Makes room for one more message. Refused for want of memory alone.
+    /// Makes room for one more message. Fails only when memory runs out.
     pub(crate) fn reserve(&mut self) -> Result<(), NoMem>
         ensures rank { self.new.rank ≡ self.old.rank }
         ensures messages { self.new.messages ≡ self.old.messages }
@@ -122,7 +122,7 @@ impl Lane {
         Ok(())
     }
 
-    /// Puts a message behind the others. It comes back for want of memory alone.
+    /// Puts a message behind the others. It comes back only when memory runs out.
     pub(crate) fn push_back(&mut self, m: BoxedMessage) -> Result<(), BoxedMessage>
         ensures rank { self.new.rank ≡ self.old.rank }
         ensures ok { OnOk result (self.new.messages ≡ self.old.messages ++ m ∷ []) }
@@ -142,7 +142,7 @@ impl Lane {
         }
     }
 
-    /// Puts a message before the others. It comes back for want of memory alone.
+    /// Puts a message before the others. It comes back only when memory runs out.
     pub(crate) fn push_front(&mut self, m: BoxedMessage) -> Result<(), BoxedMessage>
         ensures rank { self.new.rank ≡ self.old.rank }
         ensures ok { OnOk result (self.new.messages ≡ m ∷ self.old.messages) }
@@ -173,7 +173,7 @@ impl Lane {
         Some(m)
     }
 
-    /// Removes data and protocol messages, and answers how many. Their places stay with the lane.
+    /// Removes data and protocol messages, and returns their number. Their places stay with the lane.
     pub(crate) fn flush(&mut self) -> usize
         ensures rank { self.new.rank ≡ self.old.rank }
         ensures messages { self.new.messages ≡ flush_of self.old.messages }

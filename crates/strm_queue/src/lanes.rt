@@ -2,7 +2,7 @@
 ghost use Rattle.std.specs.Prelude.{◌≡◌, ℕ, ◌+◌, ◌*◌, ◌^◌, ◌<◌, ◌≤◌, ◌↔◌, ◌&&◌, ◌∷◌, [], not, true, take, length, min, filter, sum_by, slice_index_or, slice_get, option_copied, IsTrue, IsOk, IfOk, OnOk, OnErr, IfErr, MatchOption};
 ghost use Rattle.strm_msg.specs.Message.{rank_of, weight_of};
 ghost use Rattle.strm_queue.specs.Queue.{put_in, put_back_in, flush_of, is_flushed};
-ghost use Rattle.strm_queue.specs.Lanes.{Ranked, stands_in, is_laned, messages_of, at_rank, spare_of, place_of, IsPlace, IsEmptyBefore, StaysEmpty};
+ghost use Rattle.strm_queue.specs.Lanes.{Ranked, is_of_rank, is_laned, messages_of, messages_of_rank, spare_of, place_of, IsPlace, IsEmptyBefore, StaysEmpty};
 
 use crate::lane::Lane;
 use strm_msg::{BoxedMessage, Message, NoMem};
@@ -10,16 +10,16 @@ use strm_msg::{BoxedMessage, Message, NoMem};
 /// The rank of the high messages.
 pub(crate) const HIGH: u16 = 256;
 
-/// The rank of the lane in which a message stands.
+/// The rank of the lane in which a message is.
 pub(crate) fn rank_of(m: &BoxedMessage) -> u16
     ensures rank { result ≡ rank_of m.now }
-    ensures stands { stands_in result m.now ≡ true }
+    ensures stands { is_of_rank result m.now ≡ true }
     ensures most { result ≤ 256 }
 {
     if m.is_high() { HIGH } else { u16::from(m.band) }
 }
 
-/// How many lanes stand before the place of a rank.
+/// The number of lanes before the place of a rank.
 fn place_of(lanes: &[Lane], rank: u16) -> usize
     requires { is_laned lanes.now ≡ true }
     ensures value { result ≡ place_of rank lanes.now }
@@ -28,8 +28,8 @@ fn place_of(lanes: &[Lane], rank: u16) -> usize
     lanes.partition_point(|lane| lane.rank() > rank)
 }
 
-/// Whether the lane of a rank stands there.
-fn stands_at(lanes: &[Lane], at: usize, rank: u16) -> bool
+/// Whether the lane of a rank is there.
+fn is_lane_at(lanes: &[Lane], at: usize, rank: u16) -> bool
     ensures { IsTrue result ↔ IsPlace rank at lanes.now }
 {
     at < lanes.len() && lanes[at].rank() == rank
@@ -38,10 +38,10 @@ fn stands_at(lanes: &[Lane], at: usize, rank: u16) -> bool
 /// The place of the lane of a rank, if there is one.
 pub(crate) fn find(lanes: &[Lane], rank: u16) -> Option<usize>
     requires { is_laned lanes.now ≡ true }
-    ensures { MatchOption result (at_rank rank lanes.now ≡ []) (λ at. IsPlace rank at lanes.now) }
+    ensures { MatchOption result (messages_of_rank rank lanes.now ≡ []) (λ at. IsPlace rank at lanes.now) }
 {
     let at = place_of(lanes, rank);
-    if stands_at(lanes, at, rank) {
+    if is_lane_at(lanes, at, rank) {
         Some(at)
     } else {
         None
@@ -50,7 +50,7 @@ pub(crate) fn find(lanes: &[Lane], rank: u16) -> Option<usize>
 
 /// The place of the lane of a rank, which is made where there is none.
 ///
-/// Refused for want of memory alone, and not where the lane is there.
+/// Fails only when memory runs out, and not where the lane is there.
 #[inline(always)]
 pub(crate) fn find_or_make(lanes: &mut Vec<Lane>, rank: u16) -> Result<usize, NoMem>
     requires { is_laned lanes.old.items ≡ true }
@@ -63,7 +63,7 @@ pub(crate) fn find_or_make(lanes: &mut Vec<Lane>, rank: u16) -> Result<usize, No
     ensures enough { 0 < spare_of rank lanes.old.items → IsOk result }
 {
     let at = place_of(lanes.as_slice(), rank);
-    if stands_at(lanes.as_slice(), at, rank) {
+    if is_lane_at(lanes.as_slice(), at, rank) {
         return Ok(at);
     }
     let alloc = *lanes.allocator();
@@ -73,7 +73,7 @@ pub(crate) fn find_or_make(lanes: &mut Vec<Lane>, rank: u16) -> Result<usize, No
 
 /// Makes room for one more message of a rank.
 ///
-/// Refused for want of memory alone, and not where the room is there.
+/// Fails only when memory runs out, and not where the room is there.
 pub(crate) fn reserve_at(lanes: &mut Vec<Lane>, rank: u16) -> Result<(), NoMem>
     requires { is_laned lanes.old.items ≡ true }
     ensures laned { is_laned lanes.new.items ≡ true }
@@ -88,9 +88,12 @@ pub(crate) fn reserve_at(lanes: &mut Vec<Lane>, rank: u16) -> Result<(), NoMem>
     lane.reserve()
 }
 
-/// Puts a message behind those of its rank, and answers the place of its lane. The message comes back
-/// for want of memory alone.
-pub(crate) fn put_behind(lanes: &mut Vec<Lane>, m: BoxedMessage) -> Result<usize, BoxedMessage>
+/// Puts a message behind those of its rank, and returns the place of its lane. The message comes back only
+/// when memory runs out.
+pub(crate) fn push_last_of_rank(
+    lanes: &mut Vec<Lane>,
+    m: BoxedMessage,
+) -> Result<usize, BoxedMessage>
     requires { is_laned lanes.old.items ≡ true }
     ensures laned { is_laned lanes.new.items ≡ true }
     ensures ok { OnOk result (messages_of lanes.new.items ≡ put_in (messages_of lanes.old.items) m) }
@@ -110,9 +113,12 @@ pub(crate) fn put_behind(lanes: &mut Vec<Lane>, m: BoxedMessage) -> Result<usize
     Ok(at)
 }
 
-/// Puts a message before those of its rank, and answers the place of its lane. The message comes back
-/// for want of memory alone.
-pub(crate) fn put_before(lanes: &mut Vec<Lane>, m: BoxedMessage) -> Result<usize, BoxedMessage>
+/// Puts a message before those of its rank, and returns the place of its lane. The message comes back only
+/// when memory runs out.
+pub(crate) fn push_first_of_rank(
+    lanes: &mut Vec<Lane>,
+    m: BoxedMessage,
+) -> Result<usize, BoxedMessage>
     requires { is_laned lanes.old.items ≡ true }
     ensures laned { is_laned lanes.new.items ≡ true }
     ensures ok { OnOk result (messages_of lanes.new.items ≡ put_back_in (messages_of lanes.old.items) m) }
@@ -184,11 +190,11 @@ pub(crate) fn message_at(lanes: &[Lane], i: usize) -> Option<&Message>
     None
 }
 
-/// What the messages of a rank weigh together.
+/// The sum of the weights of the messages of a rank.
 pub(crate) fn weight_at(lanes: &[Lane], rank: u16) -> u128
     requires { is_laned lanes.now ≡ true }
-    ensures value { result ≡ sum_by weight_of (at_rank rank lanes.now) }
-    ensures most { result ≤ length (at_rank rank lanes.now) * 2 ^ 65 }
+    ensures value { result ≡ sum_by weight_of (messages_of_rank rank lanes.now) }
+    ensures most { result ≤ length (messages_of_rank rank lanes.now) * 2 ^ 65 }
 {
     match find(lanes, rank) {
         Some(at) => lanes[at].weight(),
@@ -196,11 +202,11 @@ pub(crate) fn weight_at(lanes: &[Lane], rank: u16) -> u128
     }
 }
 
-/// Removes the data and protocol messages of a rank, and answers how many.
+/// Removes the data and protocol messages of a rank, and returns their number.
 pub(crate) fn flush_rank(lanes: &mut Vec<Lane>, rank: u16) -> usize
     requires { is_laned lanes.old.items ≡ true }
     ensures laned { is_laned lanes.new.items ≡ true }
-    ensures messages { messages_of lanes.new.items ≡ filter (λ m. not (is_flushed m.kind && stands_in rank m)) (messages_of lanes.old.items) }
+    ensures messages { messages_of lanes.new.items ≡ filter (λ m. not (is_flushed m.kind && is_of_rank rank m)) (messages_of lanes.old.items) }
     ensures empty { StaysEmpty lanes.old.items lanes.new.items }
     ensures count { result + length (messages_of lanes.new.items) ≡ length (messages_of lanes.old.items) }
     ensures room { (other : ℕ) → spare_of other lanes.old.items ≤ spare_of other lanes.new.items }
@@ -211,7 +217,7 @@ pub(crate) fn flush_rank(lanes: &mut Vec<Lane>, rank: u16) -> usize
     }
 }
 
-/// Removes the data and protocol messages of all ranks, and answers how many.
+/// Removes the data and protocol messages of all ranks, and returns their number.
 pub(crate) fn flush_all(lanes: &mut Vec<Lane>) -> usize
     requires laned { is_laned lanes.old.items ≡ true }
     requires most { length (messages_of lanes.old.items) < 2 ^ 63 }

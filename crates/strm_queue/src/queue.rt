@@ -6,26 +6,26 @@ ghost use Rattle.strm_queue.specs.Room.{room_for};
 
 use crate::lane::Lane;
 use crate::lanes::{
-    HIGH, find, first, flush_all, flush_rank, message_at, put_before, put_behind, reserve_at,
-    take_first, weight_at,
+    HIGH, find, first, flush_all, flush_rank, message_at, push_first_of_rank, push_last_of_rank,
+    reserve_at, take_first, weight_at,
 };
 use std::alloc::Global;
 use std::marker::Model;
 use strm_msg::{BoxedMessage, Marks, Message, NoMem};
 
-/// The most messages that a queue holds, so that what they weigh together can be counted.
+/// The most messages that a queue holds, so that the sum of their weights can be counted.
 const MOST: usize = 9_223_372_036_854_775_807;
 
 /// Messages in order of rank, greatest first, and first in first out within a rank.
 ///
-/// Each rank in use has a lane with its messages and their weight, so that no call's cost grows
-/// with the number of messages, but for the flushes and what looks at the high messages.
+/// Each rank in use has a lane with its messages and their weight. So no call's cost grows with the number of
+/// messages, but for the flushes and the calls that look at the high messages.
 ///
-/// Lanes that ran empty stay. How many at the front are known to be empty is kept, and the search for
-/// the first message begins behind them.
+/// Lanes that ran empty stay. The queue keeps the number of lanes at the front that are known to be empty,
+/// and the search for the first message begins behind them.
 ///
-/// A queue holds at most 2^63 - 1 messages, more than any memory has; where there are as many, a
-/// message more is refused as for want of memory.
+/// A queue holds at most 2^63 - 1 messages, more than any memory has. Where it holds that many, one message
+/// more is refused as when memory runs out.
 #[derive(Debug, Drop)]
 pub struct BandQueue {
     marks: Marks,
@@ -38,14 +38,14 @@ pub struct BandQueue {
 impl Model for BandQueue {
     ghost use Rattle.std.specs.Prelude.{◌-◌, ◌^◌};
     ghost use Rattle.strm_queue.specs.Queue.{Queue};
-    ghost use Rattle.strm_queue.specs.Lanes.{messages_of, IsKept};
+    ghost use Rattle.strm_queue.specs.Lanes.{messages_of, IsQueue};
     ghost use Rattle.strm_queue.specs.Room.{lane_room};
 
     ghost Value = { Queue };
 
     ghost view = { λ q. record { marks = q.marks; messages = messages_of q.lanes.items; room = lane_room (2 ^ 63 - 1 - q.len) q.lanes.items } };
 
-    ghost invariant = { λ q. IsKept q.lanes.items q.front q.len };
+    ghost invariant = { λ q. IsQueue q.lanes.items q.front q.len };
 }
 
 impl BandQueue {
@@ -72,7 +72,7 @@ impl BandQueue {
     /// Puts a message behind those of its rank (putq(9F)). The marks hold nothing back: a full queue
     /// takes messages too.
     ///
-    /// Refused for want of memory alone: the message comes back, and the queue is as before. Each
+    /// Fails only when memory runs out: the message comes back, and the queue is as before. Each
     /// rank loses room for one message at most, and none where the message is refused.
     pub fn put(&mut self, m: BoxedMessage) -> Result<(), BoxedMessage>
         ensures place { put_in self.old.messages m ≡ behind_last self.old.messages m }
@@ -87,7 +87,7 @@ impl BandQueue {
         if self.len == MOST {
             return Err(m);
         }
-        let at = put_behind(&mut self.lanes, m)?;
+        let at = push_last_of_rank(&mut self.lanes, m)?;
         self.front = self.front.min(at);
         self.len += 1;
         Ok(())
@@ -95,7 +95,7 @@ impl BandQueue {
 
     /// Puts a message before those of its rank (putbq(9F)), also where the queue is full.
     ///
-    /// Refused for want of memory alone: the message comes back, and the queue is as before. Each
+    /// Fails only when memory runs out: the message comes back, and the queue is as before. Each
     /// rank loses room for one message at most, and none where the message is refused.
     pub fn put_back(&mut self, m: BoxedMessage) -> Result<(), BoxedMessage>
         ensures ok { OnOk result (self.new.messages ≡ put_back_in self.old.messages m) }
@@ -109,7 +109,7 @@ impl BandQueue {
         if self.len == MOST {
             return Err(m);
         }
-        let at = put_before(&mut self.lanes, m)?;
+        let at = push_first_of_rank(&mut self.lanes, m)?;
         self.front = self.front.min(at);
         self.len += 1;
         Ok(())
@@ -118,7 +118,7 @@ impl BandQueue {
     /// Makes room, so that the next `put` or `put_back` of a message of this rank succeeds. A rank
     /// above 256, which no message has, counts as 256.
     ///
-    /// Refused for want of memory alone, and not where the room is there. No rank loses room.
+    /// Fails only when memory runs out, and not where the room is there. No rank loses room.
     pub fn make_room(&mut self, rank: u16) -> Result<(), NoMem>
         ensures room { OnOk result (0 < room_for self.new.room rank) }
         ensures enough { 0 < room_for self.old.room rank → IsOk result }
@@ -132,7 +132,7 @@ impl BandQueue {
         reserve_at(&mut self.lanes, rank.min(HIGH))
     }
 
-    /// Takes the first message (getq(9F)). Takes no memory, and leaves what room there was.
+    /// Takes the first message (getq(9F)). Takes no memory, and leaves the room that there was.
     pub fn get(&mut self) -> Option<BoxedMessage>
         ensures first { MatchOption result ((self.old.messages ≡ []) × (self.new.messages ≡ [])) (λ m. self.old.messages ≡ m ∷ self.new.messages) }
         ensures marks { self.new.marks ≡ self.old.marks }
@@ -178,8 +178,8 @@ impl BandQueue {
         self.len == 0
     }
 
-    /// Removes data and protocol messages (flushq(9F) with FLUSHDATA). Takes no memory, and leaves
-    /// what room there was.
+    /// Removes data and protocol messages (flushq(9F) with FLUSHDATA). Takes no memory, and leaves the room
+    /// that there was.
     pub fn flush(&mut self)
         ensures messages { self.new.messages ≡ flush_of self.old.messages }
         ensures marks { self.new.marks ≡ self.old.marks }
@@ -188,8 +188,8 @@ impl BandQueue {
         self.len -= flush_all(&mut self.lanes);
     }
 
-    /// Removes the ordinary data and protocol messages of one band, and `MPcproto` where that is band
-    /// 0 (flushband(9F) with FLUSHDATA). Takes no memory, and leaves what room there was.
+    /// Removes the ordinary data and protocol messages of one band, and `MPcproto` where that is band 0
+    /// (flushband(9F) with FLUSHDATA). Takes no memory, and leaves the room that there was.
     pub fn flush_band(&mut self, band: u8)
         ensures messages { self.new.messages ≡ flush_band_of band self.old.messages }
         ensures marks { self.new.marks ≡ self.old.marks }
@@ -201,8 +201,8 @@ impl BandQueue {
         }
     }
 
-    /// What a band holds, in bytes: the weights of its ordinary messages, and for band 0 those of the
-    /// high ones too. A message without bytes counts as one byte, which is a choice of this project.
+    /// The size of a band's messages, in bytes: the weights of its ordinary messages, and for band 0 those of
+    /// the high ones too. A message without bytes counts as one byte. That is a choice of this project.
     pub fn held(&self, band: u8) -> u128
         ensures { result ≡ held_of self.now.messages band }
     {
@@ -223,8 +223,8 @@ impl BandQueue {
         self.held(band) >= u128::from(self.marks.hi)
     }
 
-    /// Whether a band holds the low water mark or less, so that what waits behind the queue must
-    /// move. Between the marks, where a band is neither slack nor full, it may move and need not.
+    /// Whether a band holds the low water mark or less, so that messages that wait behind the queue must
+    /// move. Between the marks, where a band is neither slack nor full, they may move and need not.
     pub fn slack(&self, band: u8) -> bool
         ensures { result ≡ is_slack self.now.marks self.now.messages band }
     {

@@ -10,8 +10,8 @@ use strm_msg::NoMem;
 
 /// Places that are enabled, each once, in the order in which they are given out.
 ///
-/// A contract sees the number of places that there are, the list of those that are enabled, and how
-/// many were given out since the count began.
+/// A contract sees the number of places that there are, the list of those that are enabled, and the number
+/// that were given out since the count began.
 #[derive(Drop)]
 pub struct RunQueue {
     places: usize,
@@ -32,7 +32,7 @@ impl Model for RunQueue {
 }
 
 impl RunQueue {
-    /// No place is enabled, and there is room for each of them. Refused for want of memory alone.
+    /// A run queue in which no place is enabled, with room for each of them. Fails only when memory runs out.
     pub fn new(alloc: Global, places: usize) -> Result<RunQueue, NoMem>
         ensures { IfOk result (λ q. q ≡ record { places = places; items = []; given = 0 }) }
     {
@@ -51,7 +51,7 @@ impl RunQueue {
         self.places
     }
 
-    /// How many places are enabled, each of them once.
+    /// The number of places that are enabled. Each counts once.
     pub fn len(&self) -> usize
         ensures value { result ≡ length self.now.items }
         ensures once { AreOnce self.now.places self.now.items }
@@ -121,7 +121,7 @@ impl RunQueue {
         }
     }
 
-    /// How many places were given out since the count began, u64::MAX if more.
+    /// The number of places that were given out since the count began, u64::MAX if more.
     pub fn given(&self) -> u64
         ensures { result ≡ self.now.given }
     {

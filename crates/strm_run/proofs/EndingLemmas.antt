@@ -8,31 +8,31 @@ use Rattle.std.proofs.lemmas.List.{map-append, take_all, length-append, length-m
 use Rattle.strm_msg.specs.Message.{Msg}
 use Rattle.strm_module.specs.Kinds.{Meaning}
 use Rattle.strm_module.specs.Driver.{is_line}
-use Rattle.strm_call.specs.declared.setup.Setup.{Setup}
-use Rattle.strm_entry.specs.Entry.{Entry}
-use Rattle.strm_history.specs.Opened.{opened}
+use Rattle.strm_head_calls.specs.declared.setup.Setup.{Setup}
+use Rattle.strm_shared_entry.specs.Entry.{Entry}
+use Rattle.strm_shared_log.specs.Opened.{opened}
 use Rattle.strm_shared.specs.declared.fault.EndFault.{EndFault}
-use Rattle.strm_ended.specs.Ended.{AreFirstCalls, AreHeld, EndedValue}
-use Rattle.strm_entry.specs.Own.{own, calls_of, arrivals}
-use Rattle.strm_history.specs.History.{Legal}
-use Rattle.strm_history.specs.Serials.{AreAccounted}
+use Rattle.strm_shared_ended.specs.Ended.{AreFirstCalls, AreHeld, EndedValue}
+use Rattle.strm_shared_entry.specs.Own.{own, calls_of, arrivals}
+use Rattle.strm_shared_log.specs.History.{Legal}
+use Rattle.strm_shared_log.specs.Serials.{AreAccounted}
 use Rattle.strm_shared.specs.Seat.{SeatValue}
-use Rattle.strm_entry.specs.Entry.{asked_of}
-use Rattle.strm_ended.specs.declared.holding.Receipts.{Receipts}
-use Rattle.strm_shared.specs.Turns.{AreFirstOf}
-use Rattle.strm_line.specs.Feed.{FeedValue, accepted_of}
+use Rattle.strm_shared_entry.specs.Entry.{asked_of}
+use Rattle.strm_shared_ended.specs.declared.holding.Receipts.{Receipts}
+use Rattle.strm_shared.specs.CallCounts.{ArePrefixOf}
+use Rattle.strm_shared_ring.specs.Feed.{FeedValue, accepted_of}
 use Rattle.strm_shared.specs.Ending.{SharedValue, AreSeats, CountsAgree, is_fed}
-use Rattle.strm_job.specs.declared.fault.RunFault.{RunFault}
-use Rattle.strm_job.specs.declared.script.ScriptCall.{ScriptCall}
-use Rattle.strm_entry.specs.declared.transcript.StreamLog.{StreamLog}
-use Rattle.strm_job.specs.Scripts.{calls_on, script_of, feed_of}
-use Rattle.strm_feed.specs.About.{RunValue}
-use Rattle.strm_crew.specs.Transcript.{AreLogs, IsFed, IsLog}
-use Rattle.strm_feed.specs.Feeding.{IsPartOf}
-use Rattle.strm_crew.specs.Account.{AccountValue}
-use Rattle.strm_crew.specs.Play.{ArePlayed, AreStreams, HasPlayed}
+use Rattle.strm_run_input.specs.declared.fault.RunFault.{RunFault}
+use Rattle.strm_run_input.specs.declared.script.ScriptCall.{ScriptCall}
+use Rattle.strm_shared_entry.specs.declared.transcript.StreamLog.{StreamLog}
+use Rattle.strm_run_input.specs.Scripts.{calls_on, script_of, feed_of}
+use Rattle.strm_run_callers.specs.RunName.{RunValue}
+use Rattle.strm_run_callers.specs.Transcript.{AreLogs, IsFed, IsLog}
+use Rattle.strm_run_callers.specs.Feeding.{IsSubsequence}
+use Rattle.strm_run_callers.specs.Account.{AccountValue}
+use Rattle.strm_run_callers.specs.Play.{ArePlayed, AreStreams, HasPlayed}
 use Rattle.strm_run.specs.Inside.Table.{IsTransposed}
-use Rattle.strm_run.specs.Inside.Ending.{seats_of, streams_of, AreLinesFed, AreOf, AreParted, AreSeatsPlayed, DueValue, HavePlayed, HoldsAccount, HoldsAccounts, IsDue, IsLate, IsOffered, IsStream, Leaves}
+use Rattle.strm_run.specs.Inside.Ending.{seats_of, streams_of, AreLinesFed, AreOf, AreParted, AreSeatsPlayed, FinishedStreamValue, HavePlayed, HoldsAccount, HoldsAccounts, IsFinishedStream, IsLate, IsOffered, IsStream, Leaves}
 use Rattle.strm_run.proofs.TableLemmas.{first, row_there}
 
 -- past the last caller there is no script
@@ -58,7 +58,7 @@ module _ {K : Type 0} (run : RunValue K) (shared : SharedValue) (seats : List Se
       omega arith
 
   -- its calls are those of its script
-  calls_all : (history : List (Entry K)) (caller : ℕ) → CountsAgree history seats → AreFirstOf (Some (calls_on shared.number (script_of run.scripts caller))) (own caller history) → map asked_of (own caller history) ≡ calls_on shared.number (script_of run.scripts caller)
+  calls_all : (history : List (Entry K)) (caller : ℕ) → CountsAgree history seats → ArePrefixOf (Some (calls_on shared.number (script_of run.scripts caller))) (own caller history) → map asked_of (own caller history) ≡ calls_on shared.number (script_of run.scripts caller)
   calls_all history caller counts first =
       first ∙ take_all _ _ (calls_made history caller (nat_lt caller (length run.scripts)) refl counts)
 
@@ -78,7 +78,7 @@ fed_by run shared None history left overrun log unfed offered fed came same acce
       accepted = [];
       left = left;
       came_in = ap (λ h. arrivals h ++ left) same ∙ came;
-      part = subst (λ l. IsPartOf [] l) (sym none) refl;
+      part = subst (λ l. IsSubsequence [] l) (sym none) refl;
       many = accepted_is ∙ many;
       arrived = arrived ∙ ap (λ h. length (arrivals h)) (sym same);
       all = ap (λ n. n + log.overrun) (accepted_is ∙ many) ∙ ap (λ n. 0 + n) (overrun_is ∙ offered) ∙ ap (λ l. length l) (sym none);
@@ -90,14 +90,14 @@ fed_by run shared (Some feed) history left overrun log unfed offered fed came sa
       accepted = feed.accepted;
       left = left;
       came_in = ap (λ h. arrivals h ++ left) same ∙ came;
-      part = subst (λ n. IsPartOf feed.accepted (feed_of run.feeds n)) here offered.part;
+      part = subst (λ n. IsSubsequence feed.accepted (feed_of run.feeds n)) here offered.part;
       many = accepted_is ∙ many;
       arrived = arrived ∙ ap (λ h. length (arrivals h)) (sym same);
       all = ap (λ n. n + log.overrun) (accepted_is ∙ many) ∙ ap (λ n. length feed.accepted + n) overrun_is ∙ offered.all ∙ ap (λ n. length (feed_of run.feeds n)) here;
     }
 
 -- what a stream leaves that ended
-pub log_left : {K : Type 0} (means : Meaning K) (run : RunValue K) (shared : SharedValue) (seats : List SeatValue) (receipts : List (Receipts K)) (feed : Option FeedValue) (overrun : ℕ) (ended : Result (EndedValue K) EndFault) (result : Result (StreamLog K) RunFault) → IsStream run shared → All (HasPlayed run shared.number) seats → (is_line shared.setup.driver ≡ false → feed_of run.feeds shared.number ≡ []) → IsOffered run feed overrun → Leaves ended receipts overrun result → IfOk ended (λ done. Legal means (opened shared.setup) done.history done.stream) → IfOk ended (λ done. AreAccounted (opened shared.setup) done.history done.stream) → IfOk ended (λ done. CountsAgree done.history seats) → IfOk ended (λ done. (caller : ℕ) → AreFirstOf (Some (calls_on shared.number (script_of run.scripts caller))) (own caller done.history)) → IfOk ended (λ done. arrivals done.history ++ done.left ≡ accepted_of feed) → IfOk ended (λ done. is_fed shared.number shared.setup feed ≡ true) → IfOk ended (λ done. AreSeats shared.number shared.seats seats) → IfOk result (λ log. IsLog means run shared.number shared.setup log)
+pub log_left : {K : Type 0} (means : Meaning K) (run : RunValue K) (shared : SharedValue) (seats : List SeatValue) (receipts : List (Receipts K)) (feed : Option FeedValue) (overrun : ℕ) (ended : Result (EndedValue K) EndFault) (result : Result (StreamLog K) RunFault) → IsStream run shared → All (HasPlayed run shared.number) seats → (is_line shared.setup.driver ≡ false → feed_of run.feeds shared.number ≡ []) → IsOffered run feed overrun → Leaves ended receipts overrun result → IfOk ended (λ done. Legal means (opened shared.setup) done.history done.stream) → IfOk ended (λ done. AreAccounted (opened shared.setup) done.history done.stream) → IfOk ended (λ done. CountsAgree done.history seats) → IfOk ended (λ done. (caller : ℕ) → ArePrefixOf (Some (calls_on shared.number (script_of run.scripts caller))) (own caller done.history)) → IfOk ended (λ done. arrivals done.history ++ done.left ≡ accepted_of feed) → IfOk ended (λ done. is_fed shared.number shared.setup feed ≡ true) → IfOk ended (λ done. AreSeats shared.number shared.seats seats) → IfOk result (λ log. IsLog means run shared.number shared.setup log)
 log_left means run shared seats receipts feed overrun (Ok done) (Ok log) stream played unfed offered leaves legal accounts counts first came fed are =
     let is = leaves.0 in
     record {
@@ -198,7 +198,7 @@ module _ {K : Type 0} (run : RunValue K) (streams so_far later : List SharedValu
 
   -- its accounts, and those of the others
   module _ (accounts : List (Vec (AccountValue K) Global)) (was : AreLeft run streams at accounts) where
-    pub next_due : AreLinesFed run → (mine found : Vec (AccountValue K) Global) → mine ≡ found → found ≡ get_or accounts at found → IsDue run one mine.items
+    pub next_due : AreLinesFed run → (mine found : Vec (AccountValue K) Global) → mine ≡ found → found ≡ get_or accounts at found → IsFinishedStream run one mine.items
     next_due lines mine found taken stood = record {
       stream = stream_next;
       played = subst (λ n. HavePlayed run n mine.items) (sym number_is) (subst (λ (v : Vec (AccountValue K) Global). HavePlayed run at v.items) (sym (taken ∙ stood)) (was.played at found (omega arith) place_there));
@@ -213,10 +213,10 @@ module _ {K : Type 0} (run : RunValue K) (streams so_far later : List SharedValu
     }
 
 -- one stream more is due
-pub due_more : {K : Type 0} (all longer : List (DueValue K)) (so_far : List SharedValue) (one : DueValue K) (stream : SharedValue) → streams_of all ≡ so_far → longer ≡ all ++ one ∷ [] → one.stream ≡ stream → streams_of longer ≡ so_far ++ stream ∷ []
+pub due_more : {K : Type 0} (all longer : List (FinishedStreamValue K)) (so_far : List SharedValue) (one : FinishedStreamValue K) (stream : SharedValue) → streams_of all ≡ so_far → longer ≡ all ++ one ∷ [] → one.stream ≡ stream → streams_of longer ≡ so_far ++ stream ∷ []
 due_more {K} all longer so_far one stream was pushed is =
-    ap (λ (l : List (DueValue K)). streams_of l) pushed
-    ∙ map-append (λ (d : DueValue K). d.stream) all (one ∷ [])
+    ap (λ (l : List (FinishedStreamValue K)). streams_of l) pushed
+    ∙ map-append (λ (d : FinishedStreamValue K). d.stream) all (one ∷ [])
     ∙ ap (λ (l : List SharedValue). l ++ one.stream ∷ []) was
     ∙ ap (λ s. so_far ++ s ∷ []) is
 
@@ -238,9 +238,9 @@ get_ok (x ∷ xs) (one ∷ rest) zero d is = cc
 get_ok (x ∷ xs) (one ∷ rest) (suc k) d is = get_ok xs rest k d cc
 
 -- what is left of each stream is its log, where each has left one
-pub logs_left : {K : Type 0} (means : Meaning K) (run : RunValue K) (due : List (DueValue K)) (ended : List (Result (StreamLog K) RunFault)) (logs : List (StreamLog K)) → AreStreams run (streams_of due) → length ended ≡ length due → ((k : ℕ) (d : Result (StreamLog K) RunFault) → k < length due → (one : DueValue K) × (one ≡ get_or due k one) × IfOk (get_or ended k d) (λ log. IsLog means run one.stream.number one.stream.setup log)) → map Ok logs ≡ ended → AreLogs means run logs
+pub logs_left : {K : Type 0} (means : Meaning K) (run : RunValue K) (due : List (FinishedStreamValue K)) (ended : List (Result (StreamLog K) RunFault)) (logs : List (StreamLog K)) → AreStreams run (streams_of due) → length ended ≡ length due → ((k : ℕ) (d : Result (StreamLog K) RunFault) → k < length due → (one : FinishedStreamValue K) × (one ≡ get_or due k one) × IfOk (get_or ended k d) (λ log. IsLog means run one.stream.number one.stream.setup log)) → map Ok logs ≡ ended → AreLogs means run logs
 logs_left {K} means run due ended logs are long each all =
-    let streams : length (streams_of due) ≡ length due = length-map due (λ (d : DueValue K). d.stream) in
+    let streams : length (streams_of due) ≡ length due = length-map due (λ (d : FinishedStreamValue K). d.stream) in
     let many : length logs ≡ length run.setups = sym (length-map logs Ok) ∙ ap (λ l. length l) all ∙ long ∙ sym streams ∙ are.many in
     record {
       many = many;
@@ -248,7 +248,7 @@ logs_left {K} means run due ended logs are long each all =
           let under : k < length (streams_of due) = subst (λ n. k < n) (sym are.many) below in
           let there : k < length due = subst (λ n. k < n) streams under in
           let one = each k (Ok d) there in
-          let here : one.0.stream ≡ get_or (streams_of due) k one.0.stream = ap (λ (v : DueValue K). v.stream) one.1 ∙ sym (get_or-map (λ (v : DueValue K). v.stream) due k one.0 one.0.stream there) in
+          let here : one.0.stream ≡ get_or (streams_of due) k one.0.stream = ap (λ (v : FinishedStreamValue K). v.stream) one.1 ∙ sym (get_or-map (λ (v : FinishedStreamValue K). v.stream) due k one.0 one.0.stream there) in
           let is : one.0.stream ≡ record { number = k; setup = get_or run.setups k s; seats = length run.scripts } = here ∙ are.each k one.0.stream s under in
           subst (λ (v : SharedValue). IsLog means run v.number v.setup (get_or logs k d)) is
           (subst (λ r. IfOk r (λ log. IsLog means run one.0.stream.number one.0.stream.setup log)) (get_ok logs ended k d all) one.2);

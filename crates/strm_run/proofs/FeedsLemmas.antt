@@ -6,16 +6,16 @@ use Rattle.std.proofs.lemmas.Bool.{eqb-true, eqb-false, eq-eqb, ne_eqb}
 use Rattle.std.proofs.lemmas.List.{length-append, length-set, get_or-set_same, get_or-set_other, get_or_append_left}
 use Rattle.strm_msg.specs.Message.{Msg}
 use Rattle.strm_module.specs.Driver.{is_line}
-use Rattle.strm_call.specs.declared.setup.Setup.{Setup}
-use Rattle.strm_line.specs.Feed.{fresh_feeder, FeederValue}
-use Rattle.strm_job.specs.declared.script.Feed.{Feed}
-use Rattle.strm_job.specs.Scripts.{feed_of}
-use Rattle.strm_job.specs.There.{line_is_there}
-use Rattle.strm_feed.specs.About.{RunValue}
-use Rattle.strm_feed.specs.Feeding.{IsFeeding}
-use Rattle.strm_crew.specs.Dealing.{callers_of}
+use Rattle.strm_head_calls.specs.declared.setup.Setup.{Setup}
+use Rattle.strm_shared_ring.specs.Feed.{fresh_feeder, FeederValue}
+use Rattle.strm_run_input.specs.declared.script.Feed.{Feed}
+use Rattle.strm_run_input.specs.Scripts.{feed_of}
+use Rattle.strm_run_input.specs.Resolve.{line_is_there}
+use Rattle.strm_run_callers.specs.RunName.{RunValue}
+use Rattle.strm_run_callers.specs.Feeding.{IsFeeding}
+use Rattle.strm_run_callers.specs.Dealing.{callers_of}
 use Rattle.strm_run.specs.Inside.Opening.{lines_below, AreFeeders, AreFeeds}
-use Rattle.strm_crew.proofs.ReachedLemmas.{fails_more, passes_more, reached_is, reached_there}
+use Rattle.strm_run_callers.proofs.ReachedLemmas.{fails_more, passes_more, reached_is, reached_there}
 use Rattle.strm_run.proofs.TableLemmas.{first}
 use Rattle.strm_run.proofs.ThereLemmas.{line_at}
 

@@ -1,17 +1,17 @@
 -- Streams that are made, one more at a time, and who sits there.
 use Rattle.std.proofs.Common.{◌≡◌, ℕ, zero, suc, true, ◌+◌, ◌<◌, Option, List, [], ◌∷◌, ◌++◌, length, get_or, map, Vec, Global, All, refl, sym, ◌∙◌, ap, subst, arith, below_more, Result, Ok, Err, IfOk, IsOk}
 use Rattle.std.proofs.lemmas.List.{length-map, get_or-map, length_push, get_or_push, get_or_append_left, get_or_default}
-use Rattle.strm_call.specs.declared.setup.Setup.{Setup}
+use Rattle.strm_head_calls.specs.declared.setup.Setup.{Setup}
 use Rattle.strm_msg.specs.declared.memory.NoMem.{NoMem}
 use Rattle.strm_shared.specs.Seat.{SeatValue}
-use Rattle.strm_line.specs.Feed.{fresh_feeder, FeederValue, RingValue}
+use Rattle.strm_shared_ring.specs.Feed.{fresh_feeder, FeederValue, RingValue}
 use Rattle.strm_shared.specs.Ending.{fresh_seats, SharedValue}
-use Rattle.strm_feed.specs.About.{RunValue}
-use Rattle.strm_feed.specs.About.{ring_of}
-use Rattle.strm_crew.specs.Dealing.{AreSeated}
+use Rattle.strm_run_callers.specs.RunName.{RunValue}
+use Rattle.strm_run_callers.specs.RunName.{ring_of}
+use Rattle.strm_run_callers.specs.Dealing.{AreSeated}
 use Rattle.strm_run.specs.Inside.Opening.{AreOpened, AreSeatsOn}
 use Rattle.strm_run.specs.Inside.Table.{IsTransposed}
-use Rattle.strm_crew.proofs.ReachedLemmas.{reached_is, reached_there}
+use Rattle.strm_run_callers.proofs.ReachedLemmas.{reached_is, reached_there}
 
 -- what holds of each, as of one more behind them
 each_push : {X : Type 0} (P : ℕ → X → Type 0) (xs : List X) (x : X) (at : ℕ) → length xs ≡ at → ((k : ℕ) (d : X) → k < at → P k (get_or xs k d)) → P at x → (k : ℕ) (d : X) → k < at + 1 → P k (get_or (xs ++ x ∷ []) k d)

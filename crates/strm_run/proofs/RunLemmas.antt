@@ -2,9 +2,9 @@
 use Rattle.std.proofs.Common.{Result, Ok, Err, IsErrOf}
 use Rattle.std.specs.Prelude.{IfOk, IfErr}
 use Rattle.strm_module.specs.declared.driver.Driver.TheVariants.{Echo}
-use Rattle.strm_call.specs.declared.setup.Setup.{Setup}
-use Rattle.strm_job.specs.declared.fault.RunFault.{RunFault}
-use Rattle.strm_job.specs.declared.fault.RunFault.TheVariants.{Workers, NoSuch, NoMem, Unfinished, NoReceipt}
+use Rattle.strm_head_calls.specs.declared.setup.Setup.{Setup}
+use Rattle.strm_run_input.specs.declared.fault.RunFault.{RunFault}
+use Rattle.strm_run_input.specs.declared.fault.RunFault.TheVariants.{Workers, NoSuch, NoMem, Unfinished, NoReceipt}
 use Rattle.strm_run.specs.Inside.Ending.{IsLate}
 
 -- what follows from a fact about a value follows where there is one

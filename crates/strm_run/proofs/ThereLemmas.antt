@@ -7,12 +7,12 @@ use Rattle.strm_msg.specs.Message.{Msg}
 use Rattle.strm_msg.specs.Kind.{is_from_line}
 use Rattle.strm_msg.specs.declared.words.End.{End}
 use Rattle.strm_module.specs.Driver.{is_line}
-use Rattle.strm_call.specs.declared.setup.Setup.{Setup}
-use Rattle.strm_job.specs.declared.script.ScriptCall.{ScriptCall}
-use Rattle.strm_job.specs.declared.script.Feed.{Feed}
-use Rattle.strm_job.specs.Scripts.{feed_of}
-use Rattle.strm_job.specs.There.{end_is_there, line_is_there, AreThere}
-use Rattle.strm_feed.specs.About.{RunValue}
+use Rattle.strm_head_calls.specs.declared.setup.Setup.{Setup}
+use Rattle.strm_run_input.specs.declared.script.ScriptCall.{ScriptCall}
+use Rattle.strm_run_input.specs.declared.script.Feed.{Feed}
+use Rattle.strm_run_input.specs.Scripts.{feed_of}
+use Rattle.strm_run_input.specs.Resolve.{end_is_there, line_is_there, NamesResolve}
+use Rattle.strm_run_callers.specs.RunName.{RunValue}
 use Rattle.strm_run.specs.Inside.Opening.{AreFeeds}
 use Rattle.strm_run.specs.Inside.Ending.{AreLinesFed}
 
@@ -35,11 +35,11 @@ pub line_at : (setups : List Setup) (at : ℕ) (d : Setup) → at < length setup
 line_at setups at d within = ap (λ (found : Option Setup). line_is_there found) (slice_get-get_or setups at d within)
 
 -- the stream of each call is there
-pub calls_there : {P : Type 0} (setups : List Setup) (scripts : List (List (ScriptCall P))) (feeds : List Feed) → AreThere setups scripts feeds → All (λ script. All (λ one. one.stream < length setups) script) scripts
+pub calls_there : {P : Type 0} (setups : List Setup) (scripts : List (List (ScriptCall P))) (feeds : List Feed) → NamesResolve setups scripts feeds → All (λ script. All (λ one. one.stream < length setups) script) scripts
 calls_there setups scripts feeds there k d below j e under = end_within setups _ _ (there.calls k d below j e under)
 
 -- and that of each feed
-pub feeds_there : {P : Type 0} (setups : List Setup) (scripts : List (List (ScriptCall P))) (feeds : List Feed) → AreThere setups scripts feeds → All (λ feed. feed.stream < length setups) feeds
+pub feeds_there : {P : Type 0} (setups : List Setup) (scripts : List (List (ScriptCall P))) (feeds : List Feed) → NamesResolve setups scripts feeds → All (λ feed. feed.stream < length setups) feeds
 feeds_there setups scripts feeds there k d below = line_within setups _ (there.lines k d below)
 
 -- feeds that are all for other streams
@@ -56,11 +56,11 @@ other_stream setups stream k true same line none =
 other_stream setups stream k false same line none = refl
 
 -- no stream but a line is fed
-pub lines_fed : {P : Type 0} (setups : List Setup) (scripts : List (List (ScriptCall P))) (feeds : List Feed) → AreThere setups scripts feeds → (k : ℕ) (s : Setup) → k < length setups → is_line (get_or setups k s).driver ≡ false → feed_of feeds k ≡ []
+pub lines_fed : {P : Type 0} (setups : List Setup) (scripts : List (List (ScriptCall P))) (feeds : List Feed) → NamesResolve setups scripts feeds → (k : ℕ) (s : Setup) → k < length setups → is_line (get_or setups k s).driver ≡ false → feed_of feeds k ≡ []
 lines_fed setups scripts feeds there k s within none =
     nothing_fed feeds k (λ j d below. other_stream setups (get_or feeds j d).stream k ((get_or feeds j d).stream == k) refl (there.lines j d below) (line_at setups k s within ∙ none))
 
-pub run_lines_fed : {K P : Type 0} (run : RunValue K) (scripts : List (List (ScriptCall P))) → AreThere run.setups scripts run.feeds → AreLinesFed run
+pub run_lines_fed : {K P : Type 0} (run : RunValue K) (scripts : List (List (ScriptCall P))) → NamesResolve run.setups scripts run.feeds → AreLinesFed run
 run_lines_fed run scripts there = lines_fed run.setups scripts run.feeds there
 
 -- one of two lists

@@ -1,25 +1,30 @@
 //! The streams of a run, as they end.
 ghost use Rattle.std.specs.Prelude.{◌≡◌, ◌<◌, length, map, option_map, All, IfErr, IfOk, IfSome, Ok, Err};
 ghost use Rattle.std.specs.List.{list_any};
-ghost use Rattle.strm_crew.specs.Transcript.{AreLogs, IsLog};
-ghost use Rattle.strm_crew.specs.Play.{ArePlayed, AreStreams};
+ghost use Rattle.strm_run_callers.specs.Transcript.{AreLogs, IsLog};
+ghost use Rattle.strm_run_callers.specs.Play.{ArePlayed, AreStreams};
 ghost use Rattle.strm_run.specs.Inside.Ending.{first_fault, is_fault, overrun_of, seats_of, streams_of, AreLinesFed, AreParted, AreSeatsPlayed, HoldsAccounts, IsLate, IsOffered, Leaves};
 
-use crate::due::{Due, all_due};
 use crate::feeds::offered_on;
+use crate::finished::{FinishedStream, finished_streams};
 use crate::table::transposed;
 use std::alloc::Global;
 use std::thread::Threads;
-use strm_crew::{Account, Of, Offered, Played, Plays, Receipts, Streams, holds_all, log_of};
-use strm_history::{SameKind, StreamLog, Transcript};
-use strm_job::RunFault;
 use strm_module::ModuleOf;
 use strm_msg::NoMem;
+use strm_run_callers::{
+    Account, Of, Offered, Played, Receipts, RunName, Streams, holds_all, log_of,
+};
+use strm_run_input::RunFault;
+use strm_run_threads::parallel_map;
 use strm_shared::{EndFault, Ended, FeedEnd, Seat};
-use strm_threads::shared_out;
+use strm_shared_log::{SameKind, StreamLog, Transcript};
 
-/// What the feeder of a stream leaves, and how many of its messages came back; nothing where it has none.
-fn fed<K, N: Plays<K>>(offered: Option<Offered<K, N>>) -> (Option<FeedEnd<K, Of<N>>>, u64)
+/// The end of the feed of a stream, and the number of its messages that came back; nothing where it has no
+/// feeder.
+fn feeder_result<K, N: RunName<K>>(
+    offered: Option<Offered<K, N>>,
+) -> (Option<FeedEnd<K, Of<N>>>, u64)
     ensures feed { result.0 ≡ option_map (λ o. o.feed) offered }
     ensures overrun { result.1 ≡ overrun_of offered }
     ensures offered { IsOffered N.run result.0 result.1 }
@@ -33,10 +38,11 @@ fn fed<K, N: Plays<K>>(offered: Option<Offered<K, N>>) -> (Option<FeedEnd<K, Of<
     }
 }
 
-/// What is left of a stream, where it ended, and its history holds each receipt.
+/// The log of a stream, where it ended, and its history holds each receipt.
 ///
-/// Refused with `NoReceipt` where a call has none or the history does not hold it, and else as the end of the stream was.
-fn log_of_end<M: ModuleOf>(
+/// Refused with `NoReceipt` where a call has none or the history does not hold it, and else as the end of the
+/// stream was.
+fn log_or_fault<M: ModuleOf>(
     ended: Result<Ended<M>, EndFault>,
     receipts: Vec<Receipts<M::Kind>>,
     overrun: u64,
@@ -59,8 +65,9 @@ where
     }
 }
 
-/// Seats, and apart from them the receipts of what was done from each, in order. Refused for want of memory alone.
-fn parted<K: Drop, N: Plays<K>>(
+/// Splits accounts into seats, and apart from them the receipts of the calls from each, in order. Fails only
+/// when memory runs out.
+fn split_receipts<K: Drop, N: RunName<K>>(
     alloc: Global,
     accounts: Vec<Account<K, N>>,
 ) -> Result<(Vec<Seat>, Vec<Receipts<K>>), NoMem>
@@ -77,10 +84,10 @@ fn parted<K: Drop, N: Plays<K>>(
     Ok((seats, receipts))
 }
 
-/// Ends one stream of a run: what is left of it, where its history holds the receipts of all callers.
-fn end_one<M: ModuleOf, N: Plays<M::Kind>>(
+/// Ends one stream of a run, and returns its log, where its history holds the receipts of all callers.
+fn end_one<M: ModuleOf, N: RunName<M::Kind>>(
     alloc: Global,
-    due: Due<M, N>,
+    due: FinishedStream<M, N>,
 ) -> Result<StreamLog<M::Kind>, RunFault>
 where
     M::Kind: SameKind,
@@ -89,9 +96,9 @@ where
     ensures late { IfErr result (λ fault. IsLate fault) }
 {
     let (shared, accounts, offered) = due.into_parts();
-    let (feed, overrun) = fed(offered);
-    let (seats, receipts) = parted(alloc, accounts)?;
-    log_of_end(shared.end(seats, feed), receipts, overrun)
+    let (feed, overrun) = feeder_result(offered);
+    let (seats, receipts) = split_receipts(alloc, accounts)?;
+    log_or_fault(shared.end(seats, feed), receipts, overrun)
 }
 
 /// Whether a stream ended with this fault.
@@ -111,8 +118,8 @@ fn has_fault<K>(ended: &[Result<StreamLog<K>, RunFault>], fault: RunFault) -> bo
     ended.iter().any(|one| is_fault(one, fault))
 }
 
-/// The fault of a run whose streams ended so, if one of them has a fault: of all that they have the first in the order of a run,
-/// whichever stream has it.
+/// The fault of a run whose streams ended so, if one of them has a fault: the first of all in the order of a
+/// run, whichever stream has it.
 fn first_fault<K>(ended: &[Result<StreamLog<K>, RunFault>]) -> Option<RunFault>
     ensures { result ≡ first_fault ended.now }
 {
@@ -127,7 +134,7 @@ fn first_fault<K>(ended: &[Result<StreamLog<K>, RunFault>]) -> Option<RunFault>
     }
 }
 
-/// The logs, where each stream has left one; else the fault of a stream, and want of memory may be.
+/// The logs, where each stream has left one; else the fault of a stream, which may be out of memory.
 fn all_logs<K: Drop>(
     alloc: Global,
     ended: Vec<Result<StreamLog<K>, RunFault>>,
@@ -146,8 +153,8 @@ fn all_logs<K: Drop>(
     Ok(all)
 }
 
-/// The logs that streams have left. Where one has a fault the run is refused with the first of them in the order of a run; and else it
-/// may be for want of memory.
+/// The logs that streams have left. Where one has a fault the run is refused with the first of them in the
+/// order of a run. Where none has, it may be refused when memory runs out.
 fn logs_of<K: Drop>(
     alloc: Global,
     ended: Vec<Result<StreamLog<K>, RunFault>>,
@@ -163,11 +170,12 @@ fn logs_of<K: Drop>(
     }
 }
 
-/// Ends the streams of a run, in at most so many threads, each whatever becomes of the others. Refused as `logs_of` is.
-fn end_all<M: ModuleOf, N: Plays<M::Kind> + Send + Sync, R: Threads + Sync>(
+/// Ends the streams of a run, in at most `threads` threads, each whatever the outcome of the others. Refused
+/// as `logs_of` is.
+fn end_all<M: ModuleOf, N: RunName<M::Kind> + Send + Sync, R: Threads + Sync>(
     rt: &R,
     alloc: Global,
-    due: Vec<Due<M, N>>,
+    due: Vec<FinishedStream<M, N>>,
     threads: usize,
 ) -> Result<Vec<StreamLog<M::Kind>>, RunFault>
 where
@@ -177,12 +185,12 @@ where
     ensures logs { IfOk result (λ logs. AreLogs M.Kind.means N.run logs.items) }
     ensures late { IfErr result (λ fault. IsLate fault) }
 {
-    let ended = shared_out(
+    let ended = parallel_map(
         rt,
         alloc,
         due,
         threads,
-        &|due: Due<M, N>| -> Result<StreamLog<M::Kind>, RunFault>
+        &|due: FinishedStream<M, N>| -> Result<StreamLog<M::Kind>, RunFault>
             ensures log { IfOk result (λ log. IsLog M.Kind.means N.run due.stream.number due.stream.setup log) }
             ensures late { IfErr result (λ fault. IsLate fault) }
         { end_one(alloc, due) },
@@ -190,8 +198,9 @@ where
     logs_of(alloc, ended)
 }
 
-/// What callers leave, in order of their numbers: the seats of each, with their receipts. Refused for want of memory alone.
-fn returned<K: Drop, N: Plays<K>>(
+/// The seats that callers leave, with their receipts, in order of the callers' numbers. Fails only when
+/// memory runs out.
+fn accounts_by_caller<K: Drop, N: RunName<K>>(
     alloc: Global,
     mut played: Vec<Played<K, N>>,
 ) -> Result<Vec<Vec<Account<K, N>>>, NoMem>
@@ -205,8 +214,9 @@ fn returned<K: Drop, N: Plays<K>>(
     Ok(all)
 }
 
-/// What callers and feeders leave, in order of the streams. Refused for want of memory alone.
-fn by_stream<K: Drop, N: Plays<K>>(
+/// The seats and feeds that callers and feeders leave, in order of the streams. Fails only when memory runs
+/// out.
+fn results_by_stream<K: Drop, N: RunName<K>>(
     alloc: Global,
     played: Vec<Played<K, N>>,
     offered: Vec<Offered<K, N>>,
@@ -216,15 +226,15 @@ fn by_stream<K: Drop, N: Plays<K>>(
     ensures seats { IfOk result (λ all. AreSeatsPlayed N.run all.0.items) }
     ensures offered { IfOk result (λ all. length all.1.items ≡ many) }
 {
-    let columns = returned(alloc, played)?;
+    let columns = accounts_by_caller(alloc, played)?;
     let accounts = transposed(alloc, columns, many)?;
     let offered = offered_on(alloc, offered, many)?;
     Ok((accounts, offered))
 }
 
-/// Ends a run: the transcript, where each stream ended, and its history holds each receipt. Streams are ended in at most so many
-/// threads.
-pub(crate) fn finish<M: ModuleOf, N: Plays<M::Kind> + Send + Sync, R: Threads + Sync>(
+/// Ends a run, and returns the transcript, where each stream ended, and its history holds each receipt.
+/// Streams are ended in at most `threads` threads.
+pub(crate) fn finish<M: ModuleOf, N: RunName<M::Kind> + Send + Sync, R: Threads + Sync>(
     rt: &R,
     alloc: Global,
     streams: Streams<M, N>,
@@ -241,11 +251,11 @@ where
     ensures logs { IfOk result (λ transcript. AreLogs M.Kind.means N.run transcript.streams.items) }
     ensures late { IfErr result (λ fault. IsLate fault) }
 {
-    let Ok((accounts, offered)) = by_stream(alloc, played, offered, many) else {
+    let Ok((accounts, offered)) = results_by_stream(alloc, played, offered, many) else {
         drop(streams);
         return Err(RunFault::NoMem);
     };
-    let due = all_due(alloc, streams, accounts, offered)?;
+    let due = finished_streams(alloc, streams, accounts, offered)?;
     let logs = end_all(rt, alloc, due, threads)?;
     Ok(Transcript { streams: logs })
 }

@@ -6,12 +6,12 @@ ghost use Rattle.strm_run.specs.Inside.Opening.{lines_of, AreFeeders, AreFeeds};
 use crate::table::empty_rows;
 use std::alloc::Global;
 use std::mem;
-use strm_crew::{Feeding, Of, Offered, Plays};
-use strm_job::Feed;
 use strm_msg::{Message, NoMem};
+use strm_run_callers::{Feeding, Of, Offered, RunName};
+use strm_run_input::Feed;
 use strm_shared::Feeder;
 
-/// What each stream is fed, in order of the streams. Refused for want of memory alone.
+/// The feed of each stream, in order of the streams. Fails only when memory runs out.
 pub(crate) fn feeds_of(
     alloc: Global,
     feeds: Vec<Feed>,
@@ -29,9 +29,9 @@ pub(crate) fn feeds_of(
     Ok(all)
 }
 
-/// A feeder for each line, in order of the streams, with what the line is fed. Refused for want of memory
-/// alone.
-pub(crate) fn feedings<K, N: Plays<K>>(
+/// A feeder for each line, in order of the streams, with the feed of the line. Fails only when memory runs
+/// out.
+pub(crate) fn feedings<K, N: RunName<K>>(
     alloc: Global,
     feeders: Vec<Option<Feeder<K, Of<N>>>>,
     mut feeds: Vec<Vec<Message>>,
@@ -53,9 +53,9 @@ pub(crate) fn feedings<K, N: Plays<K>>(
     Ok(all)
 }
 
-/// What each feeder leaves, in order of the streams; nothing for a stream that has none. Refused for want
-/// of memory alone.
-pub(crate) fn offered_on<K, N: Plays<K>>(
+/// The feed that each feeder leaves, in order of the streams; nothing for a stream that has none. Fails only
+/// when memory runs out.
+pub(crate) fn offered_on<K, N: RunName<K>>(
     alloc: Global,
     offered: Vec<Offered<K, N>>,
     streams: usize,

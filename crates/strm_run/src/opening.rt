@@ -1,16 +1,16 @@
 //! The streams of a run, as they are made.
 ghost use Rattle.std.specs.Prelude.{◌≡◌, ◌<◌, ◌^◌, ◌∷◌, ◌++◌, [], true, length, map, All, IfOk, IsOk, OnOk};
-ghost use Rattle.strm_call.specs.Setup.{is_fit, is_ring};
+ghost use Rattle.strm_head_calls.specs.Setup.{is_fit, is_ring};
 ghost use Rattle.strm_run.specs.Inside.Opening.{AreOpened};
 
 use std::alloc::Global;
-use strm_crew::{Of, Plays};
-use strm_history::Setup;
 use strm_module::ModuleOf;
 use strm_msg::NoMem;
+use strm_run_callers::{Of, RunName};
 use strm_shared::{Feeder, Ring, Seat, Shared};
+use strm_shared_log::Setup;
 
-/// A ring for each stream, in order of the setups. Refused for want of memory alone.
+/// A ring for each stream, in order of the setups. Fails only when memory runs out.
 pub(crate) fn rings_of(alloc: Global, setups: &[Setup]) -> Result<Vec<Ring>, NoMem>
     requires { All (λ setup. is_ring setup ≡ true) setups.now }
     ensures { IfOk result (λ rings. map (λ ring. ring.setup) rings.items ≡ setups.now) }
@@ -25,8 +25,8 @@ pub(crate) fn rings_of(alloc: Global, setups: &[Setup]) -> Result<Vec<Ring>, NoM
     Ok(rings)
 }
 
-/// One stream more that was made, with its seats, and its feeder if it has one: whatever these are, each has a list. Refused for
-/// want of memory alone.
+/// Adds one stream more that was made, with its seats, and its feeder if it has one: each of these has a
+/// list. Fails only when memory runs out.
 fn keep<S: Drop, T: Drop, F: Drop, E: Drop>(
     streams: &mut Vec<S>,
     seats: &mut Vec<T>,
@@ -48,8 +48,8 @@ fn keep<S: Drop, T: Drop, F: Drop, E: Drop>(
 }
 
 /// A stream for each ring, numbered from 0, with a seat for each caller, and a feeder for each line.
-/// Refused for want of memory alone.
-pub(crate) fn open<M: ModuleOf, N: Plays<M::Kind>>(
+/// Fails only when memory runs out.
+pub(crate) fn open<M: ModuleOf, N: RunName<M::Kind>>(
     alloc: Global,
     rings: Vec<Ring>,
     callers: u32,

@@ -1,12 +1,12 @@
 //! A run.
 ghost use Rattle.std.specs.Prelude.{◌≡◌, ◌↔◌, ◌<◌, ◌^◌, ℕ, true, false, length, get_or, map, All, IfOk, IfErr, IsErrOf};
-ghost use Rattle.strm_entry.specs.Own.{own};
-ghost use Rattle.strm_entry.specs.Entry.{asked_of};
-ghost use Rattle.strm_job.specs.Scripts.{calls_on, script_of, feed_of};
-ghost use Rattle.strm_job.specs.There.{is_crew, is_setup, AreFromLine, AreThere};
-ghost use Rattle.strm_crew.specs.Run.{CallsFit};
-ghost use Rattle.strm_crew.specs.Transcript.{AreLogs, IsFed, IsLegal};
-ghost use Rattle.strm_crew.specs.Play.{CallsDoFit};
+ghost use Rattle.strm_shared_entry.specs.Own.{own};
+ghost use Rattle.strm_shared_entry.specs.Entry.{asked_of};
+ghost use Rattle.strm_run_input.specs.Scripts.{calls_on, script_of, feed_of};
+ghost use Rattle.strm_run_input.specs.Resolve.{is_worker_count, is_setup, AreFromLine, NamesResolve};
+ghost use Rattle.strm_run_callers.specs.Run.{CallsFit};
+ghost use Rattle.strm_run_callers.specs.Transcript.{AreLogs, IsFed, IsLegal};
+ghost use Rattle.strm_run_callers.specs.Play.{CallsDoFit};
 ghost use Rattle.strm_run.specs.Inside.Ending.{IsLate};
 
 use crate::ending::finish;
@@ -18,18 +18,18 @@ use std::alloc::Global;
 use std::marker::Brand;
 use std::sync::Wait;
 use std::thread::Threads;
-use strm_crew::{Gate, Plays, Streams, deal, seated};
-use strm_history::{SameKind, Setup, Transcript};
-use strm_job::{Feed, RunFault, Script, are_there, is_crew};
-use strm_module::{Boxed, ModuleOf};
+use strm_module::{BoxedModule, ModuleOf};
+use strm_run_callers::{Gate, RunName, Streams, deal, seated};
+use strm_run_input::{Feed, RunFault, Script, is_worker_count, names_resolve};
 use strm_shared::Ring;
+use strm_shared_log::{SameKind, Setup, Transcript};
 
-/// A run of which all is there, under its name.
-fn run_named<M: ModuleOf, N: Plays<M::Kind> + Send + Sync, R: Threads + Wait + Sync, G: Gate>(
+/// Plays a run of which all is there, under its name.
+fn run_named<M: ModuleOf, N: RunName<M::Kind> + Send + Sync, R: Threads + Wait + Sync, G: Gate>(
     rt: &R,
     alloc: Global,
     setups: Vec<Setup>,
-    scripts: Vec<Script<Boxed<M>>>,
+    scripts: Vec<Script<BoxedModule<M>>>,
     feeds: Vec<Feed>,
     rings: Vec<Ring>,
     workers: u32,
@@ -46,8 +46,8 @@ where
     requires few { (length setups.items < 2 ^ 32) × (length scripts.items < 2 ^ 32) }
     requires setups_fit { All (λ setup. is_setup setup ≡ true) setups.items }
     requires kinds { AreFromLine feeds.items }
-    requires crew { is_crew workers ≡ true }
-    requires there { AreThere setups.items scripts.items feeds.items }
+    requires crew { is_worker_count workers ≡ true }
+    requires there { NamesResolve setups.items scripts.items feeds.items }
     ensures logs { IfOk result (λ transcript. AreLogs M.Kind.means N.run transcript.streams.items) }
     ensures late { IfErr result (λ fault. IsLate fault) }
 {
@@ -62,30 +62,31 @@ where
     finish(rt, alloc, streams, played, offered, many, workers as usize)
 }
 
-/// Plays scripts on streams that all callers share, and gives what is left of each stream.
+/// Plays scripts on streams that all callers share, and returns the log of each stream.
 ///
-/// Streams are numbered from 0 in the order of their setups, callers in that of their scripts. Caller `i`
-/// is played by worker `i` modulo `workers`, and the callers of a worker one after another. Each
-/// worker that has a caller is a thread of its own, or, where it is the only one, the thread that calls. Each feed has a thread of its own
-/// too, which is started before the workers and offers each message once. Round each call the gate is called.
-/// What comes back from a call is dropped after it, outside of the lock. When all have played, the streams are ended in at most
-/// as many threads as there are workers.
+/// Streams are numbered from 0 in the order of their setups, callers in that of their scripts. Caller `i` is
+/// played by worker `i` modulo `workers`, and the callers of a worker one after another. Each worker that has
+/// a caller is a thread of its own, or, where it is the only one, the thread that calls. Each feed has a
+/// thread of its own too, which is started before the workers and offers each message once. Round each call
+/// the gate is called. Modules that come back from a call are dropped after it, outside of the lock. When all
+/// have played, the streams are ended in at most as many threads as there are workers.
 ///
-/// To be called with setups of which each can be made (`are_setups`), with messages that come from lines
-/// (`are_from_line`), with fewer than 2^32 of streams and of scripts, and with modules and kinds of which
-/// what becomes of a call fits into memory, as it does for each type that can be compiled. It returns when
-/// all threads have ended; a module or a gate that waits for ever keeps it.
+/// To be called with setups of which each can be made (`can_open_all`), with messages that come from lines
+/// (`are_from_line`), and with fewer than 2^32 of streams and of scripts. The outcome of a call must fit into
+/// memory for its modules and kinds, as it does for each type that can be compiled. It returns when all
+/// threads have ended; a module or a gate that waits for ever keeps it.
 ///
-/// Refused, in this order: with `Workers` exactly where there are not 1 to 64 workers; with `NoSuch`
-/// exactly where a call is on a stream or an end that is not there, or a feed is for no line or for one
-/// that has another; both before anything is made. Then, over all streams, with `NoMem` for want of memory or of a thread;
-/// else with `Unfinished` where some stream did not end; and else with `NoReceipt`, where a call has no receipt or one
-/// that its stream's history does not hold. Then all modules are dropped.
+/// Refused, in this order: with `Workers` exactly where there are not 1 to 64 workers; with `NoSuch` exactly
+/// where a call is on a stream or an end that is not there, or a feed is for no line or for one that has
+/// another. Both are looked for before anything is made. Then, over all streams, with `NoMem` when memory
+/// runs out or no thread can be started; else with `Unfinished` where some stream did not end; and else with
+/// `NoReceipt`, where a call has no receipt or one that its stream's history does not hold. Then all modules
+/// are dropped.
 pub fn run<M: ModuleOf, R: Threads + Wait + Sync, G: Gate>(
     rt: &R,
     alloc: Global,
     setups: Vec<Setup>,
-    scripts: Vec<Script<Boxed<M>>>,
+    scripts: Vec<Script<BoxedModule<M>>>,
     feeds: Vec<Feed>,
     workers: u32,
     gate: &G,
@@ -96,17 +97,17 @@ where
     requires few { (length setups.items < 2 ^ 32) × (length scripts.items < 2 ^ 32) }
     requires setups { All (λ setup. is_setup setup ≡ true) setups.items }
     requires feeds { AreFromLine feeds.items }
-    ensures workers { IsErrOf result RunFault.Workers ↔ (is_crew workers ≡ false) }
-    ensures no_such { IsErrOf result RunFault.NoSuch ↔ ((is_crew workers ≡ true) × (AreThere setups.items scripts.items feeds.items → ⊥)) }
+    ensures workers { IsErrOf result RunFault.Workers ↔ (is_worker_count workers ≡ false) }
+    ensures no_such { IsErrOf result RunFault.NoSuch ↔ ((is_worker_count workers ≡ true) × (NamesResolve setups.items scripts.items feeds.items → ⊥)) }
     ensures many { IfOk result (λ transcript. length transcript.streams.items ≡ length setups.items) }
     ensures legal { IfOk result (λ transcript. (k : ℕ) (setup : _) (log : _) → k < length setups.items → IsLegal M.Kind.means (get_or setups.items k setup) (get_or transcript.streams.items k log)) }
     ensures calls { IfOk result (λ transcript. (k caller : ℕ) (log : _) → k < length setups.items → map asked_of (own caller (get_or transcript.streams.items k log).history.items) ≡ calls_on k (script_of scripts.items caller)) }
     ensures arrivals { IfOk result (λ transcript. (k : ℕ) (log : _) → k < length setups.items → IsFed (feed_of feeds.items k) (get_or transcript.streams.items k log)) }
 {
-    if !is_crew(workers) {
+    if !is_worker_count(workers) {
         return Err(RunFault::Workers);
     }
-    if !are_there(setups.as_slice(), scripts.as_slice(), feeds.as_slice()) {
+    if !names_resolve(setups.as_slice(), scripts.as_slice(), feeds.as_slice()) {
         return Err(RunFault::NoSuch);
     }
     let rings = rings_of(alloc, setups.as_slice())?;

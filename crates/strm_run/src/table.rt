@@ -5,7 +5,7 @@ ghost use Rattle.strm_run.specs.Inside.Table.{IsAdded, IsTransposed};
 use std::alloc::Global;
 use strm_msg::NoMem;
 
-/// So many rows of nothing. Refused for want of memory alone.
+/// Empty rows, `rows` of them. Fails only when memory runs out.
 pub(crate) fn empty_rows<T: Drop>(alloc: Global, rows: usize) -> Result<Vec<Vec<T>>, NoMem>
     ensures many { IfOk result (λ all. length all.items ≡ rows) }
     ensures empty { IfOk result (λ all. All (λ row. row.items ≡ []) all.items) }
@@ -17,7 +17,7 @@ pub(crate) fn empty_rows<T: Drop>(alloc: Global, rows: usize) -> Result<Vec<Vec<
     Ok(all)
 }
 
-/// One element more for each row. Refused for want of memory alone.
+/// Adds one element to each row. Fails only when memory runs out.
 fn add<T: Drop>(rows: &mut Vec<Vec<T>>, column: Vec<T>) -> Result<(), NoMem>
     requires { length column.items ≡ length rows.old.items }
     ensures { OnOk result (IsAdded rows.old.items column.items rows.new.items) }
@@ -30,7 +30,7 @@ fn add<T: Drop>(rows: &mut Vec<Vec<T>>, column: Vec<T>) -> Result<(), NoMem>
     Ok(())
 }
 
-/// The rows of columns that are all so long. Refused for want of memory alone.
+/// The rows of columns that all have the same length. Fails only when memory runs out.
 pub(crate) fn transposed<T: Drop>(
     alloc: Global,
     columns: Vec<Vec<T>>,

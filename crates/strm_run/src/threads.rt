@@ -1,13 +1,13 @@
 //! The threads of a run.
-ghost use Rattle.strm_crew.specs.Play.{CallsDoFit};
+ghost use Rattle.strm_run_callers.specs.Play.{CallsDoFit};
 
 use std::alloc::Global;
 use std::sync::Wait;
 use std::thread::Threads;
-use strm_crew::{Feeding, Gate, Offered, Played, Player, Plays, Streams, play_each};
 use strm_module::ModuleOf;
 use strm_msg::NoMem;
-use strm_threads::beside;
+use strm_run_callers::{Feeding, Gate, Offered, Played, Player, RunName, Streams, play_each};
+use strm_run_threads::run_alongside;
 
 /// The scripts of the only worker that has some, or those of each that has some, where they are several.
 fn with_scripts<P: Drop>(
@@ -27,7 +27,7 @@ fn with_scripts<P: Drop>(
     Ok((alone, busy))
 }
 
-/// What workers leave, one behind the other; want of memory, where one of them met it.
+/// The results of workers, one behind the other; out of memory, where one of them met it.
 fn joined<T: Drop>(
     first: Result<Vec<T>, NoMem>,
     others: Vec<Result<Vec<T>, NoMem>>,
@@ -40,7 +40,7 @@ fn joined<T: Drop>(
 }
 
 /// Plays the scripts of each worker that has some in a thread of its own, or here, if it is the only one.
-fn play_all<M: ModuleOf, N: Plays<M::Kind> + Send + Sync, R: Threads + Wait + Sync, G: Gate>(
+fn play_all<M: ModuleOf, N: RunName<M::Kind> + Send + Sync, R: Threads + Wait + Sync, G: Gate>(
     rt: &R,
     alloc: Global,
     streams: &Streams<M, N>,
@@ -52,7 +52,7 @@ where
     requires { CallsDoFit M.row M.Kind.row M.Kind.Kinds }
 {
     let (alone, several) = with_scripts(alloc, crews)?;
-    let (left, mine) = beside(
+    let (left, mine) = run_alongside(
         rt,
         alloc,
         several,
@@ -66,7 +66,7 @@ where
     joined(mine, left)
 }
 
-/// What a feeder left, kept with what others did.
+/// Adds the result of a feeder to those of others.
 fn keep<T: Drop>(all: &mut Vec<T>, one: Option<T>) -> Result<(), NoMem> {
     if let Some(one) = one {
         all.push(one)?;
@@ -74,8 +74,8 @@ fn keep<T: Drop>(all: &mut Vec<T>, one: Option<T>) -> Result<(), NoMem> {
     Ok(())
 }
 
-/// The feeders that have messages, apart from what those leave that have none.
-fn with_messages<K: Drop, N: Plays<K>>(
+/// The feeders that have messages, and apart from them the feeds of those that have none.
+fn with_messages<K: Drop, N: RunName<K>>(
     alloc: Global,
     feedings: Vec<Feeding<K, N>>,
 ) -> Result<(Vec<Feeding<K, N>>, Vec<Offered<K, N>>), NoMem> {
@@ -94,7 +94,7 @@ fn with_messages<K: Drop, N: Plays<K>>(
 /// Plays scripts while each feeder that has messages offers them in a thread of its own, and waits for all.
 pub(crate) fn play_out<
     M: ModuleOf,
-    N: Plays<M::Kind> + Send + Sync,
+    N: RunName<M::Kind> + Send + Sync,
     R: Threads + Wait + Sync,
     G: Gate,
 >(
@@ -110,7 +110,7 @@ where
     requires { CallsDoFit M.row M.Kind.row M.Kind.Kinds }
 {
     let (feeders, mut offered) = with_messages(alloc, feedings)?;
-    let (left, played) = beside(
+    let (left, played) = run_alongside(
         rt,
         alloc,
         feeders,

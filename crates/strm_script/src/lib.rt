@@ -1,28 +1,19 @@
-//! Scripts and transcripts: what a program needs to read a script, and to print what its run leaves; and the parts of the lines of a
-//! transcript, for those who print them otherwise.
+//! Scripts: parse or load one, play it, and print or draw its transcript.
+//!
+//! A script declares streams, feeds and processes. [`parse`] makes a [`Plan`] of its bytes, [`play`] plays it with threads, [`print`]
+//! writes the transcript and [`chart`] draws it. A program with kinds of modules of its own gives their words with [`ReadKind`],
+//! [`PlayModule`] and [`PrintKind`].
 #![tactic(auto)]
 
-mod entry;
-mod field;
-mod gathered;
-mod message;
-mod module;
-mod polled;
-mod printing;
-mod reply;
-mod request;
-mod sharing;
-mod stream;
-
-pub use entry::{end_word, put_event};
-pub use field::{fields_are_read_back, put_number, put_part, put_word};
-pub use module::PrintKind;
-pub use printing::print;
-pub use reply::put_answer;
-pub use sharing::print_shared_out;
-pub use stream::{put_end, put_far_end, put_feed, put_heading};
-pub use strm_plan::{
-    CallDecl, Cause, LoadFault, Name, Names, Object, Plan, PlayModule, ProcessDecl, PushDecl,
-    ReadKind, ScriptFault, load, parse, with_modules,
+pub use strm_script_chart::chart;
+pub use strm_script_parse::{
+    CallDecl, Cause, LONGEST_SCRIPT, LoadFault, MOST_READ, Name, Names, Object, Plan, PlayFault,
+    PlayModule, ProcessDecl, PushDecl, ReadKind, RunInput, ScriptFault, into_run_input, load,
+    parse, parse_made, parse_parallel, with_modules,
 };
-pub use strm_verb::{ReadError, byte_at, number_at, part_at, short_at, word_at};
+pub use strm_script_play::{Outcome, play, play_plan};
+pub use strm_script_print::{
+    PrintKind, end_word, print, print_parallel, put_answer, put_end, put_event, put_far_end,
+    put_feed, put_heading, put_number, put_part, put_word,
+};
+pub use strm_script_words::{ReadError, number_at, part_at, u8_at, u16_at, u32_at};

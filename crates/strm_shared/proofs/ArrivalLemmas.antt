@@ -8,22 +8,22 @@ use Rattle.strm_msg.specs.declared.words.End.{End}
 use Rattle.strm_module.specs.Kinds.{Meaning}
 use Rattle.strm_module.specs.declared.shape.Shape.{Shape}
 use Rattle.strm_module.specs.Driver.{is_line}
-use Rattle.strm_call.specs.declared.answer.Answer.{Answer}
-use Rattle.strm_call.specs.declared.call.Call.{Call}
-use Rattle.strm_call.specs.declared.event.Event.{Event}
-use Rattle.strm_call.specs.declared.event.Event.TheVariants.{Asked, Arrived}
-use Rattle.strm_entry.specs.Entry.{Entry}
-use Rattle.strm_entry.specs.declared.call.Called.{Called}
-use Rattle.strm_entry.specs.declared.call.Called.TheVariants.{Done, NoRoom}
-use Rattle.strm_entry.specs.Entry.{came_in}
-use Rattle.strm_entry.specs.Called.{is_done}
-use Rattle.strm_entry.specs.Own.{arrivals}
-use Rattle.strm_history.specs.Log.{LogValue, HasLanded, CallsBy, IsSameLog}
-use Rattle.strm_history.proofs.LogLemmas.{landed_same, same_log, same_logs}
-use Rattle.strm_line.specs.Inlet.{InletValue}
-use Rattle.strm_line.specs.Runs.{IsNextOf}
+use Rattle.strm_head_calls.specs.declared.answer.Answer.{Answer}
+use Rattle.strm_head_calls.specs.declared.call.Call.{Call}
+use Rattle.strm_head_calls.specs.declared.event.Event.{Event}
+use Rattle.strm_head_calls.specs.declared.event.Event.TheVariants.{Asked, Arrived}
+use Rattle.strm_shared_entry.specs.Entry.{Entry}
+use Rattle.strm_shared_entry.specs.declared.call.Called.{Called}
+use Rattle.strm_shared_entry.specs.declared.call.Called.TheVariants.{Done, NoRoom}
+use Rattle.strm_shared_entry.specs.Entry.{came_in}
+use Rattle.strm_shared_entry.specs.Called.{is_done}
+use Rattle.strm_shared_entry.specs.Own.{arrivals}
+use Rattle.strm_shared_log.specs.Log.{LogValue, HasLanded, CallsBy, IsSameLog}
+use Rattle.strm_shared_log.proofs.LogLemmas.{landed_same, same_log, same_logs}
+use Rattle.strm_shared_ring.specs.Inlet.{InletValue}
+use Rattle.strm_shared_ring.specs.StreamRunName.{IsNextOf}
 use Rattle.strm_shared.specs.Seat.{SeatValue}
-use Rattle.strm_shared.specs.Turns.{turned, IsLocked, TurnsValue}
+use Rattle.strm_shared.specs.CallCounts.{turned, IsSharedState, CallCountsValue}
 use Rattle.strm_shared.specs.Arrivals.{TakesIn, ComesIn, NoMoreCome, TakesAll, Finds}
 use Rattle.strm_shared.proofs.TurnLemmas.{call_keeps, line_in_turn}
 
@@ -102,7 +102,7 @@ module _ {K : Type 0} (means : Meaning K) where
   call_setup Agrees old new caller nth call (NoRoom same) by = ap (λ s. is_line s.driver) by.1.setup
 
   module _ (calls : ℕ → ℕ → Option (List (End × Event (Shape K)))) (number : ℕ) where
-    pub call_locked : {A : Type 0} (Agrees : A → Answer → Type 0) (old new : LogValue K) (seat : SeatValue) (call : Call (Shape K)) (result : Called (Shape K) K A) (turns after : TurnsValue) (inlet : InletValue) → CallsBy means Agrees old seat.caller (seat.calls + 1) call result new → after ≡ turned number seat result turns → IsNextOf (calls seat.number seat.caller) seat.calls (call.end, Asked call.request) → IsLocked (calls number) number old turns inlet → IsLocked (calls number) number new after inlet
+    pub call_locked : {A : Type 0} (Agrees : A → Answer → Type 0) (old new : LogValue K) (seat : SeatValue) (call : Call (Shape K)) (result : Called (Shape K) K A) (turns after : CallCountsValue) (inlet : InletValue) → CallsBy means Agrees old seat.caller (seat.calls + 1) call result new → after ≡ turned number seat result turns → IsNextOf (calls seat.number seat.caller) seat.calls (call.end, Asked call.request) → IsSharedState (calls number) number old turns inlet → IsSharedState (calls number) number new after inlet
     call_locked Agrees old new seat call result turns after inlet by is next was = record {
       in_turn = call_keeps means calls number Agrees old new seat call result turns after by is next was.in_turn;
       came_in = call_arrivals Agrees old new seat.caller (seat.calls + 1) call result by ∙ was.came_in;
@@ -111,7 +111,7 @@ module _ {K : Type 0} (means : Meaning K) where
     }
 
     -- so does a message that has left the inlet and came in
-    pub landed_locked : (old new : LogValue K) (m : Msg) (turns : TurnsValue) (inlet after : InletValue) → HasLanded means old m new → after ≡ record inlet { came = inlet.came ++ m ∷ []; held = None } → IsLocked (calls number) number old turns inlet → IsLocked (calls number) number new turns after
+    pub landed_locked : (old new : LogValue K) (m : Msg) (turns : CallCountsValue) (inlet after : InletValue) → HasLanded means old m new → after ≡ record inlet { came = inlet.came ++ m ∷ []; held = None } → IsSharedState (calls number) number old turns inlet → IsSharedState (calls number) number new turns after
     landed_locked old new m turns inlet after lands left was =
         let enters = lands.enters in
         record {
@@ -122,7 +122,7 @@ module _ {K : Type 0} (means : Meaning K) where
         }
 
 -- a message that has left the inlet and is held back leaves what stands under the lock as it was
-pub held_locked : {K : Type 0} (calls : ℕ → ℕ → Option (List (End × Event (Shape K)))) (number : ℕ) (old new : LogValue K) (m same : Msg) (turns : TurnsValue) (inlet taken after : InletValue) → same ≡ m → IsSameLog old new → taken ≡ record inlet { came = inlet.came ++ m ∷ []; held = None } → ((before : List Msg) → taken.came ≡ before ++ same ∷ [] → after ≡ record taken { came = before; held = Some same }) → IsLocked (calls number) number old turns inlet → IsLocked (calls number) number new turns after
+pub held_locked : {K : Type 0} (calls : ℕ → ℕ → Option (List (End × Event (Shape K)))) (number : ℕ) (old new : LogValue K) (m same : Msg) (turns : CallCountsValue) (inlet taken after : InletValue) → same ≡ m → IsSameLog old new → taken ≡ record inlet { came = inlet.came ++ m ∷ []; held = None } → ((before : List Msg) → taken.came ≡ before ++ same ∷ [] → after ≡ record taken { came = before; held = Some same }) → IsSharedState (calls number) number old turns inlet → IsSharedState (calls number) number new turns after
 held_locked calls number old new m same turns inlet taken after is kept left held was =
     let last : taken.came ≡ inlet.came ++ same ∷ [] = ap (λ (i : InletValue). i.came) left ∙ ap (λ (x : Msg). inlet.came ++ x ∷ []) (sym is) in
     let back = held inlet.came last in
@@ -135,7 +135,7 @@ held_locked calls number old new m same turns inlet taken after is kept left hel
     })
 
 -- so does other room
-pub same_locked : {K : Type 0} (calls : ℕ → ℕ → Option (List (End × Event (Shape K)))) (number : ℕ) (old new : LogValue K) (turns : TurnsValue) (inlet : InletValue) → IsSameLog old new → IsLocked (calls number) number old turns inlet → IsLocked (calls number) number new turns inlet
+pub same_locked : {K : Type 0} (calls : ℕ → ℕ → Option (List (End × Event (Shape K)))) (number : ℕ) (old new : LogValue K) (turns : CallCountsValue) (inlet : InletValue) → IsSameLog old new → IsSharedState (calls number) number old turns inlet → IsSharedState (calls number) number new turns inlet
 same_locked calls number old new turns inlet same was = record {
   in_turn = rw same.history was.in_turn;
   came_in = rw same.history was.came_in;

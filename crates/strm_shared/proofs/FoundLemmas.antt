@@ -6,43 +6,38 @@ use Rattle.std.proofs.lemmas.Simd.{map-map}
 use Rattle.arrayvec.specs.ArrayVec.{ArrayVec}
 use Rattle.strm_msg.specs.Message.{Msg}
 use Rattle.strm_msg.specs.declared.words.End.{End}
-use Rattle.strm_qpair.specs.Pair.{QueuePair}
-use Rattle.strm_ends.specs.declared.place.Place.{Place}
-use Rattle.strm_ends.specs.Image.{Image, end_of}
+use Rattle.strm_chain_end.specs.Pair.{QueuePair}
+use Rattle.strm_chain_ends.specs.declared.place.Place.{Place}
+use Rattle.strm_chain_ends.specs.Image.{Image, end_of}
 use Rattle.strm_module.specs.Kinds.{Meaning}
 use Rattle.strm_module.specs.declared.shape.Shape.{Shape}
-use Rattle.strm_call.specs.declared.answer.Answer.{Answer}
-use Rattle.strm_call.specs.declared.answer.Answer.TheVariants as Answers
-use Rattle.strm_call.specs.declared.answer.Reply.TheVariants as ReplyOf
-use Rattle.strm_call.specs.declared.request.Request.{Request}
-use Rattle.strm_call.specs.declared.request.Request.TheVariants as Requests
-use Rattle.strm_call.specs.declared.refusal.Refusal.{Refusal}
-use Rattle.strm_call.specs.declared.refusal.Refusal.TheVariants.{Invalid, HungUp}
-use Rattle.strm_call.specs.Refusal.{first_that_holds}
-use Rattle.strm_call.specs.declared.call.Call.{Call}
-use Rattle.strm_call.specs.Begun.{reply_after}
-use Rattle.strm_ioctl.specs.Ask.{is_empty}
-use Rattle.strm_ioctl.specs.Modules.{pop_refusals, first_name}
-use Rattle.strm_ioctl.proofs.OutsideLemmas.{taken_none}
-use Rattle.strm_call.specs.declared.event.Event.{Event}
-use Rattle.strm_call.specs.declared.event.Event.TheVariants.{Asked}
-use Rattle.strm_head.specs.Begin.{back_of, begun_of, common_refusals, handed_out, refusal_of}
+use Rattle.strm_head_calls.specs.declared.answer.Answer.{Answer}
+use Rattle.strm_head_calls.specs.declared.answer.Answer.TheVariants as Answers
+use Rattle.strm_head_calls.specs.declared.answer.Reply.TheVariants as ReplyOf
+use Rattle.strm_head_calls.specs.declared.request.Request.{Request}
+use Rattle.strm_head_calls.specs.declared.request.Request.TheVariants as Requests
+use Rattle.strm_head_calls.specs.declared.refusal.Refusal.{Refusal}
+use Rattle.strm_head_calls.specs.declared.refusal.Refusal.TheVariants.{Invalid, HungUp}
+use Rattle.strm_head_calls.specs.Refusal.{first_that_holds}
+use Rattle.strm_head_calls.specs.declared.call.Call.{Call}
+use Rattle.strm_head_calls.specs.Effect.{reply_after}
+use Rattle.strm_head_ioctl.specs.Ask.{is_empty}
+use Rattle.strm_head_ioctl.specs.Modules.{pop_refusals, first_name}
+use Rattle.strm_head_ioctl.proofs.OutsideLemmas.{taken_none}
+use Rattle.strm_head_calls.specs.declared.event.Event.{Event}
+use Rattle.strm_head_calls.specs.declared.event.Event.TheVariants.{Asked}
+use Rattle.strm_head.specs.Effects.{back_of, effect_of, common_refusals, handed_out, refusal_of}
 use Rattle.strm_head.specs.Step.{Step}
-use Rattle.strm_head.proofs.RefusalLemmas.{first_of_all}
-use Rattle.strm_entry.specs.declared.call.Called.{Called}
-use Rattle.strm_entry.specs.declared.call.Called.TheVariants.{Done, NoRoom}
-use Rattle.strm_entry.specs.Entry.{Entry}
-use Rattle.strm_entry.specs.Entry.{asked_of, serial_of}
-use Rattle.strm_history.specs.Steps.{due_back}
-use Rattle.strm_history.specs.Log.{LogValue, CallsBy, IsCalled}
-use Rattle.strm_entry.specs.Receipt.{ReceiptValue}
+use Rattle.strm_head.proofs.RefusalLemmas.{first_of_all, none_behind}
+use Rattle.strm_shared_entry.specs.declared.call.Called.{Called}
+use Rattle.strm_shared_entry.specs.declared.call.Called.TheVariants.{Done, NoRoom}
+use Rattle.strm_shared_entry.specs.Entry.{Entry}
+use Rattle.strm_shared_entry.specs.Entry.{asked_of, serial_of}
+use Rattle.strm_shared_log.specs.Steps.{due_back}
+use Rattle.strm_shared_log.specs.Log.{LogValue, CallsBy, IsCalled}
+use Rattle.strm_shared_entry.specs.Receipt.{ReceiptValue}
 use Rattle.strm_shared.specs.Seat.{SeatValue}
 use Rattle.strm_shared.specs.Ending.{Replies, HandsOut, HandsBackMade, HandsBack, Shows}
-
--- where the second refusal holds, one does
-second_none : (first second : Option Refusal) → option_or first second ≡ None → second ≡ None
-second_none None second is = is
-second_none (Some refusal) second is = absurd cc
 
 -- a pop that is not refused has a module to take out, the topmost
 pop_out : {K : Type 0} (modules : List (QueuePair K)) (hung : Bool) (answer : Answer) (back : List (Option (Shape K))) → first_that_holds ((is_empty modules, Invalid) ∷ (hung, HungUp) ∷ []) ≡ None → Replies answer (ReplyOf.Pop (first_name modules)) → back ≡ handed_out (take 1 (map (λ s. s.shape) modules)) → HandsOut Requests.Pop answer back
@@ -60,9 +55,9 @@ close_out modules answer back replies comes = (
 -- for kinds of any meaning
 module _ {K : Type 0} (means : Meaning K) where
   -- what a call that is not refused takes out, by the call
-  hands_out : (image : Image K) (e : End) (request : Request (Shape K)) (answer : Answer) (back : List (Option (Shape K))) (kept : Option Msg) → refusal_of means image e request ≡ None → Replies answer (reply_after (begun_of means image e request) kept) → back ≡ handed_out (begun_of means image e request).out → HandsOut request answer back
+  hands_out : (image : Image K) (e : End) (request : Request (Shape K)) (answer : Answer) (back : List (Option (Shape K))) (kept : Option Msg) → refusal_of means image e request ≡ None → Replies answer (reply_after (effect_of means image e request) kept) → back ≡ handed_out (effect_of means image e request).out → HandsOut request answer back
   hands_out image e Requests.Pop answer back kept none replies comes = pop_out (end_of image e).modules (end_of image e).state.hung answer back
-      (second_none (first_that_holds (common_refusals image e Requests.Pop)) (first_that_holds (pop_refusals image e)) (sym (first_of_all means image e Requests.Pop refl) ∙ none))
+      (none_behind (first_that_holds (common_refusals image e Requests.Pop)) (first_that_holds (pop_refusals image e)) (sym (first_of_all means image e Requests.Pop refl) ∙ none))
       replies comes
   hands_out image e Requests.Close answer back kept none replies comes = close_out (end_of image e).modules answer back replies comes
   hands_out image e (Requests.Putmsg flag parts) answer back kept none replies comes = comes

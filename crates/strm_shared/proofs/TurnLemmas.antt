@@ -8,35 +8,35 @@ use Rattle.std.proofs.lemmas.Bool.{eqb-true, eqb-false, lt-ltb, ltb-true, both_w
 use Rattle.strm_msg.specs.declared.words.End.{End}
 use Rattle.strm_module.specs.Kinds.{Meaning}
 use Rattle.strm_module.specs.declared.shape.Shape.{Shape}
-use Rattle.strm_call.specs.declared.answer.Answer.{Answer}
-use Rattle.strm_call.specs.declared.call.Call.{Call}
-use Rattle.strm_call.specs.declared.event.Event.{Event}
-use Rattle.strm_call.specs.declared.event.Event.TheVariants.{Asked}
-use Rattle.strm_entry.proofs.OwnLemmas.{other_step, own_step}
-use Rattle.strm_entry.specs.declared.entry.Who.TheVariants.{Caller, Line}
-use Rattle.strm_entry.specs.Entry.{Entry}
-use Rattle.strm_entry.specs.Entry.{is_caller, asked_of}
+use Rattle.strm_head_calls.specs.declared.answer.Answer.{Answer}
+use Rattle.strm_head_calls.specs.declared.call.Call.{Call}
+use Rattle.strm_head_calls.specs.declared.event.Event.{Event}
+use Rattle.strm_head_calls.specs.declared.event.Event.TheVariants.{Asked}
+use Rattle.strm_shared_entry.proofs.OwnLemmas.{other_step, own_step}
+use Rattle.strm_shared_entry.specs.declared.entry.Who.TheVariants.{Caller, Line}
+use Rattle.strm_shared_entry.specs.Entry.{Entry}
+use Rattle.strm_shared_entry.specs.Entry.{is_caller, asked_of}
 use Rattle.strm_shared.specs.declared.fault.EndFault.{EndFault}
 use Rattle.strm_shared.specs.declared.fault.EndFault.TheVariants as EndFaults
-use Rattle.strm_entry.specs.declared.call.Called.{Called}
-use Rattle.strm_entry.specs.declared.call.Called.TheVariants.{Done, NoRoom}
-use Rattle.strm_entry.specs.Own.{own, calls_of}
-use Rattle.strm_entry.specs.Called.{has_receipt, is_done}
-use Rattle.strm_history.specs.Log.{LogValue, Enters, CallsBy}
+use Rattle.strm_shared_entry.specs.declared.call.Called.{Called}
+use Rattle.strm_shared_entry.specs.declared.call.Called.TheVariants.{Done, NoRoom}
+use Rattle.strm_shared_entry.specs.Own.{own, calls_of}
+use Rattle.strm_shared_entry.specs.Called.{has_receipt, is_done}
+use Rattle.strm_shared_log.specs.Log.{LogValue, Enters, CallsBy}
 use Rattle.strm_shared.specs.Seat.{SeatValue}
-use Rattle.strm_entry.specs.Own.{has_seat}
+use Rattle.strm_shared_entry.specs.Own.{has_seat}
 use Rattle.strm_shared.specs.Ending.{CountsAgree, Counted}
-use Rattle.strm_shared.specs.Turns.{counted, has_count, is_next, turned, AreFirstOf, AreInTurn, TurnsValue}
-use Rattle.strm_line.specs.Runs.{IsNextOf}
+use Rattle.strm_shared.specs.CallCounts.{counted, has_count, is_next, turned, ArePrefixOf, AreInTurn, CallCountsValue}
+use Rattle.strm_shared_ring.specs.StreamRunName.{IsNextOf}
 
 -- the first elements, with one more
-take_next : {A : Type 0} (all : List A) (count : ℕ) (one : A) → slice_get all count ≡ Some one → take (suc count) all ≡ take count all ++ one ∷ []
+pub take_next : {A : Type 0} (all : List A) (count : ℕ) (one : A) → slice_get all count ≡ Some one → take (suc count) all ≡ take count all ++ one ∷ []
 take_next [] count one at = absurd cc
 take_next (first ∷ rest) zero one at = ap (λ x. x ∷ []) (same_Some _ _ at)
 take_next (first ∷ rest) (suc count) one at = ap (λ l. first ∷ l) (take_next rest count one at)
 
 -- one call more, the next one
-pub first_more : {K : Type 0} (calls : Option (List (End × Event (Shape K)))) (made : List (Entry K)) (entry : Entry K) → AreFirstOf calls made → IsNextOf calls (length made) (asked_of entry) → AreFirstOf calls (made ++ entry ∷ [])
+pub first_more : {K : Type 0} (calls : Option (List (End × Event (Shape K)))) (made : List (Entry K)) (entry : Entry K) → ArePrefixOf calls made → IsNextOf calls (length made) (asked_of entry) → ArePrefixOf calls (made ++ entry ∷ [])
 first_more None made entry first next = tt
 first_more (Some calls) made entry first next =
     let len : length (made ++ entry ∷ []) ≡ suc (length made) = length-append made (entry ∷ []) ∙ (let l : length made + 1 ≡ suc (length made) = omega arith in l) in
@@ -49,7 +49,7 @@ line_in_turn calls counts history longer entry is line was =
     record {
       counts_are = λ caller below. was.counts_are caller below ∙ ap (λ l. length l) (sym (none caller));
       seated = subst (λ l. All (λ e. has_seat (length counts) e.who ≡ true) l) (sym is) (All-push (λ e. has_seat (length counts) e.who ≡ true) history entry was.seated (ap (λ w. has_seat (length counts) w) line));
-      first = λ caller. subst (λ l. AreFirstOf (calls caller) l) (sym (none caller)) (was.first caller);
+      first = λ caller. subst (λ l. ArePrefixOf (calls caller) l) (sym (none caller)) (was.first caller);
     }
 
 -- a call in its turn: its caller has one more
@@ -67,14 +67,14 @@ module _ {K : Type 0} (calls : ℕ → Option (List (End × Event (Shape K)))) (
   counts_more caller false other below =
       get_or-set_other counts who caller (count + 1) 0 (λ same. eqb-false who caller other (sym same)) ∙ was.counts_are caller below ∙ ap (λ l. length l) (sym (other_step caller history longer entry is (ap (λ w. is_caller caller w) by ∙ other)))
 
-  first_now : (caller : ℕ) (b : Bool) → (who == caller) ≡ b → AreFirstOf (calls caller) (own caller longer)
+  first_now : (caller : ℕ) (b : Bool) → (who == caller) ≡ b → ArePrefixOf (calls caller) (own caller longer)
   first_now caller true same =
       let at : who ≡ caller = eqb-true who caller same in
       let before : length (own caller history) ≡ count = subst (λ (n : ℕ). length (own n history) ≡ count) at (sym (was.counts_are who within) ∙ has) in
-      subst (λ l. AreFirstOf (calls caller) l) (sym (own_step caller history longer entry is (ap (λ w. is_caller caller w) by ∙ same)))
+      subst (λ l. ArePrefixOf (calls caller) l) (sym (own_step caller history longer entry is (ap (λ w. is_caller caller w) by ∙ same)))
       (first_more (calls caller) (own caller history) entry (was.first caller) (subst (λ (n : ℕ). IsNextOf (calls caller) n (asked_of entry)) (sym before) (subst (λ (n : ℕ). IsNextOf (calls n) count (asked_of entry)) at next)))
   first_now caller false other =
-      subst (λ l. AreFirstOf (calls caller) l) (sym (other_step caller history longer entry is (ap (λ w. is_caller caller w) by ∙ other))) (was.first caller)
+      subst (λ l. ArePrefixOf (calls caller) l) (sym (other_step caller history longer entry is (ap (λ w. is_caller caller w) by ∙ other))) (was.first caller)
 
   pub call_in_turn : AreInTurn calls more longer
   call_in_turn = record {
@@ -86,7 +86,7 @@ module _ {K : Type 0} (calls : ℕ → Option (List (End × Event (Shape K)))) (
   }
 
 -- before the first step
-none_first : {K : Type 0} (calls : Option (List (End × Event (Shape K)))) → AreFirstOf calls []
+none_first : {K : Type 0} (calls : Option (List (End × Event (Shape K)))) → ArePrefixOf calls []
 none_first None = tt
 none_first (Some calls) = refl
 
@@ -98,12 +98,12 @@ none_in_turn calls callers = record {
 }
 
 -- a call that was made is counted, by what its seat counts after it
-pub counted_is : (number : ℕ) (seat after : SeatValue) (shown : Bool) (turns new : TurnsValue) (next : Bool) → next ≡ is_next number seat turns.counts → after ≡ record seat { calls = seat.calls + 1; shown = shown } → new ≡ (if next then record { counts = set turns.counts after.caller after.calls; in_turn = turns.in_turn } else record { counts = turns.counts; in_turn = false }) → new ≡ counted number seat turns
+pub counted_is : (number : ℕ) (seat after : SeatValue) (shown : Bool) (turns new : CallCountsValue) (next : Bool) → next ≡ is_next number seat turns.counts → after ≡ record seat { calls = seat.calls + 1; shown = shown } → new ≡ (if next then record { counts = set turns.counts after.caller after.calls; in_turn = turns.in_turn } else record { counts = turns.counts; in_turn = false }) → new ≡ counted number seat turns
 counted_is number seat after shown turns new next same counts is =
     is ∙ (λ i. if same i then record { counts = set turns.counts (counts i).caller (counts i).calls; in_turn = turns.in_turn } else record { counts = turns.counts; in_turn = false })
 
 -- a call that was not made is not counted
-pub none_turned : {P K A : Type 0} (number : ℕ) (seat : SeatValue) (result : Called P K A) (turns : TurnsValue) → false ≡ is_done result → turns ≡ turned number seat result turns
+pub none_turned : {P K A : Type 0} (number : ℕ) (seat : SeatValue) (result : Called P K A) (turns : CallCountsValue) → false ≡ is_done result → turns ≡ turned number seat result turns
 none_turned number seat (Done answer back receipt) turns none = absurd cc
 none_turned number seat (NoRoom same) turns none = refl
 
@@ -121,7 +121,7 @@ module _ {K : Type 0} (means : Meaning K) (calls : ℕ → ℕ → Option (List 
   next_of old new seat call answer enters next = subst (λ asked. IsNextOf (calls seat.number seat.caller) seat.calls asked) (λ i. (sym enters.at i, sym enters.has i)) next
 
   -- a call that was made keeps the calls in turn
-  done_in_turn : (old new : LogValue K) (seat : SeatValue) (call : Call (Shape K)) (answer : Answer) (turns after : TurnsValue) (b : Bool) → is_next number seat turns.counts ≡ b → Enters means old (Caller seat.caller) call.end (Asked call.request) answer new → after ≡ (if b then record { counts = set turns.counts seat.caller (seat.calls + 1); in_turn = turns.in_turn } else record { counts = turns.counts; in_turn = false }) → IsNextOf (calls seat.number seat.caller) seat.calls (call.end, Asked call.request) → (turns.in_turn ≡ true → AreInTurn (calls number) turns.counts old.history) → after.in_turn ≡ true → AreInTurn (calls number) after.counts new.history
+  done_in_turn : (old new : LogValue K) (seat : SeatValue) (call : Call (Shape K)) (answer : Answer) (turns after : CallCountsValue) (b : Bool) → is_next number seat turns.counts ≡ b → Enters means old (Caller seat.caller) call.end (Asked call.request) answer new → after ≡ (if b then record { counts = set turns.counts seat.caller (seat.calls + 1); in_turn = turns.in_turn } else record { counts = turns.counts; in_turn = false }) → IsNextOf (calls seat.number seat.caller) seat.calls (call.end, Asked call.request) → (turns.in_turn ≡ true → AreInTurn (calls number) turns.counts old.history) → after.in_turn ≡ true → AreInTurn (calls number) after.counts new.history
   done_in_turn old new seat call answer turns after true next enters is one was so =
       let sits = is_next_is number seat turns.counts next in
       let more : AreInTurn (calls number) (set turns.counts seat.caller (seat.calls + 1)) new.history =
@@ -129,14 +129,14 @@ module _ {K : Type 0} (means : Meaning K) (calls : ℕ → ℕ → Option (List 
       subst (λ l. AreInTurn (calls number) l new.history) (sym (ap (λ t. t.counts) is)) more
   done_in_turn old new seat call answer turns after false next enters is one was so = absurd (both_ways after.in_turn (ap (λ t. t.in_turn) is) so)
 
-  pub call_keeps : {A : Type 0} (Agrees : A → Answer → Type 0) (old new : LogValue K) (seat : SeatValue) (call : Call (Shape K)) (result : Called (Shape K) K A) (turns after : TurnsValue) → CallsBy means Agrees old seat.caller (seat.calls + 1) call result new → after ≡ turned number seat result turns → IsNextOf (calls seat.number seat.caller) seat.calls (call.end, Asked call.request) → (turns.in_turn ≡ true → AreInTurn (calls number) turns.counts old.history) → after.in_turn ≡ true → AreInTurn (calls number) after.counts new.history
+  pub call_keeps : {A : Type 0} (Agrees : A → Answer → Type 0) (old new : LogValue K) (seat : SeatValue) (call : Call (Shape K)) (result : Called (Shape K) K A) (turns after : CallCountsValue) → CallsBy means Agrees old seat.caller (seat.calls + 1) call result new → after ≡ turned number seat result turns → IsNextOf (calls seat.number seat.caller) seat.calls (call.end, Asked call.request) → (turns.in_turn ≡ true → AreInTurn (calls number) turns.counts old.history) → after.in_turn ≡ true → AreInTurn (calls number) after.counts new.history
   call_keeps Agrees old new seat call (Done has back receipt) turns after by is one was so =
       done_in_turn old new seat call by.0 turns after (is_next number seat turns.counts) refl by.2.enters is one was so
   call_keeps Agrees old new seat call (NoRoom same) turns after by is one was so =
-      subst (λ (l : List (Entry K)). AreInTurn (calls number) after.counts l) (sym by.1.history) (subst (λ (t : TurnsValue). AreInTurn (calls number) t.counts old.history) (sym is) (was (sym (ap (λ t. t.in_turn) is) ∙ so)))
+      subst (λ (l : List (Entry K)). AreInTurn (calls number) after.counts l) (sym by.1.history) (subst (λ (t : CallCountsValue). AreInTurn (calls number) t.counts old.history) (sym is) (was (sym (ap (λ t. t.in_turn) is) ∙ so)))
 
 -- a call that was made, or not, is counted in the turns as the seat counts it
-pub done_turned : {P K A : Type 0} (number : ℕ) (seat after : SeatValue) (shown : Bool) (result : Called P K A) (turns new : TurnsValue) (next : Bool) → true ≡ is_done result → next ≡ is_next number seat turns.counts → after ≡ record seat { calls = seat.calls + 1; shown = shown } → new ≡ (if next then record { counts = set turns.counts after.caller after.calls; in_turn = turns.in_turn } else record { counts = turns.counts; in_turn = false }) → new ≡ turned number seat result turns
+pub done_turned : {P K A : Type 0} (number : ℕ) (seat after : SeatValue) (shown : Bool) (result : Called P K A) (turns new : CallCountsValue) (next : Bool) → true ≡ is_done result → next ≡ is_next number seat turns.counts → after ≡ record seat { calls = seat.calls + 1; shown = shown } → new ≡ (if next then record { counts = set turns.counts after.caller after.calls; in_turn = turns.in_turn } else record { counts = turns.counts; in_turn = false }) → new ≡ turned number seat result turns
 done_turned number seat after shown (Done answer back receipt) turns new next done same counts is = counted_is number seat after shown turns new next same counts is
 done_turned number seat after shown (NoRoom again) turns new next done same counts is = absurd cc
 
@@ -173,7 +173,7 @@ pub on_ok : {T E P : Type 0} (result : Result T E) → P → OnOk result P
 on_ok (Ok t) holds = holds
 on_ok (Err fault) holds = tt
 
--- a result that is refused for want of memory alone is refused for nothing else
+-- a result that is refused when memory runs out alone is refused for nothing else
 pub no_memory_seats : {T C : Type 0} (result : Result T EndFault) → IfErr result (λ fault. fault ≡ EndFaults.NoMem) → IsErrOf result EndFaults.Seats → C
 no_memory_seats (Ok t) known is = absurd cc
 no_memory_seats (Err fault) known is = absurd cc

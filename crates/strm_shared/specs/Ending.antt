@@ -1,28 +1,29 @@
--- What a shared stream and its seats are to a contract, what comes back of a call, and what must agree at the end.
+-- A shared stream and its seats as a contract sees them, the modules that come back of a call, and the
+-- conditions of the end.
 use Rattle.std.specs.Prelude.{◌≡◌, ℕ, ◌+◌, ◌<◌, ◌==◌, zero, suc, not, ◌&&◌, Bool, true, Option, Some, None, IfSome, List, [], ◌∷◌, ◌++◌, length, map, flat_map, is_some, All, Any, ⊤}
 use Rattle.strm_module.specs.declared.shape.Shape.{Shape}
 use Rattle.strm_module.specs.Driver.{is_line}
-use Rattle.strm_call.specs.declared.request.Request.{Request}
-use Rattle.strm_call.specs.declared.request.Request.TheVariants as Requests
-use Rattle.strm_call.specs.declared.answer.Reply.{Reply}
-use Rattle.strm_call.specs.declared.answer.Reply.TheVariants as ReplyOf
-use Rattle.strm_call.specs.declared.answer.Answer.{Answer}
-use Rattle.strm_call.specs.declared.answer.Answer.TheVariants as Answers
-use Rattle.strm_call.specs.declared.setup.Setup.{Setup}
-use Rattle.strm_call.specs.declared.call.Call.{Call}
-use Rattle.strm_call.specs.declared.event.Event.TheVariants.{Asked}
-use Rattle.strm_head.specs.Begin.{pushed_of, handed_out}
-use Rattle.strm_entry.specs.declared.entry.Who.TheVariants.{Caller}
-use Rattle.strm_entry.specs.Entry.{Entry}
-use Rattle.strm_entry.specs.declared.call.Called.{Called}
-use Rattle.strm_entry.specs.declared.call.Called.TheVariants.{Done, NoRoom}
-use Rattle.strm_entry.specs.Entry.{asked_of, serial_of}
-use Rattle.strm_history.specs.Steps.{due_back}
-use Rattle.strm_entry.specs.Own.{calls_of}
-use Rattle.strm_entry.specs.Receipt.{ReceiptValue, RoomValue}
-use Rattle.strm_line.specs.Feed.{FeedValue}
+use Rattle.strm_head_calls.specs.declared.request.Request.{Request}
+use Rattle.strm_head_calls.specs.declared.request.Request.TheVariants as Requests
+use Rattle.strm_head_calls.specs.declared.answer.Reply.{Reply}
+use Rattle.strm_head_calls.specs.declared.answer.Reply.TheVariants as ReplyOf
+use Rattle.strm_head_calls.specs.declared.answer.Answer.{Answer}
+use Rattle.strm_head_calls.specs.declared.answer.Answer.TheVariants as Answers
+use Rattle.strm_head_calls.specs.declared.setup.Setup.{Setup}
+use Rattle.strm_head_calls.specs.declared.call.Call.{Call}
+use Rattle.strm_head_calls.specs.declared.event.Event.TheVariants.{Asked}
+use Rattle.strm_head.specs.Effects.{pushed_of, handed_out}
+use Rattle.strm_shared_entry.specs.declared.entry.Who.TheVariants.{Caller}
+use Rattle.strm_shared_entry.specs.Entry.{Entry}
+use Rattle.strm_shared_entry.specs.declared.call.Called.{Called}
+use Rattle.strm_shared_entry.specs.declared.call.Called.TheVariants.{Done, NoRoom}
+use Rattle.strm_shared_entry.specs.Entry.{asked_of, serial_of}
+use Rattle.strm_shared_log.specs.Steps.{due_back}
+use Rattle.strm_shared_entry.specs.Own.{calls_of}
+use Rattle.strm_shared_entry.specs.Receipt.{ReceiptValue, EntryRoomValue}
+use Rattle.strm_shared_ring.specs.Feed.{FeedValue}
 use Rattle.strm_shared.specs.Seat.{SeatValue}
-use Rattle.strm_shared.specs.Turns.{LockedValue, has_count}
+use Rattle.strm_shared.specs.CallCounts.{SharedStateValue, has_count}
 
 -- a shared stream: its number, its setup, and how many callers it has
 pub record SharedValue : Type 0 where
@@ -46,7 +47,7 @@ abbrev pub AreShown : List SeatValue → Type 0
 AreShown seats = All (λ s. s.shown ≡ true) seats
 
 -- room for the seat's next call
-abbrev pub room_of : {K : Type 0} → SeatValue → Call (Shape K) → RoomValue K
+abbrev pub room_of : {K : Type 0} → SeatValue → Call (Shape K) → EntryRoomValue K
 room_of seat call = record { caller = seat.caller; number = seat.calls + 1; end = call.end; event = Asked call.request }
 
 -- the seat counts a call that was made, and no other, and whether all have receipts
@@ -60,27 +61,30 @@ Replies (Answers.Done own) reply = own ≡ reply
 Replies (Answers.Refused refusal) reply = ⊤
 Replies Answers.Broke reply = ⊤
 
--- what a call takes out comes back: of a pop one module, which the reply names; of a close some, topmost first, which the reply
--- names in this order; of another call nothing
+-- the modules that a call takes out come back: of a pop one, which the reply names; of a close some, topmost
+-- first, which the reply names in this order; of another call none
 abbrev pub HandsOut : {K : Type 0} → Request (Shape K) → Answer → List (Option (Shape K)) → Type 0
 HandsOut {K} Requests.Pop answer back = (one : Shape K) × Replies answer (ReplyOf.Pop one.name) × (back ≡ Some one ∷ [])
 HandsOut {K} Requests.Close answer back =
     (all : List (Shape K)) × Replies answer (ReplyOf.Close (record { items = map (λ s. s.name) all })) × (back ≡ handed_out all)
 HandsOut request answer back = back ≡ []
 
--- of a refused call the module that it was to push comes back, of another what it has taken out
+-- the modules that a call hands back: of a refused call the one that it was to push, of another those that it
+-- has taken out
 abbrev pub HandsBackMade : {K : Type 0} → Call (Shape K) → Answer → List (Option (Shape K)) → Type 0
 HandsBackMade call (Answers.Refused refusal) back = back ≡ pushed_of call.request
 HandsBackMade call (Answers.Done reply) back = HandsOut call.request (Answers.Done reply) back
 HandsBackMade call Answers.Broke back = HandsOut call.request Answers.Broke back
 
--- so it is of a call that was made, by an answer with which what the caller has of it agrees; a call that was not made comes back
+-- the modules that a call hands back: so it is of a call that was made, by an answer with which the caller's
+-- copy agrees. A call that was not made comes back
 abbrev pub HandsBack : {K A : Type 0} → (A → Answer → Type 0) → Call (Shape K) → Called (Shape K) K A → Type 0
 HandsBack Agrees call (Done has back receipt) = (answer : Answer) × Agrees has answer × HandsBackMade call answer back.items
 HandsBack Agrees call (NoRoom same) = same ≡ call
 
--- a receipt of a seat's next call: the entry that it shows has this caller, end and request, and what came back is what a call
--- with the entry's answer hands back, with the serials for which the entry accounts
+-- a receipt of a seat's next call. The entry that it shows has this caller, end and request. The modules that
+-- came back are those that a call with the entry's answer hands back, with the serials for which the entry
+-- accounts
 pub record IsReceiptOf {K : Type 0} (seat : SeatValue) (call : Call (Shape K)) (back : List (Option (Shape K))) (receipt : ReceiptValue K) : Type 0 where
   pub caller : receipt.caller ≡ seat.caller
   pub number : receipt.number ≡ seat.calls + 1
@@ -89,7 +93,8 @@ pub record IsReceiptOf {K : Type 0} (seat : SeatValue) (call : Call (Shape K)) (
   pub made : HandsBackMade call receipt.entry.answer back
   pub handed : flat_map serial_of back ≡ due_back receipt.entry.event receipt.entry.answer receipt.entry.out.items
 
--- so is the receipt of a call that was made, if it has one, and what the caller has of the answer agrees with that of the entry
+-- so is the receipt of a call that was made, if it has one, and the copy of the answer that the caller has
+-- agrees with the answer of the entry
 abbrev pub Shows : {K A : Type 0} → (A → Answer → Type 0) → SeatValue → Call (Shape K) → Called (Shape K) K A → Type 0
 Shows Agrees seat call (Done has back receipt) =
     IfSome receipt (λ r. Agrees has r.entry.answer × IsReceiptOf seat call back.items r)
@@ -104,8 +109,8 @@ abbrev pub is_fed : ℕ → Setup → Option FeedValue → Bool
 is_fed number setup None = not (is_line setup.driver)
 is_fed number setup (Some feed) = feed.number == number
 
--- what stood under the lock is the stream's; its calls are in turn, those of as many callers, and as many of each as its seat counts; and
--- a line's feeder has ended (no public clause cites it)
-abbrev pub IsFinished : {K : Type 0} → ℕ → Setup → ℕ → LockedValue K → List SeatValue → Option FeedValue → Type 0
+-- the state under the lock is the stream's; its calls are in turn, those of as many callers, and as many of
+-- each as its seat counts; and a line's feeder has ended (no public clause cites it)
+abbrev pub IsFinished : {K : Type 0} → ℕ → Setup → ℕ → SharedStateValue K → List SeatValue → Option FeedValue → Type 0
 IsFinished number setup callers locked seats feed =
     ((locked.number ≡ number) × (locked.log.setup ≡ setup)) × (is_fed number setup feed ≡ true) × ((locked.turns.in_turn ≡ true) × (length locked.turns.counts ≡ callers) × All (λ seat. has_count seat locked.turns.counts ≡ true) seats)

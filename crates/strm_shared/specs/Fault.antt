@@ -1,4 +1,4 @@
--- Why a shared stream was not ended.
+-- The reason for which a shared stream was not ended.
 use Rattle.std.specs.Prelude.{ℕ, List, codes}
 use Rattle.strm_shared.specs.declared.fault.EndFault.{EndFault}
 use Rattle.strm_shared.specs.declared.fault.EndFault.TheVariants.{Seats, Unfinished, NoMem, NoReceipt}

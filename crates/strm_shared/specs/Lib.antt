@@ -1,5 +1,5 @@
 pub mod Fault
 pub mod Seat
 pub mod Ending
-pub mod Turns
+pub mod CallCounts
 pub mod Arrivals

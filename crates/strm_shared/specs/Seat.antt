@@ -1,7 +1,8 @@
 -- The seats of callers.
 use Rattle.std.specs.Prelude.{ℕ, Bool}
 
--- a caller's seat: the number of the stream, that of the caller, how many of its calls were made, and whether each has a receipt
+-- a caller's seat: the number of the stream, that of the caller, the number of its calls that were made, and
+-- whether each has a receipt
 pub record SeatValue : Type 0 where
   pub number : ℕ
   pub caller : ℕ

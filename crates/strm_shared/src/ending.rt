@@ -1,20 +1,20 @@
-//! What must agree before a shared stream has ended.
+//! Conditions under which a shared stream has ended.
 ghost use Rattle.std.specs.Prelude.{◌≡◌, ◌↔◌, ◌<◌, ◌++◌, ℕ, true, All, Any, IfErr, IfOk, OnOk, IsErrOf, length};
-ghost use Rattle.strm_entry.specs.Own.{arrivals};
-ghost use Rattle.strm_history.specs.History.{Legal};
-ghost use Rattle.strm_history.specs.Opened.{opened};
-ghost use Rattle.strm_line.specs.Feed.{accepted_of};
+ghost use Rattle.strm_shared_entry.specs.Own.{arrivals};
+ghost use Rattle.strm_shared_log.specs.History.{Legal};
+ghost use Rattle.strm_shared_log.specs.Opened.{opened};
+ghost use Rattle.strm_shared_ring.specs.Feed.{accepted_of};
 ghost use Rattle.strm_shared.specs.Ending.{is_fed, AreSeats, AreShown, IsFinished};
-ghost use Rattle.strm_shared.specs.Turns.{has_count, AreInTurn};
+ghost use Rattle.strm_shared.specs.CallCounts.{has_count, AreInTurn};
 
 use crate::fault::EndFault;
-use crate::locked::Locked;
 use crate::seat::Seat;
+use crate::state::SharedState;
 use std::alloc::Global;
-use strm_ended::Ended;
-use strm_history::Setup;
-use strm_line::{FeedEnd, Runs};
 use strm_module::ModuleOf;
+use strm_shared_ended::Ended;
+use strm_shared_log::Setup;
+use strm_shared_ring::{FeedEnd, StreamRunName};
 
 /// Whether a caller has a seat among these.
 fn is_seated(caller: u32, seats: &[Seat]) -> bool
@@ -52,7 +52,7 @@ fn are_shown(seats: &[Seat]) -> bool
 }
 
 /// Whether a line's feeder has ended; the other drivers have none.
-fn is_fed<K, N: Runs<K>>(number: u32, setup: Setup, feed: &Option<FeedEnd<K, N>>) -> bool
+fn is_fed<K, N: StreamRunName<K>>(number: u32, setup: Setup, feed: &Option<FeedEnd<K, N>>) -> bool
     ensures { result ≡ is_fed number setup feed.now }
 {
     match feed {
@@ -61,13 +61,13 @@ fn is_fed<K, N: Runs<K>>(number: u32, setup: Setup, feed: &Option<FeedEnd<K, N>>
     }
 }
 
-/// Whether a shared stream has ended, by what stood under its lock, its seats and its feed; or what refuses that, but for want
-/// of memory.
-pub(crate) fn have_ended<M: ModuleOf, N: Runs<M::Kind>>(
+/// Whether a shared stream has ended, by the state under its lock, its seats and its feed; or the refusal of
+/// that, but for out of memory.
+pub(crate) fn have_ended<M: ModuleOf, N: StreamRunName<M::Kind>>(
     number: u32,
     setup: Setup,
     callers: u32,
-    locked: &Locked<M, N>,
+    locked: &SharedState<M, N>,
     seats: &[Seat],
     feed: &Option<FeedEnd<M::Kind, N>>,
 ) -> Result<(), EndFault>
@@ -87,7 +87,7 @@ pub(crate) fn have_ended<M: ModuleOf, N: Runs<M::Kind>>(
     if !locked.is_of(number, setup) || !is_fed(number, setup, feed) {
         return Err(EndFault::Unfinished);
     }
-    if !locked.do_agree(callers, seats) {
+    if !locked.seats_agree(callers, seats) {
         return Err(EndFault::Unfinished);
     }
     if !are_shown(seats) {
@@ -96,11 +96,11 @@ pub(crate) fn have_ended<M: ModuleOf, N: Runs<M::Kind>>(
     Ok(())
 }
 
-/// What is left of a shared stream that has ended. Refused for want of memory alone.
-pub(crate) fn left_of<M: ModuleOf, N: Runs<M::Kind>>(
+/// The end of a shared stream that has ended. Fails only when memory runs out.
+pub(crate) fn left_of<M: ModuleOf, N: StreamRunName<M::Kind>>(
     alloc: Global,
     callers: u32,
-    locked: Locked<M, N>,
+    locked: SharedState<M, N>,
     feed: Option<FeedEnd<M::Kind, N>>,
 ) -> Result<Ended<M>, EndFault>
     requires in_turn { locked.turns.in_turn ≡ true }

@@ -1,4 +1,4 @@
-//! Why a shared stream was not ended.
+//! The reason for which a shared stream was not ended.
 ghost use Rattle.std.specs.Prelude.{◌≡◌, Some};
 ghost use Rattle.std.specs.Fmt.{padded};
 ghost use Rattle.strm_shared.specs.Fault.{end_number, end_text};
@@ -6,22 +6,24 @@ ghost use Rattle.strm_shared.specs.Fault.{end_number, end_text};
 use std::fmt;
 use thiserror::Error;
 
-/// Why a shared stream was not ended.
+/// The reason for which a shared stream was not ended.
 #[derive(Clone, Copy, Debug, PartialEq, Eq, Error)]
 pub enum EndFault {
     /// The seats are not those of the stream, one for each caller. Looked at first.
     Seats,
-    /// It is not shown that the line's feeder has ended, or what stood under the lock does not agree with
-    /// the seats. Looked at second.
+    /// It is not shown that the line's feeder has ended, or the state under the lock does not agree with the
+    /// seats. Looked at second.
     Unfinished,
-    /// Want of memory for what is left. Looked at last.
+    /// Out of memory for the end of the stream. Looked at last.
     NoMem,
-    /// A call that was made has no receipt: its entry could have no second holder, which no test has met. Looked at third.
+    /// A call that was made has no receipt: its entry has no second holder, which no test has met. Looked at
+    /// third.
     NoReceipt,
 }
 
 impl EndFault {
-    /// The number of the fault: 1 for seats, 2 for unfinished, 3 for want of memory, 4 for a call without a receipt.
+    /// The number of the fault: 1 for seats, 2 for unfinished, 3 for out of memory, 4 for a call without a
+    /// receipt.
     pub fn number(self) -> u8
         ensures { result ≡ end_number self }
     {
@@ -33,7 +35,7 @@ impl EndFault {
         }
     }
 
-    /// What the fault prints.
+    /// The text of the fault, as it is printed.
     pub fn text(self) -> &'static str
         ensures { result.now ≡ end_text self }
     {

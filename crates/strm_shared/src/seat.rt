@@ -1,10 +1,10 @@
-//! What a caller of a shared stream holds.
+//! The seat of a caller of a shared stream.
 ghost use Rattle.std.specs.Prelude.{◌≡◌, ◌+◌, ◌<◌, ◌^◌, ◌&&◌, true};
 
 use std::marker::Model;
 
-/// What a caller of a shared stream holds: its number, that of the stream, how many of its calls were made,
-/// and whether each of them has a receipt. Only `Shared::new` makes seats.
+/// The seat of a caller of a shared stream: the caller's number, that of the stream, the number of its calls
+/// that were made, and whether each of them has a receipt. Only `Shared::new` makes seats.
 #[derive(Drop)]
 pub struct Seat {
     number: u32,
@@ -48,7 +48,7 @@ impl Seat {
         self.caller
     }
 
-    /// How many calls were made from here.
+    /// The number of calls that were made from here.
     pub fn calls(&self) -> u64
         ensures { result ≡ self.now.calls }
     {
@@ -62,7 +62,7 @@ impl Seat {
         self.shown
     }
 
-    /// One call more was made, which has a receipt or has none.
+    /// Counts one call more that was made, which has a receipt or has none.
     pub(crate) fn count(&mut self, has_receipt: bool)
         requires { self.old.calls + 1 < 2 ^ 64 }
         ensures { self.new ≡ record self.old { calls = self.old.calls + 1; shown = self.old.shown && has_receipt } }

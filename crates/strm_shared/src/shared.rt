@@ -1,45 +1,45 @@
 //! A stream that several callers share.
 ghost use Rattle.std.specs.Prelude.{◌≡◌, ◌↔◌, ◌++◌, ℕ, true, All, IfOk, OnOk, IsErrOf};
-ghost use Rattle.strm_call.specs.Setup.{is_fit};
-ghost use Rattle.strm_call.specs.declared.event.Event.TheVariants.{Asked};
-ghost use Rattle.strm_entry.specs.Own.{arrivals, own};
-ghost use Rattle.strm_history.specs.History.{Legal};
-ghost use Rattle.strm_history.specs.Log.{Equals};
-ghost use Rattle.strm_history.specs.Serials.{AreAccounted};
-ghost use Rattle.strm_history.specs.Opened.{opened};
-ghost use Rattle.strm_line.specs.Feed.{accepted_of, fresh_feeder};
-ghost use Rattle.strm_line.specs.Runs.{IsNextOf};
+ghost use Rattle.strm_head_calls.specs.Setup.{is_fit};
+ghost use Rattle.strm_head_calls.specs.declared.event.Event.TheVariants.{Asked};
+ghost use Rattle.strm_shared_entry.specs.Own.{arrivals, own};
+ghost use Rattle.strm_shared_log.specs.History.{Legal};
+ghost use Rattle.strm_shared_log.specs.Log.{Equals};
+ghost use Rattle.strm_shared_log.specs.Serials.{AreAccounted};
+ghost use Rattle.strm_shared_log.specs.Opened.{opened};
+ghost use Rattle.strm_shared_ring.specs.Feed.{accepted_of, fresh_feeder};
+ghost use Rattle.strm_shared_ring.specs.StreamRunName.{IsNextOf};
 ghost use Rattle.strm_shared.specs.Ending.{fresh_seats, is_fed, AreSeats, AreShown, CountsAgree, Counted, HandsBack, Shows};
-ghost use Rattle.strm_entry.specs.Own.{has_seat};
-ghost use Rattle.strm_shared.specs.Turns.{AreFirstOf};
+ghost use Rattle.strm_shared_entry.specs.Own.{has_seat};
+ghost use Rattle.strm_shared.specs.CallCounts.{ArePrefixOf};
 
 use crate::ending::{have_ended, left_of};
 use crate::fault::EndFault;
-use crate::locked::Locked;
 use crate::seat::Seat;
+use crate::state::SharedState;
 use std::alloc::Global;
 use std::marker::Model;
 use std::sync::{Mutex, Wait};
-use strm_call::{Replied, Twins};
-use strm_ended::Ended;
-use strm_history::{Call, Called, Setup, room_for};
-use strm_line::{AnyCalls, FeedEnd, Feeder, Ring, Runs};
-use strm_module::{Boxed, ModuleOf};
+use strm_head_calls::{ReplyAndCopy, ReplyForm};
+use strm_module::{BoxedModule, ModuleOf};
 use strm_msg::NoMem;
+use strm_shared_ended::Ended;
+use strm_shared_log::{Call, Called, Setup, room_for};
+use strm_shared_ring::{AnyCalls, FeedEnd, Feeder, Ring, StreamRunName};
 
 /// A stream that several callers share.
 ///
-/// A contract sees its number, its setup, and how many callers it has.
+/// A contract sees its number, its setup, and the number of its callers.
 #[derive(Drop)]
-pub struct Shared<M: ModuleOf, N: Runs<M::Kind> = AnyCalls> {
+pub struct Shared<M: ModuleOf, N: StreamRunName<M::Kind> = AnyCalls> {
     number: u32,
     setup: Setup,
     seats: u32,
     alloc: Global,
-    locked: Mutex<Locked<M, N>>,
+    locked: Mutex<SharedState<M, N>>,
 }
 
-impl<M: ModuleOf, N: Runs<M::Kind>> Model for Shared<M, N> {
+impl<M: ModuleOf, N: StreamRunName<M::Kind>> Model for Shared<M, N> {
     ghost use Rattle.strm_shared.specs.Ending.{SharedValue};
 
     ghost Value = { SharedValue };
@@ -47,7 +47,7 @@ impl<M: ModuleOf, N: Runs<M::Kind>> Model for Shared<M, N> {
     ghost view = { λ s. record { number = s.number; setup = s.setup; seats = s.seats } };
 }
 
-/// A seat for each caller, that has made no call. Refused for want of memory alone.
+/// A seat for each caller, that has made no call. Fails only when memory runs out.
 fn seats_of(alloc: Global, number: u32, callers: u32) -> Result<Vec<Seat>, NoMem>
     ensures { IfOk result (λ seats. seats.items ≡ fresh_seats number callers) }
 {
@@ -58,12 +58,12 @@ fn seats_of(alloc: Global, number: u32, callers: u32) -> Result<Vec<Seat>, NoMem
     Ok(seats)
 }
 
-impl<M: ModuleOf, N: Runs<M::Kind>> Shared<M, N> {
-    /// A stream that was just made by the setup of its ring, with a seat for each of its callers, numbered from 0, and for a
-    /// line a feeder. The number is the caller's to choose; seats and feeder have it too.
+impl<M: ModuleOf, N: StreamRunName<M::Kind>> Shared<M, N> {
+    /// Makes a stream by the setup of its ring, with a seat for each of its callers, numbered from 0, and for
+    /// a line a feeder. The number is the caller's to choose; seats and feeder have it too.
     ///
-    /// To be called with marks of which each low one is below its high one, and with the ring that the run names at this
-    /// number: `AnyCalls` has none, and so no lines. Refused for want of memory alone.
+    /// To be called with marks of which each low one is below its high one, and with the ring that the run
+    /// names at this number: `AnyCalls` has none, and so no lines. Fails only when memory runs out.
     pub fn new(
         alloc: Global,
         number: u32,
@@ -83,7 +83,7 @@ impl<M: ModuleOf, N: Runs<M::Kind>> Shared<M, N> {
             drop(feeder);
             return Err(NoMem);
         };
-        let Ok(locked) = Locked::new(alloc, number, setup, seats, inlet) else {
+        let Ok(locked) = SharedState::new(alloc, number, setup, seats, inlet) else {
             drop(all);
             drop(feeder);
             return Err(NoMem);
@@ -105,44 +105,46 @@ impl<M: ModuleOf, N: Runs<M::Kind>> Shared<M, N> {
         self.number
     }
 
-    /// How it was made.
+    /// The setup of the stream.
     pub fn setup(&self) -> Setup
         ensures { result ≡ self.now.setup }
     {
         self.setup
     }
 
-    /// One call of a caller, under the lock: first the messages of the line come in that can, each a step of the stream and
-    /// an entry of the history, and then the call is made, a step of the stream, which the history has with the caller,
-    /// the call and the answer, and which the seat counts. Or it comes back for want of memory, for its entry or for a
-    /// message of the line, or since the seat can count no more, and then it has changed nothing.
+    /// Makes one call of a caller, under the lock. First the messages of the line come in that can, each a
+    /// step of the stream and an entry of the history. Then the call is made: a step of the stream, and an
+    /// entry of the history with the caller, the call and the answer. The seat counts it. Or the call comes
+    /// back when memory runs out, for its entry or for a message of the line, or since the seat can count no
+    /// more. Then the call has changed nothing.
     ///
     /// To be called with a seat of this number, and with the call that the run has next for it; in a run of
-    /// `AnyCalls` any is. Modules that come back are the caller's, and are not dropped under the lock. The receipt is of
-    /// the seat's next call: its entry is the one that the history has, with this caller, end, request and answer.
+    /// `AnyCalls` any is. Modules that come back are the caller's, and are not dropped under the lock. The
+    /// receipt is of the seat's next call: its entry is the one that the history has, with this caller, end,
+    /// request and answer.
     pub fn call<R: Wait>(
         &self,
         rt: &R,
         seat: &mut Seat,
-        call: Call<Boxed<M>>,
-    ) -> Called<Boxed<M>, M::Kind>
+        call: Call<BoxedModule<M>>,
+    ) -> Called<BoxedModule<M>, M::Kind>
         requires number { seat.old.number ≡ self.now.number }
         requires next { IsNextOf (N.calls seat.old.number seat.old.caller) seat.old.calls (call.end, Asked call.request) }
         ensures counts { Counted call seat.old result seat.new }
         ensures back { HandsBack Equals call result }
         ensures shown { Shows Equals seat.old call result }
     {
-        self.enter::<Twins, R>(rt, seat, call)
+        self.enter::<ReplyAndCopy, R>(rt, seat, call)
     }
 
-    /// One call of a caller, as `call` makes it, of whose answer the caller has what is made beside it: with `Twins` an equal
-    /// one; with `Reply` nothing, and the receipt shows the answer.
-    pub fn enter<A: Replied, R: Wait>(
+    /// Makes one call of a caller, as `call` makes it. The caller has the copy that comes with the answer:
+    /// with `ReplyAndCopy` an equal one; with `Reply` nothing, and the receipt shows the answer.
+    pub fn enter<A: ReplyForm, R: Wait>(
         &self,
         rt: &R,
         seat: &mut Seat,
-        call: Call<Boxed<M>>,
-    ) -> Called<Boxed<M>, M::Kind, A::Beside>
+        call: Call<BoxedModule<M>>,
+    ) -> Called<BoxedModule<M>, M::Kind, A::CallerCopy>
         requires number { seat.old.number ≡ self.now.number }
         requires next { IsNextOf (N.calls seat.old.number seat.old.caller) seat.old.calls (call.end, Asked call.request) }
         ensures counts { Counted call seat.old result seat.new }
@@ -158,14 +160,15 @@ impl<M: ModuleOf, N: Runs<M::Kind>> Shared<M, N> {
         self.locked.lock(rt).call::<A>(seat, call, room)
     }
 
-    /// Ends the stream, when no caller and no feeder has it any more: its whole history, the stream
-    /// to which the history leads, and the messages that were accepted and had not come in.
+    /// Ends the stream, when no caller and no feeder has it any more: its whole history, the stream to which
+    /// the history leads, and the messages that were accepted and had not come in.
     ///
-    /// Refused with `Seats` exactly where the seats are not those of this number, one for each caller, in
-    /// any order; then with `Unfinished`, where a line's feeder is not shown to have ended, or what stood
-    /// under the lock has another number or setup, calls of a seat that is not of this stream, or another
-    /// number of calls than a seat counts; then with `NoReceipt`, where a call that was made has no receipt; and then
-    /// with `NoMem` for want of memory for what is left. Then all is dropped.
+    /// Refused, in this order. With `Seats` exactly where the seats are not those of this number, one for
+    /// each caller, in any order. With `Unfinished` where a line's feeder is not shown to have ended, or the
+    /// state under the lock does not agree: it has another number or setup, calls of a seat that is not of
+    /// this stream, or another number of calls than a seat counts. With `NoReceipt` where a call that was
+    /// made has no receipt. And with `NoMem` when memory runs out for the end of the stream. Then all is
+    /// dropped.
     pub fn end(
         self,
         seats: Vec<Seat>,
@@ -175,7 +178,7 @@ impl<M: ModuleOf, N: Runs<M::Kind>> Shared<M, N> {
         ensures accounts { IfOk result (λ ended. AreAccounted (opened self.setup) ended.history ended.stream) }
         ensures callers { IfOk result (λ ended. All (λ entry. has_seat self.seats entry.who ≡ true) ended.history) }
         ensures counts { IfOk result (λ ended. CountsAgree ended.history seats.items) }
-        ensures first { IfOk result (λ ended. (caller : ℕ) → AreFirstOf (N.calls self.number caller) (own caller ended.history)) }
+        ensures first { IfOk result (λ ended. (caller : ℕ) → ArePrefixOf (N.calls self.number caller) (own caller ended.history)) }
         ensures arrived { IfOk result (λ ended. arrivals ended.history ++ ended.left ≡ accepted_of feed) }
         ensures fed { OnOk result (is_fed self.number self.setup feed ≡ true) }
         ensures seated { OnOk result (AreSeats self.number self.seats seats.items) }

@@ -1,8 +1,10 @@
-//! `strsh` plays a script of calls on streams, and prints what became of each stream.
+//! `strsh` plays a script of calls on streams, and prints the outcome of each stream.
 //!
-//! It ends with status 0 where the transcript was printed and where help was asked for, with 1
-//! where the run or the printing failed, and with 2 where the command line or the script was no
-//! good.
+//! It exits with one of these statuses:
+//!
+//! - 0 if the transcript was printed, or help was asked for;
+//! - 1 if the run or the printing failed;
+//! - 2 if the command line or the script has a fault.
 #![tactic(auto)]
 
 mod playing;
@@ -13,7 +15,7 @@ use std::process::ExitCode;
 use std::rt::Env;
 use strsh_options::Fault;
 
-/// The words of the command line, of which the first is the program's name.
+/// The words of the command line. The first is the program's name.
 fn words<R: Env + AllocGlobal>(rt: &R) -> Result<Vec<String>, Fault> {
     Ok(env::args(rt)?.collect(rt.alloc())?)
 }

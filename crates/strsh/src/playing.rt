@@ -1,14 +1,14 @@
-//! A script is played, and its transcript or chart printed.
+//! The playing of a script, and the printing of its transcript or its chart.
 ghost use Rattle.std.specs.Prelude.{◌≡◌, ◌≢◌, ◌<◌, if◌then◌else◌, IfOk, OnOk};
 ghost use Rattle.std.specs.Io.KnownBytes.{Appends};
 ghost use Rattle.std.specs.IoError.{error_kind};
 ghost use Rattle.std.specs.declared.io.ErrorKind.TheVariants.{OutOfMemory};
-ghost use Rattle.strm_job.specs.declared.fault.RunFault.TheVariants as RunFaults;
-ghost use Rattle.strm_plan.specs.Plan.{names_view, plan_view};
-ghost use Rattle.strm_plan.specs.Sound.{IsSound};
-ghost use Rattle.strm_script.specs.Fields.{builtin_spelling};
-ghost use Rattle.strm_script.specs.Lines.{transcript_text};
-ghost use Rattle.strm_chart.specs.Chart.{chart_text};
+ghost use Rattle.strm_run_input.specs.declared.fault.RunFault.TheVariants as RunFaults;
+ghost use Rattle.strm_script_parse.specs.Plan.{names_view, plan_view};
+ghost use Rattle.strm_script_parse.specs.Sound.{IsSound};
+ghost use Rattle.strm_script_print.specs.Fields.{builtin_spelling};
+ghost use Rattle.strm_script_print.specs.Lines.{transcript_text};
+ghost use Rattle.strm_script_chart.specs.Chart.{chart_text};
 
 use std::alloc::Global;
 use std::io::{self, BufWriter, ErrorKind, Write};
@@ -16,14 +16,13 @@ use std::rt::Files;
 use std::sync::Wait;
 use std::thread::Threads;
 use std::{fs, mem};
-use strm_chart::chart;
-use strm_module::{Boxed, Plain};
-use strm_plan::{Plan, parse_shared_out};
-use strm_play::{Outcome, play_plan};
-use strm_script::{LoadFault, load, print_shared_out};
+use strm_module::{BoxedModule, Plain};
+use strm_script::{
+    LoadFault, Outcome, Plan, chart, load, parse_parallel, play_plan, print_parallel,
+};
 use strsh_options::{Fault, Options};
 
-/// How much is printed at once, in bytes.
+/// The number of bytes that are written at once.
 const BUFFER: usize = 65_536;
 
 /// The bytes of the script at a path.
@@ -31,22 +30,23 @@ fn script<R: Files>(rt: &R, alloc: Global, path: &str) -> Result<Vec<u8>, LoadFa
     load(alloc, fs::open(rt, path)?)
 }
 
-/// The plan that the script at a path spells, read in at most so many threads. Its text is dropped before the plan is played.
+/// The plan of the script at a path, read in at most that many threads. The text is dropped before the plan
+/// is played.
 fn plan_at<R: Files + Threads + Sync>(
     rt: &R,
     alloc: Global,
     path: &str,
     threads: usize,
-) -> Result<Plan<Boxed<Plain>>, Fault>
+) -> Result<Plan<BoxedModule<Plain>>, Fault>
     requires { 0 < threads }
     ensures { IfOk result (λ plan. IsSound (plan_view plan)) }
 {
     let bytes = script(rt, alloc, path)?;
-    Ok(parse_shared_out::<Plain, R>(rt, alloc, bytes.as_slice(), threads)?)
+    Ok(parse_parallel::<Plain, R>(rt, alloc, bytes.as_slice(), threads)?)
 }
 
-/// Writes what is left of a script that was played: as a chart where one is asked for, and else as a transcript, whose lines at most
-/// so many threads make.
+/// Writes the outcome of a script that was played: as a chart if one is asked for, else as a transcript,
+/// whose lines are made in at most `threads` threads.
 fn put_text<R: Threads + Sync, W: Write>(
     rt: &R,
     alloc: Global,
@@ -64,13 +64,13 @@ fn put_text<R: Threads + Sync, W: Write>(
     if as_chart {
         chart(transcript, names, w)
     } else {
-        print_shared_out(rt, alloc, transcript, names, threads, w)
+        print_parallel(rt, alloc, transcript, names, threads, w)
     }
 }
 
-/// Writes what is left of a script that was played, as a chart or as a transcript, to the last byte.
+/// Writes the outcome of a script that was played, as a chart or as a transcript, to the last byte.
 ///
-/// Refused for want of memory, with an error of kind `OutOfMemory`, and where the writer is, with its error.
+/// Fails when memory runs out, with an error of kind `OutOfMemory`, and if the writer fails, with its error.
 pub fn put<R: Threads + Sync, W: Write>(
     rt: &R,
     alloc: Global,
@@ -88,7 +88,7 @@ pub fn put<R: Threads + Sync, W: Write>(
     w.flush()
 }
 
-/// What keeps a script's outcome from being printed.
+/// The fault of an outcome that could not be printed.
 fn not_put(error: io::Error) -> Fault
     ensures memory { error_kind error ≡ OutOfMemory → result ≡ Fault.Run RunFaults.NoMem }
     ensures write { error_kind error ≢ OutOfMemory → result ≡ Fault.Write }
@@ -100,7 +100,7 @@ fn not_put(error: io::Error) -> Fault
     }
 }
 
-/// Prints what is left of a script that was played.
+/// Prints the outcome of a script that was played.
 fn put_out<R: Print + Threads + Sync>(
     rt: &R,
     alloc: Global,
@@ -123,10 +123,10 @@ fn put_out<R: Print + Threads + Sync>(
     .map_err(not_put)
 }
 
-/// Plays the script that a command line names, and prints its transcript, or its chart where that is asked for.
+/// Plays the script that a command line names, and prints its transcript, or its chart if that is asked for.
 ///
-/// Refused where the command line is no good, the script cannot be read, it is no script, it does
-/// not run or what it leaves cannot be printed, in this order.
+/// Refused, in this order, if the command line has a fault, if the script cannot be read, if it is no script,
+/// if it does not run, or if the outcome cannot be printed.
 pub fn serve<R: Files + Print + Threads + Wait + AllocGlobal + Sync>(
     rt: &R,
     words: &[String],
@@ -136,7 +136,7 @@ pub fn serve<R: Files + Print + Threads + Wait + AllocGlobal + Sync>(
     let plan = plan_at(rt, alloc, options.path, options.workers as usize)?;
     let mut outcome = play_plan::<Plain, R>(rt, alloc, plan, options.workers)?;
     put_out(rt, alloc, &mut outcome, &options)?;
-    // The program ends: to drop what is left, entry by entry, would cost up to a tenth of its time.
+    // The program ends here. Dropping the outcome, entry by entry, would take up to a tenth of its time.
     mem::forget(outcome);
     Ok(())
 }

@@ -17,7 +17,7 @@ use Rattle.clap.specs.declared.parser.matches.ArgMatches.{ArgMatches}
 use Rattle.clap.specs.declared.parser.matches.MatchedArg.{MatchedArg}
 use Rattle.clap.proofs.CallerLemmas.{entry_by_id, same_rules_by_id}
 use Rattle.clap.proofs.CallerReads.{signed_reads}
-use Rattle.strm_job.specs.declared.judge.TheConstants.{MOST_WORKERS}
+use Rattle.strm_run_input.specs.declared.validation.TheConstants.{MOST_WORKERS}
 use Rattle.strsh_options.specs.CommandLine.{HasThree}
 
 abbrev numbers : ValueParser

@@ -5,7 +5,7 @@ use Rattle.std.specs.Str.Parse.{ParsesUnsigned}
 use Rattle.clap.specs.Words.{FailsBy, HasKind, Kinds, ReadsOne, Text, is_simple}
 use Rattle.clap.specs.declared.error.Error.{Error}
 use Rattle.clap.specs.Faults.{is_simple_and_free}
-use Rattle.strm_job.specs.declared.judge.TheConstants.{MOST_WORKERS}
+use Rattle.strm_run_input.specs.declared.validation.TheConstants.{MOST_WORKERS}
 use Rattle.strsh_options.specs.declared.options.TheConstants.{DEFAULT_WORKERS}
 use Rattle.strsh_options.specs.CommandLine.{AsksFor, AsksForChart, command_line}
 

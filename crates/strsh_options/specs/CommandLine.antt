@@ -1,4 +1,4 @@
--- The command line that is understood, and what its words ask for.
+-- The accepted command line, and the options that its words ask for.
 use Rattle.std.specs.Prelude.{◌≡◌, ◌<◌, ◌^◌, ℕ, pos, Bool, true, false, List, [], ◌∷◌, Option, Some, None, codes, unwrap_or}
 use Rattle.std.specs.Str.Parse.{IsNumeral, digits_value, without_leading_plus}
 use Rattle.clap.specs.declared.builder.action.ArgAction.TheVariants.{SetTrue}
@@ -7,10 +7,10 @@ use Rattle.clap.specs.declared.builder.command.Command.{Command}
 use Rattle.clap.specs.declared.builder.command.Command.TheViews.{out-Command as fields_of}
 use Rattle.clap.specs.Words.{App, IsPlain, IsPlainArg, Rule, Text, app_of, args_of, first_of, groups_of, matches_of, new_app, new_rule, one_of, rule_of, with_rule}
 use Rattle.clap.specs.declared.builder.value_parser.ValueParser.TheVariants as parsers
-use Rattle.strm_job.specs.declared.judge.TheConstants.{MOST_WORKERS}
+use Rattle.strm_run_input.specs.declared.validation.TheConstants.{MOST_WORKERS}
 use Rattle.strsh_options.specs.declared.options.TheConstants.{DEFAULT_WORKERS}
 
--- `--workers N`, with 1 to `MOST_WORKERS`, and `DEFAULT_WORKERS` where it is not given
+-- the rule of `--workers N`, with 1 to `MOST_WORKERS`, and `DEFAULT_WORKERS` if it is absent
 abbrev pub workers_rule : Rule
 workers_rule = record (new_rule (codes "workers")) {
   long = Some (codes "workers");
@@ -19,15 +19,15 @@ workers_rule = record (new_rule (codes "workers")) {
   defaults = codes "4" ∷ [];
 }
 
--- `--chart`, which is true where it is given and false where it is not
+-- the rule of `--chart`, which is true if it is given, else false
 abbrev pub chart_rule : Rule
 chart_rule = record (new_rule (codes "chart")) { long = Some (codes "chart"); action = Some SetTrue }
 
--- FILE, which is required
+-- the rule of FILE, which is required
 abbrev pub file_rule : Rule
 file_rule = record (new_rule (codes "FILE")) { required = true }
 
--- `strsh [--workers N] [--chart] FILE`
+-- the command line `strsh [--workers N] [--chart] FILE`
 abbrev pub command_line : App
 command_line = with_rule (with_rule (with_rule (new_app (codes "strsh")) workers_rule) chart_rule) file_rule
 
@@ -35,7 +35,7 @@ command_line = with_rule (with_rule (with_rule (new_app (codes "strsh")) workers
 abbrev pub workers_text : List Text → Option Text
 workers_text words = one_of (codes "workers") (matches_of command_line words)
 
--- what `--chart` is
+-- the word `--chart`
 abbrev pub chart_word : List Text → Option Text
 chart_word words = one_of (codes "chart") (matches_of command_line words)
 
@@ -43,31 +43,31 @@ chart_word words = one_of (codes "chart") (matches_of command_line words)
 abbrev pub file_text : List Text → Text
 file_text words = unwrap_or (first_of (codes "FILE") (matches_of command_line words)) []
 
--- a text asks for so many workers: for as many as its digits say, where it is a number
+-- a text asks for that many workers: for the value of its digits, if it is a number
 abbrev pub AsksFor : Option Text → ℕ → Type 0
 AsksFor None workers = workers ≡ DEFAULT_WORKERS
 AsksFor (Some text) workers =
     IsNumeral 10 (without_leading_plus text) → digits_value 10 (without_leading_plus text) < 2 ^ 32 → workers ≡ digits_value 10 (without_leading_plus text)
 
--- a word asks for a chart where it is `true`, and for none where it is `false` or is not there
+-- a word asks for a chart if it is `true`, and for none if it is `false` or absent
 abbrev pub AsksForChart : Option Text → Bool → Type 0
 AsksForChart None chart = chart ≡ false
 AsksForChart (Some word) chart = (word ≡ codes "true" → chart ≡ true) × (word ≡ codes "false" → chart ≡ false)
 
--- an argument that is read by this rule, belongs to its own command, and excludes nothing
+-- an argument that is read by this rule, belongs to its own command, and excludes no other
 pub record IsArg (rule : Rule) (arg : Arg) : Type 0 where
   pub rule_is : rule_of arg ≡ rule
   pub local : arg.global ≡ false
   pub plain : IsPlainArg arg
 
--- a command of the program's name that has no arguments yet
+-- a command with the program's name and without arguments
 pub record IsBare (command : Command) : Type 0 where
   pub app_is : app_of command ≡ new_app (codes "strsh")
   pub no_args : args_of command ≡ []
   pub no_groups : groups_of command ≡ []
   pub local : (fields_of command).has_globals ≡ false
 
--- a command has the three arguments, of which the first takes these numbers, and nothing excludes anything
+-- a command with the three arguments; the first takes these numbers, and none excludes another
 pub record HasThree (command : Command) : Type 0 where
   pub workers : Arg
   pub chart : Arg

@@ -1,40 +1,41 @@
-//! Why the program did not print a transcript.
+//! The reasons for which the program prints no transcript.
 ghost use Rattle.std.specs.Prelude.{◌≡◌};
-ghost use Rattle.strm_job.specs.declared.fault.RunFault.TheVariants as RunFaults;
+ghost use Rattle.strm_run_input.specs.declared.fault.RunFault.TheVariants as RunFaults;
 ghost use Rattle.strsh_options.specs.declared.fault.Fault.TheVariants as Faults;
 ghost use Rattle.strsh_options.specs.Fault.{EndsWith, IsFaultOf, IsFaultOfWords, fault_line, fault_of_load};
 
 use clap::error::ErrorKind;
 use std::alloc::AllocError;
 use std::{fmt, io};
-use strm_job::RunFault;
-use strm_plan::{Cause, LoadFault, PlayFault, ScriptFault};
+use strm_run_input::RunFault;
+use strm_script_parse::{Cause, LoadFault, PlayFault, ScriptFault};
 
-/// Why the program did not print a transcript. They are looked for in this order.
+/// The reason for which the program prints no transcript. The reasons are looked for in this order.
 #[derive(Debug, Drop)]
 pub enum Fault {
-    /// The command line is no good, or asks for help.
+    /// The command line has a fault, or asks for help.
     Words(clap::Error),
     /// The script cannot be read.
     Read,
-    /// It was read, and it is no script, or memory is wanting.
+    /// The script was read, and it is no script, or memory runs out.
     Script(ScriptFault),
-    /// It is a script, and its run gave no transcript.
+    /// The text is a script, and its run gave no transcript.
     Run(RunFault),
     /// The transcript cannot be written.
     Write,
 }
 
 impl Fault {
-    /// Want of memory for what is the program's own: the words of the command line, and the buffer of what is printed.
+    /// The fault of out of memory for the program's own needs: the words of the command line, and the buffer
+    /// of its output.
     pub fn no_memory() -> Self
         ensures { result ≡ Fault.Run RunFaults.NoMem }
     {
         Fault::Run(RunFault::NoMem)
     }
 
-    /// The status with which the program ends: 0 where help was asked for, 2 for the command line
-    /// and the script, and 1 for the run and the writing.
+    /// The exit status of the program: 0 if help was asked for, 2 for the command line and the script, and 1
+    /// for the run and the writing.
     pub fn status(&self) -> u8
         ensures { EndsWith self.now result }
     {
@@ -46,8 +47,8 @@ impl Fault {
     }
 }
 
-/// Printed with its line's end, after the name of the program; of a command line it is the text
-/// that its reader has.
+/// Printed with its line end, behind the name of the program. A fault of the command line is printed as the
+/// text of its parser.
 impl fmt::Display for Fault {
     ghost output = { λ fault. fault_line fault };
 
@@ -103,7 +104,7 @@ impl From<RunFault> for Fault {
     }
 }
 
-/// Want of memory for the words of the command line.
+/// Out of memory for the words of the command line.
 impl From<AllocError> for Fault {
     ghost from_gives = { λ _ fault. fault ≡ Faults.Run RunFaults.NoMem };
 
@@ -112,7 +113,7 @@ impl From<AllocError> for Fault {
     }
 }
 
-/// Words of the command line that cannot be read.
+/// The fault of words of the command line that cannot be read.
 impl From<io::Error> for Fault {
     ghost from_gives = { λ error fault. IsFaultOfWords error fault };
 

@@ -1,4 +1,4 @@
-//! The command line of `strsh`, and why it prints no transcript.
+//! The command line of `strsh`, and the reasons for which the program prints no transcript.
 #![tactic(auto)]
 
 mod fault;

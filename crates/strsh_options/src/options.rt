@@ -2,17 +2,17 @@
 ghost use Rattle.std.specs.Prelude.{◌≡◌, ◌≤◌, map, string_bytes, IfOk, IfErr};
 ghost use Rattle.clap.specs.Words.{FailsBy, app_of, fault_of, kind_of};
 ghost use Rattle.clap.specs.declared.error.kind.ErrorKind.TheVariants.{OutOfMemory};
-ghost use Rattle.strm_job.specs.declared.judge.TheConstants.{MOST_WORKERS};
+ghost use Rattle.strm_run_input.specs.declared.validation.TheConstants.{MOST_WORKERS};
 ghost use Rattle.strsh_options.specs.CommandLine.{AsksFor, AsksForChart, HasThree, IsArg, IsBare, chart_rule, chart_word, command_line, file_rule, file_text, workers_rule, workers_text};
 
 use clap::{Arg, ArgAction, Command, Error, value_parser};
 use std::alloc::Global;
-use strm_job::MOST_WORKERS;
+use strm_run_input::MOST_WORKERS;
 
-/// How many worker threads there are where nothing else is asked for.
+/// The number of worker threads, if the command line asks for none.
 const DEFAULT_WORKERS: u32 = 4;
 
-/// What the program is.
+/// The description of the program.
 const ABOUT: &str = "Plays a script of calls on STREAMS, and prints what became of each stream.";
 
 /// A script that can be played.
@@ -25,18 +25,18 @@ down an echo stream and takes it at the head:
   putmsg s:a =c =hello norm
   getmsg s:a 64 64 any";
 
-/// What the command line asks for.
+/// The options of a command line.
 #[derive(Debug, Drop)]
 pub struct Options<'a> {
-    /// How many worker threads make the calls, 1 to `MOST_WORKERS`.
+    /// The number of worker threads that make the calls, 1 to `MOST_WORKERS`.
     pub workers: u32,
-    /// Whether what is left is drawn as a chart, and not printed as a transcript.
+    /// Whether the outcome is drawn as a chart, and not printed as a transcript.
     pub chart: bool,
     /// The path of the script.
     pub path: &'a str,
 }
 
-/// `--workers N`.
+/// The option `--workers N`.
 fn workers<'a>(alloc: Global) -> Arg<'a>
     ensures { IsArg workers_rule result }
 {
@@ -48,7 +48,7 @@ fn workers<'a>(alloc: Global) -> Arg<'a>
         .help("How many worker threads make the calls, 1 to 64")
 }
 
-/// `--chart`.
+/// The option `--chart`.
 fn chart<'a>(alloc: Global) -> Arg<'a>
     ensures { IsArg chart_rule result }
 {
@@ -58,14 +58,14 @@ fn chart<'a>(alloc: Global) -> Arg<'a>
         .help("Draws a sequence chart of each stream, in place of a transcript")
 }
 
-/// `FILE`.
+/// The argument `FILE`.
 fn file<'a>(alloc: Global) -> Arg<'a>
     ensures { IsArg file_rule result }
 {
     Arg::new(alloc, "FILE").required(true).help("The script")
 }
 
-/// A command without arguments. Refused for want of memory alone.
+/// A command without arguments. Fails only when memory runs out.
 fn bare_command<'a>(alloc: Global) -> Result<Command<'a>, Error>
     ensures bare { IfOk result IsBare }
     ensures memory { IfErr result (λ error. kind_of error ≡ OutOfMemory) }
@@ -78,7 +78,7 @@ fn bare_command<'a>(alloc: Global) -> Result<Command<'a>, Error>
     )
 }
 
-/// The command line that is understood: `strsh [--workers N] [--chart] FILE`. Refused for want of memory alone.
+/// The accepted command line: `strsh [--workers N] [--chart] FILE`. Fails only when memory runs out.
 fn command<'a>(alloc: Global) -> Result<Command<'a>, Error>
     ensures line { IfOk result (λ command. app_of command ≡ command_line) }
     ensures three { IfOk result HasThree }
@@ -93,9 +93,10 @@ fn command<'a>(alloc: Global) -> Result<Command<'a>, Error>
 }
 
 impl<'a> Options<'a> {
-    /// Reads the words of a command line, of which the first is the program's name.
+    /// Reads the words of a command line. The first is the program's name.
     ///
-    /// Refused with the text to print, where they are no such command line or ask for help, or for want of memory.
+    /// Refused, with the text to print, if they are no such command line, or ask for help; and when memory
+    /// runs out.
     pub fn read(alloc: Global, words: &'a [String]) -> Result<Options<'a>, Error>
         ensures path { IfOk result (λ options. options.path.now ≡ file_text (map (λ word. string_bytes word) words.entry.now)) }
         ensures workers { IfOk result (λ options. AsksFor (workers_text (map (λ word. string_bytes word) words.entry.now)) options.workers) }

@@ -1,11 +1,11 @@
 use Rattle.std.proofs.Common.{subst, rules}
-use Rattle.strm_handle.specs.Asked as asks
-use Rattle.strm_handle.specs.Told.{Nothing}
-use Rattle.strm_handle.specs.Codes.{put_flag_of}
-use Rattle.strm_abi.specs.Numbers.{end_of}
-use Rattle.strm_handle.specs.declared.held.Held.{Held}
-use Rattle.strm_handle.specs.Call.{Calls}
-use Rattle.strm_handle.proofs.JudgedLemmas.{made_calls, putpmsg_is_plain, putpmsg_lacks}
+use Rattle.strm_c_calls.specs.Arguments as asks
+use Rattle.strm_c_calls.specs.Returned.{Nothing}
+use Rattle.strm_c_calls.specs.Codes.{put_flag_of}
+use Rattle.strm_c_numbers.specs.Numbers.{end_of}
+use Rattle.strm_c_calls.specs.declared.held.Held.{Held}
+use Rattle.strm_c_calls.specs.Call.{Calls}
+use Rattle.strm_c_calls.proofs.JudgedLemmas.{made_calls, putpmsg_is_plain, putpmsg_lacks}
 use Rattle.strm_c.proofs.strm_putpmsg_parts.Goals as goal
 
 pub returns-clause-call : goal.returns-clause-call

@@ -1,10 +1,10 @@
 use Rattle.std.proofs.Common.{Ok, refl, subst, rules}
-use Rattle.strm_call.specs.declared.request.Request.TheVariants as Requests
-use Rattle.strm_handle.specs.Told.{IsValue}
-use Rattle.strm_abi.specs.Numbers.{end_of}
-use Rattle.strm_handle.specs.declared.held.Held.{Held}
-use Rattle.strm_handle.specs.Call.{Calls}
-use Rattle.strm_handle.proofs.JudgedLemmas.{made_calls, write_is_plain}
+use Rattle.strm_head_calls.specs.declared.request.Request.TheVariants as Requests
+use Rattle.strm_c_calls.specs.Returned.{IsValue}
+use Rattle.strm_c_numbers.specs.Numbers.{end_of}
+use Rattle.strm_c_calls.specs.declared.held.Held.{Held}
+use Rattle.strm_c_calls.specs.Call.{Calls}
+use Rattle.strm_c_calls.proofs.JudgedLemmas.{made_calls, write_is_plain}
 use Rattle.strm_c.proofs.strm_write_bytes.Goals as goal
 
 pub returns-clause-call : goal.returns-clause-call

@@ -1,7 +1,7 @@
-//! Delivery: a message is carried to its end, and what comes of it.
+//! Delivery: carries a message to its end, and the messages that come of it.
 ghost use Rattle.std.specs.Prelude.{◌≡◌, OnOk, IfErr, true, false};
 ghost use Rattle.strm_chain.specs.Deliver.{deliver, is_there};
-ghost use Rattle.strm_ends.specs.Same.{SameModules};
+ghost use Rattle.strm_chain_ends.specs.Same.{SameModules};
 ghost use Rattle.strm_chain.specs.Fault.{Refuses};
 ghost use Rattle.strm_chain.specs.HeadFlush.{HeadSendsOnce};
 ghost use Rattle.strm_chain.specs.Hop.{carry};
@@ -26,8 +26,8 @@ impl<M: ModuleOf> Chain<M> {
         }
     }
 
-    /// A message at a spot.
-    fn handed_in(&self, spot: Spot, m: BoxedMessage) -> Hop
+    /// The hop of a message that is handed in at a spot.
+    fn first_hop(&self, spot: Spot, m: BoxedMessage) -> Hop
         ensures { carry M.Kind.means self.now.image result ≡ deliver M.Kind.means self.now.image spot m }
     {
         match spot {
@@ -39,8 +39,8 @@ impl<M: ModuleOf> Chain<M> {
         }
     }
 
-    /// Breaks the chain, where memory was wanting after a change.
-    pub(super) fn give_up(&mut self) -> ChainFault
+    /// Breaks the chain, where memory ran out after a change.
+    pub(super) fn break_chain(&mut self) -> ChainFault
         ensures fault { result ≡ ChainFault.Broken }
         ensures image { self.new.image ≡ record self.old.image { broken = true } }
         ensures given { self.new.run.given ≡ self.old.run.given }
@@ -49,11 +49,11 @@ impl<M: ModuleOf> Chain<M> {
         ChainFault::Broken
     }
 
-    /// Hands a message in at a spot that is there, and carries it and what comes of it to its end
-    /// (putnext(9F)). No place is served.
+    /// Hands a message in at a spot that is there, and carries it and the messages that come of it to their
+    /// end (putnext(9F)). No place is served.
     ///
-    /// Refused for want of memory alone: with `NoMem` nothing is changed, and with `Broken` the chain
-    /// is broken, or was before.
+    /// Fails only when memory runs out: with `NoMem` nothing is changed, and with `Broken` the chain is
+    /// broken, or was before.
     pub fn deliver(&mut self, spot: Spot, m: Message) -> Result<(), ChainFault>
         requires { is_there self.old.image spot ≡ true }
         ensures ok { OnOk result (self.new.image ≡ deliver M.Kind.means self.old.image spot m) }
@@ -65,22 +65,22 @@ impl<M: ModuleOf> Chain<M> {
             return Err(ChainFault::Broken);
         }
         let m = BoxedMessage::new(self.ends.alloc(), m)?;
-        let hop = self.handed_in(spot, m);
+        let hop = self.first_hop(spot, m);
         let mut hops = self.take_hops();
         self.hop(&mut hops, hop)?;
-        match self.carry_all(&mut hops) {
+        match self.deliver_all(&mut hops) {
             Ok(()) => {
                 self.put_back_hops(hops);
                 Ok(())
             }
-            Err(_) => Err(self.give_up()),
+            Err(_) => Err(self.break_chain()),
         }
     }
 }
 
-/// A law, which nothing is done for: with the built-in kinds, what a head sends down comes back to no
-/// head that would send anything again. So to let a head send nothing there, by which delivery ends
-/// for kinds of any meaning, changes nothing.
+/// A law, for which nothing is done: with the built-in kinds, messages that a head sends down come back to no
+/// head that would send anything again. So it changes nothing to let a head send nothing there, by which
+/// delivery ends for kinds of any meaning.
 pub fn head_sends_once()
     ensures { HeadSendsOnce }
 {}

@@ -3,15 +3,15 @@ ghost use Rattle.std.specs.Prelude.{◌≡◌, ◌∷◌, [], ◌<◌, OnOk, OnE
 ghost use Rattle.strm_msg.specs.Message.{rank_of};
 ghost use Rattle.strm_queue.specs.Queue.{put_back_in};
 ghost use Rattle.strm_queue.specs.Room.{room_for};
-ghost use Rattle.strm_qpair.specs.End.{KeepsRoom, SpendsOne};
-ghost use Rattle.strm_qpair.specs.Change.{with_mode, begun, undone, ended};
-ghost use Rattle.strm_ends.specs.Image.{end_of, with_head, with_state, room_of, other_end, KeepsHeadRoom};
+ghost use Rattle.strm_chain_end.specs.End.{KeepsRoom, SpendsOne};
+ghost use Rattle.strm_chain_end.specs.Change.{with_mode, awaiting_next, id_given_back, awaiting_none};
+ghost use Rattle.strm_chain_ends.specs.Image.{end_of, with_head, with_state, room_of, other_end, KeepsHeadRoom};
 
 use super::Chain;
-use strm_ends::NextQueue;
+use strm_chain_end::Record;
+use strm_chain_ends::NextQueue;
 use strm_module::ModuleOf;
 use strm_msg::{BoxedMessage, End, NoMem, Prot, ReadMode};
-use strm_qpair::Record;
 use strm_queue::BandQueue;
 
 impl<M: ModuleOf> Chain<M> {
@@ -34,12 +34,12 @@ impl<M: ModuleOf> Chain<M> {
         let queue = NextQueue::Head { end };
         let before = self.ends.len(queue);
         let first = self.ends.take_head(end);
-        self.enabling.wake(&self.ends, queue, before);
+        self.enabling.enable_by_change(&self.ends, queue, before);
         first
     }
 
     /// Makes room in a head's list, so that the next `put_back_head` of a message of this rank
-    /// succeeds. Refused for want of memory alone, and not where the room is there. No list loses
+    /// succeeds. Fails only when memory runs out, and not where the room is there. No list loses
     /// room.
     pub fn head_room(&mut self, end: End, rank: u16) -> Result<(), NoMem>
         ensures made { OnOk result (0 < room_for (room_of self.new.rooms end) rank) }
@@ -54,7 +54,7 @@ impl<M: ModuleOf> Chain<M> {
     /// Puts a message back into a head's list, before those of its rank (putbq(9F)). That takes room
     /// for at most one message of each rank, and the other lists keep theirs.
     ///
-    /// Refused for want of memory alone: the message comes back, and nothing is changed.
+    /// Fails only when memory runs out: the message comes back, and nothing is changed.
     pub fn put_back_head(&mut self, end: End, m: BoxedMessage) -> Result<(), BoxedMessage>
         ensures ok { OnOk result (self.new.image ≡ with_head self.old.image end (put_back_in (end_of self.old.image end).head m)) }
         ensures err { OnErr result (self.new.image ≡ self.old.image) }
@@ -68,18 +68,18 @@ impl<M: ModuleOf> Chain<M> {
         let queue = NextQueue::Head { end };
         let before = self.ends.len(queue);
         let answer = self.ends.put_back_head(end, m);
-        self.enabling.wake(&self.ends, queue, before);
+        self.enabling.enable_by_change(&self.ends, queue, before);
         answer
     }
 
-    /// What the head of an end remembers beside its list.
+    /// The record of the head of an end.
     pub fn state(&self, end: End) -> &Record
         ensures { result.now ≡ (end_of self.now.image end).state }
     {
         self.ends.end(end).state()
     }
 
-    /// Sets how reads at an end treat messages (I_SRDOPT). No list loses room.
+    /// Sets the way in which reads at an end treat messages (I_SRDOPT). No list loses room.
     pub fn set_mode(&mut self, end: End, mode: ReadMode, prot: Prot)
         ensures { self.new ≡ record self.old { image = with_state self.old.image end (with_mode (end_of self.old.image end).state mode prot) } }
     {
@@ -92,25 +92,25 @@ impl<M: ModuleOf> Chain<M> {
     pub fn begin_ioctl(&mut self, end: End) -> Option<u64>
         requires { IsNone (end_of self.old.image end).state.pending }
         ensures id { result ≡ (end_of self.old.image end).state.next }
-        ensures image { self.new ≡ record self.old { image = with_state self.old.image end (begun (end_of self.old.image end).state) } }
+        ensures image { self.new ≡ record self.old { image = with_state self.old.image end (awaiting_next (end_of self.old.image end).state) } }
     {
         self.ends.begin_ioctl(end)
     }
 
-    /// Gives the id back that was taken last, where its ioctl was not sent. To be called where an
-    /// answer is awaited and none has come. No list loses room.
+    /// Gives back the id that was taken last, where its ioctl was not sent. To be called where an answer is
+    /// awaited and none has come. No list loses room.
     pub fn undo_ioctl(&mut self, end: End)
         requires pending { IsSome (end_of self.old.image end).state.pending }
         requires unanswered { IsNone (end_of self.old.image end).state.kept }
-        ensures { self.new ≡ record self.old { image = with_state self.old.image end (undone (end_of self.old.image end).state) } }
+        ensures { self.new ≡ record self.old { image = with_state self.old.image end (id_given_back (end_of self.old.image end).state) } }
     {
         self.ends.undo_ioctl(end)
     }
 
-    /// Gives the answer to an ioctl, if one came, and awaits none any longer. No list loses room.
+    /// Takes the answer to an ioctl, if one came, and awaits none any longer. No list loses room.
     pub fn end_ioctl(&mut self, end: End) -> Option<BoxedMessage>
         ensures answer { result ≡ (end_of self.old.image end).state.kept }
-        ensures image { self.new ≡ record self.old { image = with_state self.old.image end (ended (end_of self.old.image end).state) } }
+        ensures image { self.new ≡ record self.old { image = with_state self.old.image end (awaiting_none (end_of self.old.image end).state) } }
     {
         self.ends.end_ioctl(end)
     }

@@ -4,18 +4,18 @@ ghost use Rattle.std.specs.Prelude.{true, ◌≡◌, [], ◌∷◌, ◌++◌, �
 ghost use Rattle.strm_msg.specs.declared.words.Side.TheVariants as Side;
 ghost use Rattle.strm_module.specs.Driver.{partner};
 ghost use Rattle.strm_chain.specs.Deliver.{put_at, up, down};
-ghost use Rattle.strm_ends.specs.Same.{SameModules};
+ghost use Rattle.strm_chain_ends.specs.Same.{SameModules};
 ghost use Rattle.strm_module.specs.Calm.{is_calm, IsCalm};
 ghost use Rattle.strm_chain.specs.Count.{options_in, options_carried, Grows, are_calm_hops};
-ghost use Rattle.strm_chain.specs.Hop.{carry, carry_all, load, up_hop, down_hop, hop_of, next_module};
+ghost use Rattle.strm_chain.specs.Hop.{carry, deliver_all, load, up_hop, down_hop, hop_of, next_module};
 
 use super::Chain;
 use std::alloc::Global;
 use std::collections::VecDeque;
 use std::mem;
+use strm_chain_end::DriverSends;
 use strm_module::{MOST_MODULES, ModuleOf, Outs};
 use strm_msg::{BoxedMessage, End, Message, NoMem, Side as Sides};
-use strm_qpair::DriverSends;
 
 /// A message that is on its way, up to the head or down to the driver, with a number of modules
 /// still ahead.
@@ -26,7 +26,7 @@ pub(super) struct Hop {
     /// `Rd` on its way up, `Wr` on its way down.
     pub(super) side: Sides,
     pub(super) end: End,
-    /// How many modules it still has to pass.
+    /// The number of modules that it still has to pass.
     pub(super) ahead: usize,
     pub(super) m: BoxedMessage,
 }
@@ -58,7 +58,8 @@ impl Hop {
         }
     }
 
-    /// What module `i` sends for a message that came on a side, with so many modules below it.
+    /// The hop of a message that module `i` sends for one that came on a side, with this many modules below
+    /// it.
     fn of_out(
         head_sent: bool,
         side: Sides,
@@ -77,7 +78,7 @@ impl Hop {
     }
 }
 
-/// Puts what module `i` sends in front of the list of what is on its way.
+/// Puts the messages that module `i` sends in front of the list of messages on their way.
 #[inline(always)]
 pub(super) fn push_outs(
     hops: &mut VecDeque<Hop>,
@@ -101,8 +102,8 @@ pub(super) fn push_outs(
     }
 }
 
-/// Puts options for a head in front of the list of what is on its way, and behind them the ack of the ioctl that asked for
-/// them. Refused for want of memory alone: then the list is as before.
+/// Puts options for a head in front of the list of messages on their way, and behind them the ack of the
+/// ioctl that asked for them. Fails only when memory runs out: then the list is as before.
 fn push_options(
     alloc: Global,
     hops: &mut VecDeque<Hop>,
@@ -141,7 +142,7 @@ impl<M: ModuleOf> Chain<M> {
         self.hops = hops;
     }
 
-    /// A message comes to a head.
+    /// Does the hop of a message to a head.
     fn to_head(
         &mut self,
         hops: &mut VecDeque<Hop>,
@@ -150,14 +151,14 @@ impl<M: ModuleOf> Chain<M> {
         m: BoxedMessage,
     ) -> Result<(), NoMem>
         requires { deque_len hops.old < deque_capacity hops.old }
-        ensures image { OnOk result (carry_all M.Kind.means self.new.image hops.new.items ≡ carry_all M.Kind.means (up M.Kind.means head_sent end 0 self.old.image m) hops.old.items) }
+        ensures image { OnOk result (deliver_all M.Kind.means self.new.image hops.new.items ≡ deliver_all M.Kind.means (up M.Kind.means head_sent end 0 self.old.image m) hops.old.items) }
         ensures falls { OnOk result (load hops.new.items < load (up_hop head_sent end 0 m ∷ hops.old.items)) }
         ensures err { OnErr result (self.new.image ≡ self.old.image) }
         ensures same { SameModules self.old.image self.new.image }
         ensures given { self.new.run.given ≡ self.old.run.given }
         ensures grows { OnOk result (IsCalm M.Kind.means → is_calm m.kind ≡ true → are_calm_hops hops.old.items ≡ true → Grows self.old (options_in self.old.image m + options_carried self.old.image hops.old.items) self.new (options_carried self.old.image hops.new.items) × (are_calm_hops hops.new.items ≡ true)) }
     {
-        let sends = self.head_does(end, m)?;
+        let sends = self.put_at_head(end, m)?;
         if head_sent {
             return Ok(());
         }
@@ -168,7 +169,7 @@ impl<M: ModuleOf> Chain<M> {
         Ok(())
     }
 
-    /// A message comes to the driver.
+    /// Does the hop of a message to the driver.
     fn to_driver(
         &mut self,
         hops: &mut VecDeque<Hop>,
@@ -177,7 +178,7 @@ impl<M: ModuleOf> Chain<M> {
         m: BoxedMessage,
     ) -> Result<(), NoMem>
         requires { deque_len hops.old + 2 ≤ deque_capacity hops.old }
-        ensures image { OnOk result (carry_all M.Kind.means self.new.image hops.new.items ≡ carry_all M.Kind.means (down M.Kind.means head_sent end 0 self.old.image m) hops.old.items) }
+        ensures image { OnOk result (deliver_all M.Kind.means self.new.image hops.new.items ≡ deliver_all M.Kind.means (down M.Kind.means head_sent end 0 self.old.image m) hops.old.items) }
         ensures falls { OnOk result (load hops.new.items < load (down_hop head_sent end 0 m ∷ hops.old.items)) }
         ensures err { OnErr result (self.new.image ≡ self.old.image) }
         ensures same { SameModules self.old.image self.new.image }
@@ -187,7 +188,7 @@ impl<M: ModuleOf> Chain<M> {
         let partner = self.driver().partner_of(end);
         let own = self.count(end);
         let across = self.count(partner);
-        match self.driver_does(end, m)? {
+        match self.put_at_driver(end, m)? {
             DriverSends::Nothing => return Ok(()),
             DriverSends::Reply(m) => {
                 hops.push_front_reserved(Hop::up(head_sent, end, own, m));
@@ -210,7 +211,7 @@ impl<M: ModuleOf> Chain<M> {
         }
     }
 
-    /// The number of the module that is next on a way of so many modules.
+    /// The number of the module that is next where `ahead` modules are still ahead.
     fn next_module(&self, side: Sides, end: End, ahead: usize) -> usize
         requires { 0 < ahead }
         ensures value { result ≡ next_module self.now.image side end ahead }
@@ -222,11 +223,11 @@ impl<M: ModuleOf> Chain<M> {
         }
     }
 
-    /// A message comes to a module.
+    /// Does the hop of a message to a module.
     fn to_module(&mut self, hops: &mut VecDeque<Hop>, hop: Hop) -> Result<(), NoMem>
         requires ahead { 0 < hop.ahead }
         requires room { deque_len hops.old + 2 ≤ deque_capacity hops.old }
-        ensures image { OnOk result (carry_all M.Kind.means self.new.image hops.new.items ≡ carry_all M.Kind.means (carry M.Kind.means self.old.image hop) hops.old.items) }
+        ensures image { OnOk result (deliver_all M.Kind.means self.new.image hops.new.items ≡ deliver_all M.Kind.means (carry M.Kind.means self.old.image hop) hops.old.items) }
         ensures falls { OnOk result (load hops.new.items < load (hop ∷ hops.old.items)) }
         ensures err { OnErr result (self.new.image ≡ self.old.image) }
         ensures same { SameModules self.old.image self.new.image }
@@ -246,10 +247,10 @@ impl<M: ModuleOf> Chain<M> {
         Ok(())
     }
 
-    /// The next hop of a message that is on its way. What comes of it stands in front of what was
-    /// on its way already. Refused for want of memory alone: then nothing is changed.
+    /// Makes the next hop of a message that is on its way. The messages that come of it are in front of those
+    /// that were on their way already. Fails only when memory runs out: then nothing is changed.
     pub(super) fn hop(&mut self, hops: &mut VecDeque<Hop>, hop: Hop) -> Result<(), NoMem>
-        ensures image { OnOk result (carry_all M.Kind.means self.new.image hops.new.items ≡ carry_all M.Kind.means (carry M.Kind.means self.old.image hop) hops.old.items) }
+        ensures image { OnOk result (deliver_all M.Kind.means self.new.image hops.new.items ≡ deliver_all M.Kind.means (carry M.Kind.means self.old.image hop) hops.old.items) }
         ensures falls { OnOk result (load hops.new.items < load (hop ∷ hops.old.items)) }
         ensures err { OnErr result (self.new.image ≡ self.old.image) }
         ensures same { SameModules self.old.image self.new.image }
@@ -273,9 +274,10 @@ impl<M: ModuleOf> Chain<M> {
         }
     }
 
-    /// Carries what is on its way to its end, and what comes of it, each before the next.
-    pub(super) fn carry_all(&mut self, hops: &mut VecDeque<Hop>) -> Result<(), NoMem>
-        ensures ok { OnOk result (self.new.image ≡ carry_all M.Kind.means self.old.image hops.old.items) }
+    /// Carries the messages that are on their way to their end, and those that come of them, each before the
+    /// next.
+    pub(super) fn deliver_all(&mut self, hops: &mut VecDeque<Hop>) -> Result<(), NoMem>
+        ensures ok { OnOk result (self.new.image ≡ deliver_all M.Kind.means self.old.image hops.old.items) }
         ensures empty { OnOk result (hops.new.items ≡ []) }
         ensures same { SameModules self.old.image self.new.image }
         ensures given { self.new.run.given ≡ self.old.run.given }

@@ -1,4 +1,4 @@
-//! What comes in from a line, and what goes out of a wire.
+//! Messages that come in from a line, and those that go out of a wire.
 ghost use Rattle.std.specs.Prelude.{◌≡◌, ◌∷◌, [], ◌<◌, true, false, IfSome, IfNone, OnOk, OnErr, IfErr, IsOk};
 ghost use Rattle.strm_msg.specs.Kind.{is_high};
 ghost use Rattle.strm_msg.specs.Message.{rank_of};
@@ -6,19 +6,19 @@ ghost use Rattle.strm_msg.specs.declared.words.End.TheVariants.{A};
 ghost use Rattle.strm_queue.specs.Queue.{put_in, is_full};
 ghost use Rattle.strm_queue.specs.Room.{room_for};
 ghost use Rattle.strm_module.specs.Driver.{is_line, is_wire, input_end};
-ghost use Rattle.strm_qpair.specs.End.{KeepsRoom, SpendsOne};
-ghost use Rattle.strm_ends.specs.Image.{end_of, with_drv};
-ghost use Rattle.strm_ends.specs.Same.{SameModules};
+ghost use Rattle.strm_chain_end.specs.End.{KeepsRoom, SpendsOne};
+ghost use Rattle.strm_chain_ends.specs.Image.{end_of, with_drv};
+ghost use Rattle.strm_chain_ends.specs.Same.{SameModules};
 
 use super::Chain;
-use strm_ends::{NextQueue, Place};
+use strm_chain_ends::{NextQueue, Place};
 use strm_module::ModuleOf;
 use strm_msg::{BoxedMessage, End, NoMem};
 use strm_queue::BandQueue;
 
 impl<M: ModuleOf> Chain<M> {
-    /// Whether the list of what came in is full in a band, where bcanput(9F) would answer the opposite. To
-    /// be called over a line or a wire.
+    /// Whether the list of messages that came in is full in a band, where bcanput(9F) would answer the
+    /// opposite. To be called over a line or a wire.
     pub fn line_full(&self, band: u8) -> bool
         requires { is_line self.now.image.driver ≡ true }
         ensures { result ≡ is_full (end_of self.now.image (input_end self.now.image.driver)).drv_marks (end_of self.now.image (input_end self.now.image.driver)).drv band }
@@ -27,9 +27,9 @@ impl<M: ModuleOf> Chain<M> {
         self.ends.end(end).driver_list().full(band)
     }
 
-    /// Makes room in the list of what came in, so that the next `line_put` of a message of this rank
-    /// succeeds. To be called over a line or a wire. Refused for want of memory alone, and not where
-    /// the room is there. No list loses room.
+    /// Makes room in the list of messages that came in, so that the next `line_put` of a message of this rank
+    /// succeeds. To be called over a line or a wire. Fails only when memory runs out, and not where the room
+    /// is there. No list loses room.
     pub fn line_room(&mut self, rank: u16) -> Result<(), NoMem>
         requires { is_line self.old.image.driver ≡ true }
         ensures made { OnOk result (0 < room_for self.new.rooms.line rank) }
@@ -40,11 +40,11 @@ impl<M: ModuleOf> Chain<M> {
         self.ends.line_room(rank)
     }
 
-    /// Puts an ordinary message that came in into the list of what came in (putq(9F)); a high one goes
-    /// up at once, by `deliver`. To be called over a line or a wire. The heads' lists keep their room.
+    /// Puts an ordinary message that came in into the list of these (putq(9F)). A high one goes up at once,
+    /// by `deliver`. To be called over a line or a wire. The heads' lists keep their room.
     ///
-    /// Refused for want of memory alone, and not where that list has room: the message comes
-    /// back, and nothing is changed.
+    /// Fails only when memory runs out, and not where that list has room: the message comes back, and nothing
+    /// is changed.
     pub fn line_put(&mut self, m: BoxedMessage) -> Result<(), BoxedMessage>
         requires driver { is_line self.old.image.driver ≡ true }
         requires ordinary { is_high m.kind ≡ false }
@@ -64,19 +64,20 @@ impl<M: ModuleOf> Chain<M> {
         };
         let before = self.ends.len(queue);
         let answer = self.ends.line_put(m);
-        self.enabling.wake(&self.ends, queue, before);
+        self.enabling.enable_by_change(&self.ends, queue, before);
         answer
     }
 
-    /// The driver's list of an end. Of a wire that of end A is its output, and that of end B holds what came in.
+    /// The driver's list of an end. Of a wire that of end A is its output, and that of end B holds the
+    /// messages that came in.
     pub fn driver_list(&self, end: End) -> &BandQueue
         ensures { result.now.messages ≡ (end_of self.now.image end).drv }
     {
         self.ends.end(end).driver_list()
     }
 
-    /// Takes the first message of the output of a wire, which then leaves the stream. To be called over a wire. Takes no
-    /// memory.
+    /// Takes the first message of the output of a wire, which then leaves the stream. To be called over a
+    /// wire. Takes no memory.
     pub fn take_out(&mut self) -> Option<BoxedMessage>
         requires { is_wire self.old.image.driver ≡ true }
         ensures some { IfSome result (λ m. (self.old.image.a.drv ≡ m ∷ self.new.image.a.drv) × (self.new.image ≡ with_drv self.old.image A self.new.image.a.drv)) }

@@ -1,30 +1,30 @@
-//! What a message does to a head, to the driver and to a module, what service takes, and which
-//! places that enables.
+//! The effect of a message on a head, on the driver and on a module, the message that service takes, and the
+//! places that each enables.
 ghost use Rattle.std.specs.Prelude.{◌&&◌, ◌≡◌, ◌∷◌, ◌<◌, [], None, true, OnOk, OnErr, IfOk, IfSome, IfNone};
-ghost use Rattle.strm_qpair.specs.End.{pair_at};
-ghost use Rattle.strm_qpair.specs.Modules.{HoldsCalm};
-ghost use Rattle.strm_qpair.specs.Head.{head_does};
-ghost use Rattle.strm_ends.specs.Image.{end_of, with_end, with_drv, driver_does, driven};
+ghost use Rattle.strm_chain_end.specs.End.{pair_at};
+ghost use Rattle.strm_chain_end.specs.Modules.{HoldsCalm};
+ghost use Rattle.strm_chain_end.specs.Head.{put_at_head};
+ghost use Rattle.strm_chain_ends.specs.Image.{end_of, with_end, with_drv, put_at_driver, driven};
 ghost use Rattle.strm_module.specs.Driver.{is_wire};
-ghost use Rattle.strm_ends.specs.Held.{is_flush, sets_options};
-ghost use Rattle.strm_ends.specs.Same.{SameModules};
-ghost use Rattle.strm_ends.specs.declared.place.NextQueue.TheVariants.{Of};
+ghost use Rattle.strm_chain_ends.specs.Held.{is_flush, sets_options};
+ghost use Rattle.strm_chain_ends.specs.Same.{SameModules};
+ghost use Rattle.strm_chain_ends.specs.declared.place.NextQueue.TheVariants.{Of};
 ghost use Rattle.strm_chain.specs.declared.number.TheConstants.{QUEUES};
-ghost use Rattle.strm_chain.specs.Number.{number_of};
-ghost use Rattle.strm_ends.specs.Held.{module_place};
+ghost use Rattle.strm_chain.specs.Number.{queue_number};
+ghost use Rattle.strm_chain_ends.specs.Held.{module_place};
 ghost use Rattle.strm_module.specs.Calm.{is_calm, IsCalm};
-ghost use Rattle.strm_ends.specs.declared.place.Place.TheVariants as Places;
+ghost use Rattle.strm_chain_ends.specs.declared.place.Place.TheVariants as Places;
 ghost use Rattle.strm_chain.specs.Enabled.{is_enabled};
 ghost use Rattle.strm_chain.specs.Count.{options_in, options_out, Grows, HasMoved};
-ghost use Rattle.strm_ends.specs.Count.{answers_options, options_driven};
+ghost use Rattle.strm_chain_ends.specs.Count.{answers_options, options_driven};
 ghost use Rattle.strm_chain.specs.Deliver.{put_at};
 ghost use Rattle.strm_chain.specs.Service.{serve_at};
 
 use super::Chain;
-use strm_ends::{NextQueue, Place};
+use strm_chain_end::DriverSends;
+use strm_chain_ends::{NextQueue, Place};
 use strm_module::{Driver, ModuleOf, Outs};
 use strm_msg::{BoxedMessage, End, MsgKind, NoMem, Side};
-use strm_qpair::DriverSends;
 
 /// Whether a message flushes queues.
 fn is_flush(kind: MsgKind) -> bool
@@ -57,7 +57,7 @@ impl<M: ModuleOf> Chain<M> {
     /// The queue of a side of module `i`, if there is such a module.
     fn module_queue(&self, end: End, i: usize, side: Side) -> Option<NextQueue>
         ensures some { IfSome result (λ queue. queue ≡ Of (module_place side end i)) }
-        ensures few { IfSome result (λ queue. number_of queue < QUEUES) }
+        ensures few { IfSome result (λ queue. queue_number queue < QUEUES) }
         ensures small { IfSome result (λ _. i < 256) }
         ensures none { IfNone result (pair_at (end_of self.now.image end).modules i ≡ None) }
         ensures ordinary { HoldsCalm (end_of self.now.image end) }
@@ -74,15 +74,15 @@ impl<M: ModuleOf> Chain<M> {
         Some(NextQueue::Of { place })
     }
 
-    /// What a head does with a message, and what it sends down. Options may change its marks, and then the place that waits
-    /// for it is looked at again.
-    pub(super) fn head_does(
+    /// Lets a head act on a message, and returns the message that it sends down. Options may change its
+    /// marks, and then the place that waits for it is looked at again.
+    pub(super) fn put_at_head(
         &mut self,
         end: End,
         m: BoxedMessage,
     ) -> Result<Option<BoxedMessage>, NoMem>
-        ensures state { OnOk result (self.new.image ≡ with_end self.old.image end (head_does (end_of self.old.image end) m).state) }
-        ensures sends { IfOk result (λ sends. sends ≡ (head_does (end_of self.old.image end) m).sends) }
+        ensures state { OnOk result (self.new.image ≡ with_end self.old.image end (put_at_head (end_of self.old.image end) m).state) }
+        ensures sends { IfOk result (λ sends. sends ≡ (put_at_head (end_of self.old.image end) m).sends) }
         ensures err { OnErr result (self.new.image ≡ self.old.image) }
         ensures same { SameModules self.old.image self.new.image }
         ensures given { self.new.run.given ≡ self.old.run.given }
@@ -91,20 +91,20 @@ impl<M: ModuleOf> Chain<M> {
         let queue = NextQueue::Head { end };
         let before = self.ends.len(queue);
         let sets = sets_options(m.kind);
-        let answer = self.ends.head_does(end, m);
+        let answer = self.ends.put_at_head(end, m);
         if sets {
-            self.enabling.wake_behind(&self.ends, queue);
+            self.enabling.back_enable(&self.ends, queue);
             return answer;
         }
-        self.enabling.wake(&self.ends, queue, before);
+        self.enabling.enable_by_change(&self.ends, queue, before);
         answer
     }
 
-    /// What the driver does with a message from above, and what it sends up. A flush may change both lists of a wire, and then
-    /// each place is looked at again.
-    pub(super) fn driver_does(&mut self, end: End, m: BoxedMessage) -> Result<DriverSends, NoMem>
+    /// Lets the driver act on a message from above, and returns what it sends up. A flush may change both
+    /// lists of a wire, and then each place is looked at again.
+    pub(super) fn put_at_driver(&mut self, end: End, m: BoxedMessage) -> Result<DriverSends, NoMem>
         ensures state { OnOk result (self.new.image ≡ driven self.old.image end m) }
-        ensures sends { IfOk result (λ sends. sends ≡ (driver_does self.old.image.driver end (end_of self.old.image end) m).sends) }
+        ensures sends { IfOk result (λ sends. sends ≡ (put_at_driver self.old.image.driver end (end_of self.old.image end) m).sends) }
         ensures err { OnErr result (self.new.image ≡ self.old.image) }
         ensures same { SameModules self.old.image self.new.image }
         ensures given { self.new.run.given ≡ self.old.run.given }
@@ -115,12 +115,12 @@ impl<M: ModuleOf> Chain<M> {
         };
         let before = self.ends.len(queue);
         let flushes = flushes_both(self.ends.driver(), m.kind);
-        let answer = self.ends.driver_does(end, m);
+        let answer = self.ends.put_at_driver(end, m);
         if flushes {
-            self.enabling.wake_all(&self.ends);
+            self.enabling.enable_all(&self.ends);
             return answer;
         }
-        self.enabling.wake(&self.ends, queue, before);
+        self.enabling.enable_by_change(&self.ends, queue, before);
         answer
     }
 
@@ -149,15 +149,16 @@ impl<M: ModuleOf> Chain<M> {
         let turns = self.ends.turns(end, module);
         let answer = self.ends.put_at(end, i, side, m);
         if flushes {
-            self.enabling.wake_all(&self.ends);
+            self.enabling.enable_all(&self.ends);
             return answer;
         }
-        self.enabling.wake_turns(&self.ends, end, module, turns);
-        self.enabling.wake(&self.ends, queue, before);
+        self.enabling
+            .enable_by_turns(&self.ends, end, module, turns);
+        self.enabling.enable_by_change(&self.ends, queue, before);
         answer
     }
 
-    /// Module `i` serves the first message of its queue of a side.
+    /// Serves the first message of a queue of module `i`.
     pub(super) fn serve_at(&mut self, end: End, i: usize, side: Side) -> Result<Outs, NoMem>
         ensures image { OnOk result (self.new.image ≡ (serve_at M.Kind.means self.old.image end i side).image) }
         ensures outs { IfOk result (λ outs. outs.items ≡ (serve_at M.Kind.means self.old.image end i side).outs) }
@@ -173,12 +174,13 @@ impl<M: ModuleOf> Chain<M> {
         let turns = self.ends.turns(end, module);
         match self.ends.serve_at(end, i, side) {
             Ok(outs) => {
-                self.enabling.wake_turns(&self.ends, end, module, turns);
-                self.enabling.wake(&self.ends, queue, before);
+                self.enabling
+                    .enable_by_turns(&self.ends, end, module, turns);
+                self.enabling.enable_by_change(&self.ends, queue, before);
                 Ok(outs)
             }
             Err(_) => {
-                self.enabling.wake_all(&self.ends);
+                self.enabling.enable_all(&self.ends);
                 Err(NoMem)
             }
         }
@@ -199,7 +201,7 @@ impl<M: ModuleOf> Chain<M> {
         };
         let before = self.ends.len(queue);
         let first = self.ends.take_driver(end);
-        self.enabling.wake(&self.ends, queue, before);
+        self.enabling.enable_by_change(&self.ends, queue, before);
         first
     }
 }

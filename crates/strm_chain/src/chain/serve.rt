@@ -1,24 +1,24 @@
-//! Service: which places may move, and their moves.
+//! Service: the places that may move, and their moves.
 ghost use Rattle.std.specs.VecDeque.{deque_len, deque_capacity};
 ghost use Rattle.std.specs.Prelude.{◌≡◌, [], OnOk, IfErr, true, false, ◌≤◌, ◌+◌, option_map, option_copied};
-ghost use Rattle.strm_ends.specs.declared.place.Place.TheVariants as Places;
-ghost use Rattle.strm_qpair.specs.Canput.{fill_of, below, full_in};
-ghost use Rattle.strm_ends.specs.Image.{end_of};
-ghost use Rattle.strm_ends.specs.Same.{SameModules};
+ghost use Rattle.strm_chain_ends.specs.declared.place.Place.TheVariants as Places;
+ghost use Rattle.strm_chain_end.specs.Canput.{fill_of, below, full_in};
+ghost use Rattle.strm_chain_ends.specs.Image.{end_of};
+ghost use Rattle.strm_chain_ends.specs.Same.{SameModules};
 ghost use Rattle.strm_chain.specs.Fault.{Refuses};
-ghost use Rattle.strm_ends.specs.Path.{ahead};
-ghost use Rattle.strm_ends.specs.Flow.{may};
+ghost use Rattle.strm_chain_ends.specs.Path.{ahead};
+ghost use Rattle.strm_chain_ends.specs.Flow.{may};
 ghost use Rattle.strm_chain.specs.Service.{move, serve_at};
 ghost use Rattle.strm_module.specs.Calm.{IsCalm};
 ghost use Rattle.strm_chain.specs.Enabled.{is_enabled};
 ghost use Rattle.strm_chain.specs.Count.{HasMoved};
-ghost use Rattle.strm_ends.specs.Held.{module_place};
+ghost use Rattle.strm_chain_ends.specs.Held.{module_place};
 
 use super::Chain;
 use super::hop::{Hop, push_outs};
 use crate::fault::ChainFault;
 use std::collections::VecDeque;
-use strm_ends::Place;
+use strm_chain_ends::Place;
 use strm_module::ModuleOf;
 use strm_msg::{End, NoMem, Side};
 use strm_queue::BandQueue;
@@ -48,7 +48,7 @@ impl<M: ModuleOf> Chain<M> {
         self.ends.may(place)
     }
 
-    /// The move of a queue of a module.
+    /// Moves a queue of a module.
     fn move_module(
         &mut self,
         hops: &mut VecDeque<Hop>,
@@ -67,10 +67,10 @@ impl<M: ModuleOf> Chain<M> {
         let below = self.count(end).saturating_sub(i);
         let outs = self.serve_at(end, i, side)?;
         push_outs(hops, false, side, end, i, below, outs);
-        self.carry_all(hops)
+        self.deliver_all(hops)
     }
 
-    /// The move of a driver place.
+    /// Moves a driver place.
     fn move_driver(&mut self, hops: &mut VecDeque<Hop>, end: End) -> Result<(), NoMem>
         requires empty { hops.old.items ≡ [] }
         requires room { deque_len hops.old + 2 ≤ deque_capacity hops.old }
@@ -87,13 +87,13 @@ impl<M: ModuleOf> Chain<M> {
         match self.take_driver(end) {
             Some(m) => {
                 hops.push_front_reserved(Hop::up(false, partner, ahead, m));
-                self.carry_all(hops)
+                self.deliver_all(hops)
             }
             None => Ok(()),
         }
     }
 
-    /// The move of a place, with room for what it sends.
+    /// Moves a place, with room for the messages that it sends.
     fn move_place(&mut self, hops: &mut VecDeque<Hop>, place: Place) -> Result<(), NoMem>
         requires empty { hops.old.items ≡ [] }
         requires room { deque_len hops.old + 2 ≤ deque_capacity hops.old }
@@ -110,10 +110,11 @@ impl<M: ModuleOf> Chain<M> {
         }
     }
 
-    /// A place that may move moves, with room for what it sends: its first message is served, and what comes of it is carried to
-    /// its end (srv(9E)).
+    /// Moves a place that may move, with room for the messages that it sends. Its first message is served,
+    /// and the messages that come of it are carried to their end (srv(9E)).
     ///
-    /// Refused for want of memory alone: with `NoMem` nothing is changed, and with `Broken` the chain is broken.
+    /// Fails only when memory runs out: with `NoMem` nothing is changed, and with `Broken` the chain is
+    /// broken.
     pub(super) fn serve(&mut self, hops: &mut VecDeque<Hop>, place: Place) -> Result<(), ChainFault>
         requires empty { hops.old.items ≡ [] }
         requires may { may M.Kind.means self.old.image place ≡ true }
@@ -130,15 +131,15 @@ impl<M: ModuleOf> Chain<M> {
         };
         match self.move_place(hops, place) {
             Ok(()) => Ok(()),
-            Err(_) => Err(self.give_up()),
+            Err(_) => Err(self.break_chain()),
         }
     }
 
-    /// A place that may move moves: its first message is served, and what comes of it is carried to
-    /// its end (srv(9E)).
+    /// Moves a place that may move. Its first message is served, and the messages that come of it are carried
+    /// to their end (srv(9E)).
     ///
-    /// Refused for want of memory alone: with `NoMem` nothing is changed, and with `Broken` the chain
-    /// is broken, or was before.
+    /// Fails only when memory runs out: with `NoMem` nothing is changed, and with `Broken` the chain is
+    /// broken, or was before.
     pub fn serve_one(&mut self, place: Place) -> Result<(), ChainFault>
         requires { may M.Kind.means self.old.image place ≡ true }
         ensures ok { OnOk result (self.new.image ≡ move M.Kind.means self.old.image place) }

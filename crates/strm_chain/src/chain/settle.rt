@@ -2,13 +2,13 @@
 ghost use Rattle.std.specs.Prelude.{◌≡◌, ◌+◌, ◌<◌, ◌≤◌, ◌++◌, ◌∷◌, [], length, OnOk, IfErr, IfOk, IfSome, IfNone, IsOk, true, false};
 ghost use Rattle.strm_msg.specs.Count.{one_more};
 ghost use Rattle.strm_module.specs.Calm.{IsCalm};
-ghost use Rattle.strm_ends.specs.Count.{place_count};
+ghost use Rattle.strm_chain_ends.specs.Count.{place_count};
 ghost use Rattle.strm_chain.specs.Enabled.{is_enabled};
 ghost use Rattle.strm_chain.specs.Count.{AreLooks, HasMoved, most_looks};
 ghost use Rattle.strm_chain.specs.declared.number.TheConstants.{QUEUES};
-ghost use Rattle.strm_ends.specs.Same.{SameModules};
+ghost use Rattle.strm_chain_ends.specs.Same.{SameModules};
 ghost use Rattle.strm_chain.specs.Fault.{Refuses};
-ghost use Rattle.strm_ends.specs.Flow.{may, IsQuiet, NoneMay};
+ghost use Rattle.strm_chain_ends.specs.Flow.{may, IsQuiet, NoneMay};
 ghost use Rattle.strm_chain.specs.Service.{move, Leads};
 
 use super::Chain;
@@ -16,13 +16,13 @@ use super::hop::Hop;
 use crate::fault::ChainFault;
 use crate::moves::{Moves, Settled};
 use std::collections::VecDeque;
-use strm_ends::Place;
+use strm_chain_ends::Place;
 use strm_module::ModuleOf;
 
 impl<M: ModuleOf> Chain<M> {
-    /// Looks at the next place that is enabled, and says whether it may move. With none left, no
-    /// place must move.
-    fn look(&mut self) -> Option<(Place, bool)>
+    /// Looks at the next place that is enabled, and returns whether it may move. With none left, no place
+    /// must move.
+    fn next_enabled(&mut self) -> Option<(Place, bool)>
         ensures image { self.new.image ≡ self.old.image }
         ensures may { IfSome result (λ seen. may M.Kind.means self.old.image seen.0 ≡ seen.1) }
         ensures quiet { IfNone result (IsQuiet M.Kind.means self.old.image) }
@@ -33,7 +33,7 @@ impl<M: ModuleOf> Chain<M> {
         ensures still { IfNone result (self.new ≡ self.old) }
         ensures enabled { IfSome result (λ seen. seen.1 ≡ true → is_enabled self.new.run seen.0 ≡ true) }
     {
-        self.enabling.look(&self.ends)
+        self.enabling.next_enabled(&self.ends)
     }
 
     /// Counts looks from 0 again.
@@ -48,12 +48,12 @@ impl<M: ModuleOf> Chain<M> {
         self.enabling.restart()
     }
 
-    /// Looks at one enabled place after the other until none is left, and moves each that may move.
-    /// Then no place must move. Lists the moves in order, and counts the looks. Where no place may
-    /// move, nothing is done but looking, and that takes no memory.
+    /// Looks at one enabled place after the other until none is left, and moves each that may move. Then no
+    /// place must move. Lists the moves in order, and counts the looks. Where no place may move, it only
+    /// looks, and that takes no memory.
     ///
-    /// Refused for want of memory alone: with `NoMem` nothing is changed, and with `Broken` the chain
-    /// is broken, or was before.
+    /// Fails only when memory runs out: with `NoMem` nothing is changed, and with `Broken` the chain is
+    /// broken, or was before.
     pub fn settle(&mut self) -> Result<Settled, ChainFault>
         ensures moves { IfOk result (λ settled. Leads M.Kind.means self.old.image settled.moves self.new.image) }
         ensures quiet { OnOk result (IsQuiet M.Kind.means self.new.image) }
@@ -75,7 +75,7 @@ impl<M: ModuleOf> Chain<M> {
         }
         let mut moves = Moves::new();
         let mut hops = self.take_hops();
-        while let Some((place, may)) = self.look() {
+        while let Some((place, may)) = self.next_enabled() {
             if may {
                 self.move_one(&mut moves, &mut hops, place)?;
             }
@@ -85,10 +85,11 @@ impl<M: ModuleOf> Chain<M> {
         Ok(Settled { moves, looks })
     }
 
-    /// Moves a place that may move, with room for what it sends, and puts it behind the moves so far.
+    /// Moves a place that may move, with room for the messages that it sends, and puts it behind the moves so
+    /// far.
     ///
-    /// Refused for want of memory alone: with `NoMem` nothing is changed and there was no move
-    /// before, and with `Broken` the chain is broken, or was before.
+    /// Fails only when memory runs out: with `NoMem` nothing is changed and there was no move before, and
+    /// with `Broken` the chain is broken, or was before.
     fn move_one(
         &mut self,
         moves: &mut Moves,
@@ -126,7 +127,7 @@ impl<M: ModuleOf> Chain<M> {
         }
     }
 
-    /// Says that memory is wanting, and breaks the chain unless nothing was changed yet.
+    /// Returns the fault of memory that ran out, and breaks the chain unless nothing was changed yet.
     fn refuse(&mut self, is_untouched: bool) -> ChainFault
         requires { self.old.image.broken ≡ false }
         ensures refused { Refuses result self.old.image self.new.image }
@@ -136,6 +137,6 @@ impl<M: ModuleOf> Chain<M> {
         if is_untouched {
             return ChainFault::NoMem;
         }
-        self.give_up()
+        self.break_chain()
     }
 }

@@ -1,32 +1,32 @@
--- The seats and feeders of a run when its threads have ended, and how its streams end.
+-- The seats and feeders of a run when its threads have ended, and the ends of its streams.
 use Rattle.std.specs.Prelude.{◌≡◌, ◌==◌, ℕ, ◌+◌, ◌<◌, Bool, false, Option, Some, None, Result, Ok, Err, List, [], ◌∷◌, All, find, get_or, length, map, Vec, ⊤}
 use Rattle.std.specs.Global.{Global}
 use Rattle.std.specs.List.{list_any}
 use Rattle.strm_msg.specs.Message.{Msg}
 use Rattle.strm_msg.specs.declared.words.End.TheVariants.{A, B}
 use Rattle.strm_module.specs.Driver.{is_line}
-use Rattle.strm_ends.specs.Image.{Image, end_of}
-use Rattle.strm_call.specs.declared.setup.Setup.{Setup}
-use Rattle.strm_entry.specs.Entry.{Entry}
-use Rattle.strm_ended.specs.declared.holding.Receipts.{Receipts}
-use Rattle.strm_ended.specs.Ended.{EndedValue}
+use Rattle.strm_chain_ends.specs.Image.{Image, end_of}
+use Rattle.strm_head_calls.specs.declared.setup.Setup.{Setup}
+use Rattle.strm_shared_entry.specs.Entry.{Entry}
+use Rattle.strm_shared_ended.specs.declared.holding.Receipts.{Receipts}
+use Rattle.strm_shared_ended.specs.Ended.{EndedValue}
 use Rattle.strm_shared.specs.declared.fault.EndFault.{EndFault}
 use Rattle.strm_shared.specs.declared.fault.EndFault.TheVariants as EndFaults
-use Rattle.strm_entry.specs.Own.{arrivals}
+use Rattle.strm_shared_entry.specs.Own.{arrivals}
 use Rattle.strm_shared.specs.Seat.{SeatValue}
-use Rattle.strm_line.specs.Feed.{FeedValue}
+use Rattle.strm_shared_ring.specs.Feed.{FeedValue}
 use Rattle.strm_shared.specs.Ending.{SharedValue}
-use Rattle.strm_job.specs.Fault.{number_of}
-use Rattle.strm_job.specs.declared.fault.RunFault.{RunFault}
-use Rattle.strm_job.specs.declared.fault.RunFault.TheVariants as RunFaults
-use Rattle.strm_entry.specs.declared.transcript.StreamLog.{StreamLog}
-use Rattle.strm_job.specs.Scripts.{feed_of}
-use Rattle.strm_crew.specs.Account.{AccountValue, HasReceipts}
-use Rattle.strm_ended.specs.Ended.{AreFirstCalls, AreHeld}
-use Rattle.strm_feed.specs.About.{RunValue}
-use Rattle.strm_feed.specs.Feeding.{OfferedValue, HasOffered}
-use Rattle.strm_crew.specs.Play.{HasPlayed}
-use Rattle.strm_ended.specs.Left.{names_at}
+use Rattle.strm_run_input.specs.Fault.{run_fault_number}
+use Rattle.strm_run_input.specs.declared.fault.RunFault.{RunFault}
+use Rattle.strm_run_input.specs.declared.fault.RunFault.TheVariants as RunFaults
+use Rattle.strm_shared_entry.specs.declared.transcript.StreamLog.{StreamLog}
+use Rattle.strm_run_input.specs.Scripts.{feed_of}
+use Rattle.strm_run_callers.specs.Account.{AccountValue, HasReceipts}
+use Rattle.strm_shared_ended.specs.Ended.{AreFirstCalls, AreHeld}
+use Rattle.strm_run_callers.specs.RunName.{RunValue}
+use Rattle.strm_run_callers.specs.Feeding.{OfferedValue, HasOffered}
+use Rattle.strm_run_callers.specs.Play.{HasPlayed}
+use Rattle.strm_shared_ended.specs.Left.{names_at}
 
 -- the seats of accounts, in order
 abbrev pub seats_of : {K : Type 0} → List (AccountValue K) → List SeatValue
@@ -48,16 +48,17 @@ pub record IsStream {K : Type 0} (run : RunValue K) (shared : SharedValue) : Typ
   pub callers : shared.seats ≡ length run.scripts
 
 -- a stream on which all have played, and the accounts of its callers
-pub record DueValue (K : Type 0) : Type 0 where
+pub record FinishedStreamValue (K : Type 0) : Type 0 where
   pub stream : SharedValue
   pub accounts : List (AccountValue K)
 
 -- the streams of them, in order
-abbrev pub streams_of : {K : Type 0} → List (DueValue K) → List SharedValue
+abbrev pub streams_of : {K : Type 0} → List (FinishedStreamValue K) → List SharedValue
 streams_of all = map (λ due. due.stream) all
 
--- a stream of a run whose callers have played, with their accounts on it; no feed is for it, unless it is a line
-pub record IsDue {K : Type 0} (run : RunValue K) (shared : SharedValue) (accounts : List (AccountValue K)) : Type 0 where
+-- a stream of a run whose callers have played, with their accounts on it; no feed is for it, unless it is a
+-- line
+pub record IsFinishedStream {K : Type 0} (run : RunValue K) (shared : SharedValue) (accounts : List (AccountValue K)) : Type 0 where
   pub stream : IsStream run shared
   pub played : HavePlayed run shared.number accounts
   pub unfed : is_line shared.setup.driver ≡ false → feed_of run.feeds shared.number ≡ []
@@ -66,7 +67,7 @@ pub record IsDue {K : Type 0} (run : RunValue K) (shared : SharedValue) (account
 abbrev pub AreLinesFed : {K : Type 0} → RunValue K → Type 0
 AreLinesFed run = (k : ℕ) (s : Setup) → k < length run.setups → is_line (get_or run.setups k s).driver ≡ false → feed_of run.feeds k ≡ []
 
--- how many messages came back from a feeder; none where there is none
+-- the number of messages that came back from a feeder; none where there is none
 abbrev pub overrun_of : Option OfferedValue → ℕ
 overrun_of None = 0
 overrun_of (Some offered) = offered.overrun
@@ -76,7 +77,7 @@ abbrev pub IsOffered : {K : Type 0} → RunValue K → Option FeedValue → ℕ 
 IsOffered run None overrun = overrun ≡ 0
 IsOffered run (Some feed) overrun = HasOffered run feed overrun
 
--- what is left of a stream that ended with this history, and with these messages not come in
+-- the log of a stream that ended with this history, and with these messages not come in
 pub record IsLogOf {K : Type 0} (history : List (Entry K)) (stream : Image K) (left : List Msg) (overrun : ℕ) (log : StreamLog K) : Type 0 where
   pub same : log.history.items ≡ history
   pub a : log.a ≡ names_at (end_of stream A)
@@ -92,7 +93,7 @@ end_fault EndFaults.Unfinished = RunFaults.Unfinished
 end_fault EndFaults.NoMem = RunFaults.NoMem
 end_fault EndFaults.NoReceipt = RunFaults.NoReceipt
 
--- what is left of a stream that ended, where each receipt holds; and else the fault
+-- the log of a stream that ended, where each receipt holds; and else the fault
 abbrev pub Leaves : {K : Type 0} → Result (EndedValue K) EndFault → List (Receipts K) → ℕ → Result (StreamLog K) RunFault → Type 0
 Leaves (Ok ended) receipts overrun (Ok log) =
     IsLogOf ended.history ended.stream ended.left overrun log × All (λ mine. AreHeld ended.history mine) receipts
@@ -104,7 +105,7 @@ Leaves (Err fault) receipts overrun (Err refused) = refused ≡ end_fault fault
 -- a stream ended with this fault
 abbrev pub is_fault : {K : Type 0} → RunFault → Result (StreamLog K) RunFault → Bool
 is_fault fault (Ok log) = false
-is_fault fault (Err other) = number_of other == number_of fault
+is_fault fault (Err other) = run_fault_number other == run_fault_number fault
 
 -- the faults of streams, in the order of a run
 abbrev pub run_order : List RunFault
@@ -114,7 +115,8 @@ run_order = RunFaults.NoMem ∷ RunFaults.Unfinished ∷ RunFaults.NoReceipt ∷
 abbrev pub first_fault : {K : Type 0} → List (Result (StreamLog K) RunFault) → Option RunFault
 first_fault ended = find (λ fault. list_any (is_fault fault) ended) run_order
 
--- the receipts of an account: those of its caller, with its entries, which are of the first calls of that caller's script
+-- the receipts of an account: those of its caller, with its entries, which are of the first calls of that
+-- caller's script
 pub record AreOf {K : Type 0} (run : RunValue K) (account : AccountValue K) (receipts : Receipts K) : Type 0 where
   pub caller_is : receipts.caller ≡ account.seat.caller
   pub entries_are : receipts.entries.items ≡ account.entries

@@ -1,17 +1,17 @@
--- The streams of a run as they are made, with their seats and feeders, and what each line is fed.
+-- The streams of a run as they are made, with their seats and feeders, and the feed of each line.
 use Rattle.std.specs.Prelude.{◌≡◌, ℕ, ◌<◌, Option, List, filter, get_or, length, slice_get, Vec}
 use Rattle.std.specs.Global.{Global}
 use Rattle.strm_msg.specs.Message.{Msg}
-use Rattle.strm_call.specs.declared.setup.Setup.{Setup}
+use Rattle.strm_head_calls.specs.declared.setup.Setup.{Setup}
 use Rattle.strm_shared.specs.Seat.{SeatValue}
-use Rattle.strm_line.specs.Feed.{fresh_feeder, FeederValue}
+use Rattle.strm_shared_ring.specs.Feed.{fresh_feeder, FeederValue}
 use Rattle.strm_shared.specs.Ending.{fresh_seats, SharedValue}
-use Rattle.strm_job.specs.declared.script.Feed.{Feed}
-use Rattle.strm_job.specs.Scripts.{feed_of}
-use Rattle.strm_job.specs.There.{line_is_there}
-use Rattle.strm_feed.specs.About.{RunValue}
-use Rattle.strm_crew.specs.Dealing.{callers_of}
-use Rattle.strm_crew.specs.Play.{AreStreams}
+use Rattle.strm_run_input.specs.declared.script.Feed.{Feed}
+use Rattle.strm_run_input.specs.Scripts.{feed_of}
+use Rattle.strm_run_input.specs.Resolve.{line_is_there}
+use Rattle.strm_run_callers.specs.RunName.{RunValue}
+use Rattle.strm_run_callers.specs.Dealing.{callers_of}
+use Rattle.strm_run_callers.specs.Play.{AreStreams}
 
 -- the seats on each stream, in order of the streams: one for each caller, that has made no call
 pub record AreSeatsOn {K : Type 0} (run : RunValue K) (seats : List (Vec SeatValue Global)) : Type 0 where
@@ -23,13 +23,14 @@ pub record AreFeeders {K : Type 0} (run : RunValue K) (feeders : List (Option Fe
   pub many : length feeders ≡ length run.setups
   pub each : (k : ℕ) (d : Option FeederValue) (s : Setup) → k < length run.setups → get_or feeders k d ≡ fresh_feeder k (get_or run.setups k s)
 
--- the streams of a run that were just made, in order, each with a seat for each caller, and a feeder if it is a line
+-- the streams of a run that were just made, in order, each with a seat for each caller, and a feeder if it is
+-- a line
 pub record AreOpened {K : Type 0} (run : RunValue K) (streams : List SharedValue) (seats : List (Vec SeatValue Global)) (feeders : List (Option FeederValue)) : Type 0 where
   pub streams_are : AreStreams run streams
   pub seats_are : AreSeatsOn run seats
   pub feeders_are : AreFeeders run feeders
 
--- what each stream is fed, in order of the streams
+-- the feed of each stream, in order of the streams
 pub record AreFeeds (feeds : List Feed) (streams : ℕ) (all : List (Vec Msg Global)) : Type 0 where
   pub many : length all ≡ streams
   pub each : (k : ℕ) (d : Vec Msg Global) → k < streams → (get_or all k d).items ≡ feed_of feeds k

@@ -1,8 +1,8 @@
 use Rattle.std.proofs.Common.{sym, ap₂, ◌∙◌}
 use Rattle.std.specs.Option.{option_or}
-use Rattle.strm_call.specs.declared.request.Request.TheVariants as Requests
-use Rattle.strm_ioctl.specs.Modules.{push_refusals}
-use Rattle.strm_head.specs.Begin.{common_refusals}
+use Rattle.strm_head_calls.specs.declared.request.Request.TheVariants as Requests
+use Rattle.strm_head_ioctl.specs.Modules.{push_refusals}
+use Rattle.strm_head.specs.Effects.{common_refusals}
 use Rattle.strm_head.proofs.RefusalLemmas.{first_of_both}
 use Rattle.strm_head.proofs.asking.refusal_of_push.Goals as goal
 

@@ -1,7 +1,7 @@
 use Rattle.std.proofs.Common.{sym, ap, ◌∙◌}
 use Rattle.std.specs.Option.{option_or}
-use Rattle.strm_call.specs.Refusal.{first_that_holds}
-use Rattle.strm_head.specs.Begin.{own_refusals}
+use Rattle.strm_head_calls.specs.Refusal.{first_that_holds}
+use Rattle.strm_head.specs.Effects.{own_refusals}
 use Rattle.strm_head.proofs.RefusalLemmas.{first_of_all, common_of}
 use Rattle.strm_head.proofs.call.first_refusal.Goals as goal
 

@@ -1,5 +1,5 @@
 use Rattle.std.proofs.Common.{sym, ◌∙◌, arith}
-use Rattle.strm_call.specs.Begun.{begun_ioctl}
+use Rattle.strm_head_calls.specs.Effect.{effect_ioctl}
 use Rattle.strm_head.proofs.BeginLemmas.{may_begin}
 use Rattle.strm_head.proofs.RefusalLemmas.{own_none}
 use Rattle.strm_head.proofs.CallLemmas.{quiet_answers, finished_answers, ioctl_answers, ioctl_whole, finished_back, refused_back, served_memory, ioctl_still, finished_still}
@@ -16,7 +16,7 @@ finish_ioctl-requires-after_bounds g c κs within =
 
 pub returns-in-Ok-clause-answers : goal.returns-in-Ok-clause-answers
 returns-in-Ok-clause-answers g c =
-    quiet_answers g.M.Kind.Kinds.means c.args.chain.now.image c.args.end c.args.request (g.A.Replied.says c.in-Ok.reply) c.done.result.answer c.done.result.moves c.begin.new.chain.image c.requires.kept
+    quiet_answers g.M.Kind.Kinds.means c.args.chain.now.image c.args.end c.args.request (g.A.ReplyForm.says c.in-Ok.reply) c.done.result.answer c.done.result.moves c.begin.new.chain.image c.requires.kept
     c.requires.unrefused
     (sym c.if-is_quiet.ensures) c.in-Ok.ensures.begins.image_is c.in-Ok.ensures.begins.reply_is c.done.ensures.answer
     (c.done.ensures.moves ∙ c.none.ensures.moves)
@@ -30,7 +30,7 @@ returns-in-Ok-2-clause-answers g c =
 
 pub returns-in-Ok-2-clause-back : goal.returns-in-Ok-2-clause-back
 returns-in-Ok-2-clause-back g c =
-    finished_back g.M.Kind.Kinds.means c.args.chain.now.image c.args.end c.args.request c.begin.new.back.items (begun_ioctl c.begin.new.chain.image) c.finish_ioctl.result.answer c.finish_ioctl.result.moves _ c.finish_ioctl.new.chain.image c.in-Ok-2.ensures.back c.finish_ioctl.ensures.finishes
+    finished_back g.M.Kind.Kinds.means c.args.chain.now.image c.args.end c.args.request c.begin.new.back.items (effect_ioctl c.begin.new.chain.image) c.finish_ioctl.result.answer c.finish_ioctl.result.moves _ c.finish_ioctl.new.chain.image c.in-Ok-2.ensures.back c.finish_ioctl.ensures.finishes
 
 pub returns-in-Ok-2-clause-memory : goal.returns-in-Ok-2-clause-memory
 returns-in-Ok-2-clause-memory g c =
@@ -48,7 +48,7 @@ returns-in-Ok-2-clause-given g c =
 
 pub returns-in-Ok-3-clause-answers : goal.returns-in-Ok-3-clause-answers
 returns-in-Ok-3-clause-answers g c =
-    finished_answers g.M.Kind.Kinds.means c.args.chain.now.image c.args.end c.args.request c.begin.new.chain.image (g.A.Replied.says c.in-Ok.reply) c.finish.result.answer c.finish.result.moves c.finish.new.chain.image
+    finished_answers g.M.Kind.Kinds.means c.args.chain.now.image c.args.end c.args.request c.begin.new.chain.image (g.A.ReplyForm.says c.in-Ok.reply) c.finish.result.answer c.finish.result.moves c.finish.new.chain.image
     c.requires.unrefused
     (served_changes c.args.chain.now.image c.args.end c.args.request (sym c.if-is_quiet.ensures))
     (sym c.if-awaits.ensures) c.in-Ok.ensures.begins.image_is c.in-Ok.ensures.begins.reply_is c.finish.ensures.broken c.finish.ensures.finishes

@@ -9,7 +9,7 @@ pub returns-in_err-insert-clause-enough : goal.returns-in_err-insert-clause-enou
 returns-in_err-insert-clause-enough c = λ some.
     let lanes = c.args.lanes.now.items in
     elim (place_or_absent c.args.rank lanes c.requires) [
-      | inl found ↦ let here : IsPlace c.args.rank c.place_of-at.result lanes = rw (c.place_of-at.ensures.value, c.as_slice.ensures.value) found in let both = c.if-stands_at.ensures.1 (rw c.as_slice-2.ensures.value here) in cc
+      | inl found ↦ let here : IsPlace c.args.rank c.place_of-at.result lanes = rw (c.place_of-at.ensures.value, c.as_slice.ensures.value) found in let both = c.if-is_lane_at.ensures.1 (rw c.as_slice-2.ensures.value here) in cc
       | inr absent ↦ let none : spare_of c.args.rank lanes ≡ 0 = ap (λ (x : Ranked). x.spare) (lane_of-absent c.args.rank lanes absent) in absurd (omega (arith, none, some))
     ]
 
@@ -17,7 +17,7 @@ pub returns-clause-laned : goal.returns-clause-laned
 returns-clause-laned c =
     let lanes = c.args.lanes.now.items in
     elim (place_or_absent c.args.rank lanes c.requires) [
-      | inl found ↦ let here : IsPlace c.args.rank c.place_of-at.result lanes = rw (c.place_of-at.ensures.value, c.as_slice.ensures.value) found in let both = c.if-stands_at.ensures.1 (rw c.as_slice-2.ensures.value here) in cc
+      | inl found ↦ let here : IsPlace c.args.rank c.place_of-at.result lanes = rw (c.place_of-at.ensures.value, c.as_slice.ensures.value) found in let both = c.if-is_lane_at.ensures.1 (rw c.as_slice-2.ensures.value here) in cc
       | inr absent ↦
           let other : is_absent c.new.result.rank lanes ≡ true = rw c.new.ensures.rank absent in
           rw (c.in_ok-insert.ensures.items, c.place_of-at.ensures.value, c.as_slice.ensures.value, ← c.new.ensures.rank) (is_laned-insert c.new.result c.new.ensures.messages lanes (c.requires) other)
@@ -30,7 +30,7 @@ pub returns-clause-room : goal.returns-clause-room
 returns-clause-room c =
     let lanes = c.args.lanes.now.items in
     elim (place_or_absent c.args.rank lanes c.requires) [
-      | inl found ↦ let here : IsPlace c.args.rank c.place_of-at.result lanes = rw (c.place_of-at.ensures.value, c.as_slice.ensures.value) found in let both = c.if-stands_at.ensures.1 (rw c.as_slice-2.ensures.value here) in cc
+      | inl found ↦ let here : IsPlace c.args.rank c.place_of-at.result lanes = rw (c.place_of-at.ensures.value, c.as_slice.ensures.value) found in let both = c.if-is_lane_at.ensures.1 (rw c.as_slice-2.ensures.value here) in cc
       | inr absent ↦
           let other : is_absent c.new.result.rank lanes ≡ true = rw c.new.ensures.rank absent in
           λ rank. rw c.in_ok-insert.ensures.items (spare-insert c.new.result c.new.ensures.messages rank lanes c.place_of-at.result other)

@@ -1,5 +1,5 @@
 use Rattle.std.proofs.Common.{◌≡◌, ap, sym, ◌∙◌, arith}
-use Rattle.strm_queue.specs.Lanes.{Ranked, IsPlace, stands_in}
+use Rattle.strm_queue.specs.Lanes.{Ranked, IsPlace, is_of_rank}
 use Rattle.strm_queue.proofs.ListLemmas.{none_flushed}
 use Rattle.strm_queue.proofs.LanesLemmas.{lanes_filter}
 use Rattle.strm_queue.proofs.ChangeLemmas.{flushed, flushed-laned, flush-empty, counted, unspent}
@@ -30,4 +30,4 @@ returns-in-Some-clause-room c = unspent c.args.lanes.now.items c.in-Some.at c.in
 pub returns-in-None-clause-messages : goal.returns-in-None-clause-messages
 returns-in-None-clause-messages c =
     let none = rw c.as_slice.ensures.value at c.in-None.ensures in
-    sym (none_flushed (stands_in c.args.rank) _ (lanes_filter c.args.rank c.args.lanes.now.items c.requires ∙ none))
+    sym (none_flushed (is_of_rank c.args.rank) _ (lanes_filter c.args.rank c.args.lanes.now.items c.requires ∙ none))

@@ -1,6 +1,6 @@
 use Rattle.std.proofs.Common.{◌≡◌, true, ap, ◌∙◌, arith}
 use Rattle.std.specs.List.{list_all}
-use Rattle.strm_queue.specs.Lanes.{Ranked, stands_in, spare_of}
+use Rattle.strm_queue.specs.Lanes.{Ranked, is_of_rank, spare_of}
 use Rattle.strm_queue.proofs.PlaceLemmas.{lane_at}
 use Rattle.strm_queue.proofs.ChangeLemmas.{stood, changed-laned, unspent, unchanged, stays-empty, spare-there, on_ok}
 use Rattle.strm_queue.proofs.lanes.reserve_at.Goals as goal
@@ -11,7 +11,7 @@ stays_laned c =
     let lane = c.index_mut-lane.result.now in
     let is = c.index_mut-lane.ensures.value in
     let within = c.in_ok-at.ensures.place.0 in
-    let stands : list_all (stands_in lane.rank) c.reserve.new.self.messages ≡ true = rw c.reserve.ensures.messages (stood lanes c.in_ok-at.at lane c.reserve.new.self within is c.reserve.ensures.rank c.in_ok-at.ensures.laned) in
+    let stands : list_all (is_of_rank lane.rank) c.reserve.new.self.messages ≡ true = rw c.reserve.ensures.messages (stood lanes c.in_ok-at.at lane c.reserve.new.self within is c.reserve.ensures.rank c.in_ok-at.ensures.laned) in
     changed-laned lanes c.in_ok-at.at lane c.reserve.new.self within is c.reserve.ensures.rank c.in_ok-at.ensures.laned stands
 
 pub returns-clause-laned : goal.returns-clause-laned

@@ -1,14 +1,14 @@
 use Rattle.std.proofs.Common.{◌≡◌, ◌<◌, ◌∷◌, [], true, List, Some, None, MatchOption, Option, length, take, ap, refl, arith}
 use Rattle.std.specs.List.{list_all}
 use Rattle.strm_msg.specs.Message.{Msg}
-use Rattle.strm_queue.specs.Lanes.{stands_in, messages_of}
+use Rattle.strm_queue.specs.Lanes.{is_of_rank, messages_of}
 use Rattle.strm_queue.proofs.ChangeLemmas.{stood, changed-laned, unspent, taken, left_standing}
 use Rattle.strm_queue.proofs.lanes.take_first.Goals as goal
 
 within : (c : goal.After-lanes-1) → c.in_ok-at.at < length c.args.lanes.now.items
 within c = rw c.as_slice.ensures.value at c.in_ok-at.ensures.0
 
-stands : (rank : _) (r : Option Msg) (old new : List Msg) → MatchOption r ((old ≡ []) × (new ≡ [])) (λ m. old ≡ m ∷ new) → list_all (stands_in rank) old ≡ true → list_all (stands_in rank) new ≡ true
+stands : (rank : _) (r : Option Msg) (old new : List Msg) → MatchOption r ((old ≡ []) × (new ≡ [])) (λ m. old ≡ m ∷ new) → list_all (is_of_rank rank) old ≡ true → list_all (is_of_rank rank) new ≡ true
 stands rank None old new both h = rw both.1 refl
 stands rank (Some m) old new e h = left_standing rank m new (rw e at h)
 

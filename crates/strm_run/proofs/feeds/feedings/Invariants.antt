@@ -10,7 +10,7 @@ invariant-loop-feeder g l = record {
   left : into_iter_len l.feeder-iterator ≡ length (into_iter_items l.feeder-iterator);
   rest : l.yielded ++ into_iter_items l.feeder-iterator ≡ l.fn.feeders.items;
   place : l.at ≡ length l.yielded;
-  many : length l.feeds.items ≡ length g.N.Plays.run.setups;
+  many : length l.feeds.items ≡ length g.N.RunName.run.setups;
   behind : (k : ℕ) (d : Vec Msg Global) → l.at ≤ k → get_or l.feeds.items k d ≡ get_or l.fn.feeds.items k d;
-  lines : l.all.items ≡ lines_below g.N.Plays.run.setups l.at;
+  lines : l.all.items ≡ lines_below g.N.RunName.run.setups l.at;
 }

@@ -9,5 +9,5 @@ invariant-loop-ring g l = record {
   left : into_iter_len l.ring-iterator ≡ length (into_iter_items l.ring-iterator);
   rest : l.yielded ++ into_iter_items l.ring-iterator ≡ l.fn.rings.items;
   place : l.number ≡ length l.yielded;
-  opened : AreOpenedTo g.N.Plays.run l.number l.streams.items l.seats.items l.feeders.items;
+  opened : AreOpenedTo g.N.RunName.run l.number l.streams.items l.seats.items l.feeders.items;
 }

@@ -1,12 +1,12 @@
 use Rattle.std.proofs.Common.{◌∙◌, refl, sym}
-use Rattle.strm_crew.specs.Play.{Fits}
+use Rattle.strm_run_callers.specs.Play.{Fits}
 use Rattle.strm_run.proofs.RunLemmas.{any_setup, if_ok, none_such}
 use Rattle.strm_run.proofs.running.run.Goals as goal
 
-pub returns-then-not-are_there-clause-no_such : goal.returns-then-not-are_there-clause-no_such
-returns-then-not-are_there-clause-no_such g c =
-    let are = rw (c.as_slice.ensures.value, c.as_slice-2.ensures.value, c.as_slice-3.ensures.value) at c.are_there.ensures in
-    ((λ is. (sym c.is_crew.ensures ∙ c.if-not-is_crew.false, λ there. absurd (cc (are.1 there, c.if-not-are_there.true)))), (λ all. refl))
+pub returns-then-not-names_resolve-clause-no_such : goal.returns-then-not-names_resolve-clause-no_such
+returns-then-not-names_resolve-clause-no_such g c =
+    let are = rw (c.as_slice.ensures.value, c.as_slice-2.ensures.value, c.as_slice-3.ensures.value) at c.names_resolve.ensures in
+    ((λ is. (sym c.is_worker_count.ensures ∙ c.if-not-is_worker_count.false, λ there. absurd (cc (are.1 there, c.if-not-names_resolve.true)))), (λ all. refl))
 
 pub run_named-requires-clause-fits : goal.run_named-requires-clause-fits
 unfolding Fits
@@ -14,13 +14,13 @@ run_named-requires-clause-fits g c κs within = c.requires.fits
 
 pub run_named-requires-clause-there : goal.run_named-requires-clause-there
 run_named-requires-clause-there g c κs within =
-    let are = rw (c.as_slice.ensures.value, c.as_slice-2.ensures.value, c.as_slice-3.ensures.value) at c.are_there.ensures in
-    are.0 c.if-not-are_there.false
+    let are = rw (c.as_slice.ensures.value, c.as_slice-2.ensures.value, c.as_slice-3.ensures.value) at c.names_resolve.ensures in
+    are.0 c.if-not-names_resolve.false
 
 pub returns-clause-no_such : goal.returns-clause-no_such
 returns-clause-no_such g c =
-    let are = rw (c.as_slice.ensures.value, c.as_slice-2.ensures.value, c.as_slice-3.ensures.value) at c.are_there.ensures in
-    ((λ is. none_such c.run_named.result c.run_named.ensures.late is), (λ all. absurd (all.1 (are.0 c.if-not-are_there.false))))
+    let are = rw (c.as_slice.ensures.value, c.as_slice-2.ensures.value, c.as_slice-3.ensures.value) at c.names_resolve.ensures in
+    ((λ is. none_such c.run_named.result c.run_named.ensures.late is), (λ all. absurd (all.1 (are.0 c.if-not-names_resolve.false))))
 
 pub returns-clause-many : goal.returns-clause-many
 returns-clause-many g c = if_ok _ _ c.run_named.result (λ t logs. logs.many) c.run_named.ensures.logs

@@ -8,7 +8,7 @@ pub transposed-requires : goal.transposed-requires
 transposed-requires g c k d below =
     let ok = c.args.scripts.ok in
     let many : length c.args.scripts.items ≡ c.len-callers.result = search rules in
-    columns_high g.N.Plays.run c.in_ok-all.seats.items c.in_ok-all.ensures.seats_are k d below ∙ ap (λ l. length l) c.requires.scripts ∙ many
+    columns_high g.N.RunName.run c.in_ok-all.seats.items c.in_ok-all.ensures.seats_are k d below ∙ ap (λ l. length l) c.requires.scripts ∙ many
 
 pub feeds_of-requires-clause-there : goal.feeds_of-requires-clause-there
 feeds_of-requires-clause-there g c k d below =
@@ -28,9 +28,9 @@ pub seated-requires-clause-seats : goal.seated-requires-clause-seats
 seated-requires-clause-seats g c κs within =
     let ok = c.args.scripts.ok in
     let many : c.len-callers.result ≡ length c.args.scripts.items = search rules in
-    seated_after g.N.Plays.run c.in_ok-all.seats.items c.in_ok-seats.seats.items c.in_ok-all.ensures.seats_are
+    seated_after g.N.RunName.run c.in_ok-all.seats.items c.in_ok-seats.seats.items c.in_ok-all.ensures.seats_are
     (subst (λ n. IsTransposed c.in_ok-all.seats.items n c.in_ok-seats.seats.items) (many ∙ ap (λ l. length l) (sym c.requires.scripts)) c.in_ok-seats.ensures)
 
 pub finish-requires-clause-lines : goal.finish-requires-clause-lines
 finish-requires-clause-lines g c κs within =
-    run_lines_fed g.N.Plays.run c.args.scripts.items (rw (c.requires.setups, c.requires.feeds) c.requires.there)
+    run_lines_fed g.N.RunName.run c.args.scripts.items (rw (c.requires.setups, c.requires.feeds) c.requires.there)

@@ -4,7 +4,7 @@ use Rattle.clap.specs.Words.{IsPlain, IsPlainArg, Rule, with_rule}
 use Rattle.clap.specs.declared.builder.arg.Arg.{Arg}
 use Rattle.clap.specs.declared.builder.value_parser.ValueParser.TheVariants as parsers
 use Rattle.clap.proofs.CallerLemmas.{added_plain}
-use Rattle.strm_job.specs.declared.judge.TheConstants.{MOST_WORKERS}
+use Rattle.strm_run_input.specs.declared.validation.TheConstants.{MOST_WORKERS}
 use Rattle.strsh_options.proofs.options.command.Goals as goal
 
 pub returns : goal.returns

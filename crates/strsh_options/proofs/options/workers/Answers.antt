@@ -2,7 +2,7 @@ use Rattle.std.proofs.Common.{◌≡◌, ◌∙◌, ap, sym, subst, pos, Some, [
 use Rattle.clap.specs.Words.{IsPlainArg, Rule, rule_of, new_rule}
 use Rattle.clap.specs.declared.builder.arg.Arg.{Arg}
 use Rattle.clap.specs.declared.builder.value_parser.ValueParser.TheVariants as parsers
-use Rattle.strm_job.specs.declared.judge.TheConstants.{MOST_WORKERS}
+use Rattle.strm_run_input.specs.declared.validation.TheConstants.{MOST_WORKERS}
 use Rattle.strsh_options.proofs.options.workers.Goals as goal
 
 pub returns : goal.returns

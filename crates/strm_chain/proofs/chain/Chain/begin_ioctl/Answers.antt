@@ -1,5 +1,5 @@
 use Rattle.std.proofs.Common.{ap}
-use Rattle.strm_ends.specs.Image.{EndsValue}
+use Rattle.strm_chain_ends.specs.Image.{EndsValue}
 use Rattle.strm_chain.proofs.EnablingLemmas.{ready_state, places_state}
 use Rattle.strm_chain.proofs.chain.Chain.begin_ioctl.Goals as goal
 

@@ -1,5 +1,5 @@
 use Rattle.std.proofs.Common.{ap}
-use Rattle.strm_ends.specs.Image.{EndsValue}
+use Rattle.strm_chain_ends.specs.Image.{EndsValue}
 use Rattle.strm_chain.proofs.EnablingLemmas.{ready_broken, places_broken}
 use Rattle.strm_chain.proofs.chain.Chain.break_off.Goals as goal
 

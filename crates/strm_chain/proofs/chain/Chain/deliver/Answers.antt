@@ -28,7 +28,7 @@ returns-in-Err-clause-same g c = tt
 
 pub returns-in-Ok-clause-ok : goal.returns-in-Ok-clause-ok
 returns-in-Ok-clause-ok g c =
-    rw (c.put_back_hops.ensures, ← c.in_ok-m.ensures) (c.in-Ok.ensures.ok ∙ (rw (c.take_hops-hops.ensures.empty, c.take_hops-hops.ensures.same) at c.in_ok-hop.ensures.image) ∙ c.handed_in-hop.ensures)
+    rw (c.put_back_hops.ensures, ← c.in_ok-m.ensures) (c.in-Ok.ensures.ok ∙ (rw (c.take_hops-hops.ensures.empty, c.take_hops-hops.ensures.same) at c.in_ok-hop.ensures.image) ∙ c.first_hop-hop.ensures)
 
 pub returns-in-Ok-clause-whole : goal.returns-in-Ok-clause-whole
 returns-in-Ok-clause-whole g c = rw (← c.self.view_is) (sym c.is_broken.ensures ∙ c.if-is_broken.false)
@@ -36,7 +36,7 @@ returns-in-Ok-clause-whole g c = rw (← c.self.view_is) (sym c.is_broken.ensure
 pub returns-in-Ok-clause-same : goal.returns-in-Ok-clause-same
 returns-in-Ok-clause-same g c =
     rw (c.put_back_hops.ensures, ← c.take_hops-hops.ensures.same)
-    (same_trans c.take_hops-hops.new.self.image c.hop.new.self.image c.carry_all.new.self.image c.hop.ensures.same c.carry_all.ensures.same)
+    (same_trans c.take_hops-hops.new.self.image c.hop.new.self.image c.deliver_all.new.self.image c.hop.ensures.same c.deliver_all.ensures.same)
 
 pub returns-in-Ok-clause-refused : goal.returns-in-Ok-clause-refused
 returns-in-Ok-clause-refused g c = tt

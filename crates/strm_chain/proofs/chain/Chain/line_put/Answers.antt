@@ -1,18 +1,18 @@
 use Rattle.std.proofs.Common.{◌≡◌, ◌∙◌, ap, refl}
-use Rattle.strm_ends.specs.declared.place.Place.{Place}
-use Rattle.strm_ends.specs.Flow.{turn_of}
-use Rattle.strm_ends.specs.Image.{end_of}
-use Rattle.strm_qpair.specs.End.{in_drv}
+use Rattle.strm_chain_ends.specs.declared.place.Place.{Place}
+use Rattle.strm_chain_ends.specs.Flow.{turn_of}
+use Rattle.strm_chain_ends.specs.Image.{end_of}
+use Rattle.strm_chain_end.specs.End.{in_drv}
 use Rattle.strm_queue.specs.Queue.{put_in}
-use Rattle.strm_ends.proofs.TurnLemmas.{turns_with}
-use Rattle.strm_ends.specs.declared.place.NextQueue.TheVariants.{Of}
-use Rattle.strm_ends.specs.declared.place.Place.TheVariants as Places
-use Rattle.strm_ends.specs.Held.{DiffersIn}
-use Rattle.strm_ends.proofs.NextLemmas.{ways_of_same}
+use Rattle.strm_chain_ends.proofs.TurnLemmas.{turns_with}
+use Rattle.strm_chain_ends.specs.declared.place.NextQueue.TheVariants.{Of}
+use Rattle.strm_chain_ends.specs.declared.place.Place.TheVariants as Places
+use Rattle.strm_chain_ends.specs.Held.{DiffersIn}
+use Rattle.strm_chain_ends.proofs.NextLemmas.{ways_of_same}
 use Rattle.strm_chain.proofs.CaseLemmas.{on_result}
 use Rattle.strm_chain.proofs.EnablingLemmas.{places_same}
 use Rattle.strm_module.specs.Driver.{input_end}
-use Rattle.strm_ends.proofs.FrameLemmas.{line_put_differs, same_differs}
+use Rattle.strm_chain_ends.proofs.FrameLemmas.{line_put_differs, same_differs}
 use Rattle.strm_chain.proofs.chain.Chain.line_put.Goals as goal
 
 pub invariant_of-self : goal.invariant_of-self
@@ -28,8 +28,8 @@ invariant_of-self g c =
     (on_result c.line_put-answer.result _ _ _ c.line_put-answer.ensures.ok c.line_put-answer.ensures.err
     (λ e. line_put_differs old new at c.args.m e)
     (λ e. same_differs old new (Of (Places.Drv at)) e)) in (
-      c.wake.ensures.ready old c.len-before.ensures c.self.invariant.0 differs (λ p _ _. turns p),
-      c.wake.ensures.places (places_same old new c.self.inside.enabling.run.items (ways_of_same old new differs.same) c.self.invariant.1),
+      c.enable_by_change.ensures.ready old c.len-before.ensures c.self.invariant.0 differs (λ p _ _. turns p),
+      c.enable_by_change.ensures.places (places_same old new c.self.inside.enabling.run.items (ways_of_same old new differs.same) c.self.invariant.1),
       c.self.invariant.2,
     )
 

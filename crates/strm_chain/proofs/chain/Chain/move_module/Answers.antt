@@ -1,15 +1,15 @@
 use Rattle.std.proofs.Common.{◌≡◌, ◌-◌, ◌∙◌, false, OnOk, map, ap, subst}
-use Rattle.strm_ends.specs.Image.{Image, count_of}
+use Rattle.strm_chain_ends.specs.Image.{Image, count_of}
 use Rattle.strm_chain.specs.Service.{move}
-use Rattle.strm_chain.specs.Hop.{carry_all, hop_of}
-use Rattle.strm_ends.specs.Held.{module_place}
+use Rattle.strm_chain.specs.Hop.{deliver_all, hop_of}
+use Rattle.strm_chain_ends.specs.Held.{module_place}
 use Rattle.strm_chain.proofs.HopLemmas.{rest_after, module_move}
 use Rattle.std.proofs.Common.{true, [], refl, arith}
-use Rattle.strm_ends.specs.Image.{end_of}
-use Rattle.strm_ends.proofs.CalmLemmas.{serves_calm}
+use Rattle.strm_chain_ends.specs.Image.{end_of}
+use Rattle.strm_chain_ends.proofs.CalmLemmas.{serves_calm}
 use Rattle.strm_chain.specs.Service.{serve_at}
 use Rattle.strm_module.specs.Calm.{options_sent}
-use Rattle.strm_ends.specs.Count.{answers_options}
+use Rattle.strm_chain_ends.specs.Count.{answers_options}
 use Rattle.strm_chain.specs.Count.{options_carried, are_calm_hops}
 use Rattle.strm_chain.proofs.CaseLemmas.{on_ok}
 use Rattle.strm_chain.proofs.CountLemmas.{outs_calm, outs_set}
@@ -25,17 +25,17 @@ returns-clause-ok g c =
     let at : below ≡ count_of old c.args.end - c.args.i = c.saturating_sub-below.ensures ∙ ap (λ k. k - c.args.i) c.count.ensures.value in
     let there = move means old (module_place c.args.side c.args.end c.args.i) in
     let hops = c.push_outs.new.hops.items in
-    let e : carry_all means new hops ≡ there =
+    let e : deliver_all means new hops ≡ there =
     rest_after means new there (map (hop_of false c.args.side c.args.end c.args.i below) c.in_ok-outs.outs.items) c.args.hops.now.items hops c.push_outs.ensures.items
-    (rw (c.in_ok-outs.ensures.image, c.in_ok-outs.ensures.outs) (module_move means c.args.side c.args.end c.args.i below old at)) ∙ ap (carry_all means there) c.requires.empty in
-    subst (λ (j : Image _). OnOk c.carry_all.result (c.carry_all.new.self.image ≡ j)) e c.carry_all.ensures.ok
+    (rw (c.in_ok-outs.ensures.image, c.in_ok-outs.ensures.outs) (module_move means c.args.side c.args.end c.args.i below old at)) ∙ ap (deliver_all means there) c.requires.empty in
+    subst (λ (j : Image _). OnOk c.deliver_all.result (c.deliver_all.new.self.image ≡ j)) e c.deliver_all.ensures.ok
 
 pub returns-clause-moves : goal.returns-clause-moves
 returns-clause-moves g c =
     let means = g.M.Kind.Kinds.means in
     let old = c.args.self.now.image in
     let below = c.saturating_sub-below.result in
-    on_ok c.carry_all.result _ _ c.carry_all.ensures.grows
+    on_ok c.deliver_all.result _ _ c.deliver_all.ensures.grows
     (λ grow kinds enabled.
     let outs = (serves_calm means (end_of old c.args.end) c.args.i c.args.side kinds c.count.ensures.ordinary).0 in
     let hops : are_calm_hops c.push_outs.new.hops.items ≡ true =
@@ -52,10 +52,10 @@ returns-clause-moves g c =
 
 pub returns-clause-same : goal.returns-clause-same
 returns-clause-same g c =
-    same_trans c.args.self.now.image c.serve_at.new.self.image c.carry_all.new.self.image c.serve_at.ensures.same c.carry_all.ensures.same
+    same_trans c.args.self.now.image c.serve_at.new.self.image c.deliver_all.new.self.image c.serve_at.ensures.same c.deliver_all.ensures.same
 
 pub returns-clause-given : goal.returns-clause-given
-returns-clause-given g c = c.carry_all.ensures.given ∙ c.serve_at.ensures.given
+returns-clause-given g c = c.deliver_all.ensures.given ∙ c.serve_at.ensures.given
 
 pub returns-in_err-outs-clause-same : goal.returns-in_err-outs-clause-same
 returns-in_err-outs-clause-same g c = c.serve_at.ensures.same

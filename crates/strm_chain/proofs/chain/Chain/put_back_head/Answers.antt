@@ -1,16 +1,16 @@
-use Rattle.strm_ends.specs.declared.place.Place.{Place}
-use Rattle.strm_ends.specs.Flow.{turn_of}
-use Rattle.strm_ends.specs.Image.{end_of}
-use Rattle.strm_qpair.specs.End.{in_head}
+use Rattle.strm_chain_ends.specs.declared.place.Place.{Place}
+use Rattle.strm_chain_ends.specs.Flow.{turn_of}
+use Rattle.strm_chain_ends.specs.Image.{end_of}
+use Rattle.strm_chain_end.specs.End.{in_head}
 use Rattle.strm_queue.specs.Queue.{put_back_in}
 use Rattle.std.proofs.Common.{◌∙◌, refl, ap, ◌≡◌}
-use Rattle.strm_ends.proofs.TurnLemmas.{turns_with}
-use Rattle.strm_ends.specs.declared.place.NextQueue.TheVariants.{Head}
-use Rattle.strm_ends.specs.Held.{DiffersIn}
-use Rattle.strm_ends.proofs.NextLemmas.{ways_of_same}
+use Rattle.strm_chain_ends.proofs.TurnLemmas.{turns_with}
+use Rattle.strm_chain_ends.specs.declared.place.NextQueue.TheVariants.{Head}
+use Rattle.strm_chain_ends.specs.Held.{DiffersIn}
+use Rattle.strm_chain_ends.proofs.NextLemmas.{ways_of_same}
 use Rattle.strm_chain.proofs.CaseLemmas.{on_result}
 use Rattle.strm_chain.proofs.EnablingLemmas.{places_same}
-use Rattle.strm_ends.proofs.FrameLemmas.{put_back_differs, same_differs}
+use Rattle.strm_chain_ends.proofs.FrameLemmas.{put_back_differs, same_differs}
 use Rattle.strm_chain.proofs.chain.Chain.put_back_head.Goals as goal
 
 pub invariant_of-self : goal.invariant_of-self
@@ -23,8 +23,8 @@ invariant_of-self g c =
     on_result c.put_back_head-answer.result _ _ _ c.put_back_head-answer.ensures.ok c.put_back_head-answer.ensures.err
     (λ e. put_back_differs old c.args.end new c.args.m e)
     (λ e. same_differs old new (Head c.args.end) e) in (
-      c.wake.ensures.ready old c.len-before.ensures c.self.invariant.0 differs (λ p _ _. turns p),
-      c.wake.ensures.places (places_same old new c.self.inside.enabling.run.items (ways_of_same old new differs.same) c.self.invariant.1),
+      c.enable_by_change.ensures.ready old c.len-before.ensures c.self.invariant.0 differs (λ p _ _. turns p),
+      c.enable_by_change.ensures.places (places_same old new c.self.inside.enabling.run.items (ways_of_same old new differs.same) c.self.invariant.1),
       c.self.invariant.2,
     )
 

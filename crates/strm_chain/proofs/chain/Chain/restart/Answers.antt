@@ -1,5 +1,5 @@
 use Rattle.std.proofs.Common.{ap, length, arith}
-use Rattle.strm_ends.specs.Count.{place_count}
+use Rattle.strm_chain_ends.specs.Count.{place_count}
 use Rattle.strm_chain.specs.Enabled.{ChainValue, Enabled}
 use Rattle.strm_chain.proofs.EnablingLemmas.{places_few}
 use Rattle.strm_chain.proofs.chain.Chain.restart.Goals as goal

@@ -1,6 +1,6 @@
 use Rattle.std.proofs.Common.{◌≡◌, ◌+◌, ◌∷◌, ◌++◌, [], true, false, length, length-append, ◌∙◌, ap, sym, refl, arith}
-use Rattle.strm_ends.specs.Flow.{may}
-use Rattle.strm_ends.specs.Count.{message_count, place_count, options_count}
+use Rattle.strm_chain_ends.specs.Flow.{may}
+use Rattle.strm_chain_ends.specs.Count.{message_count, place_count, options_count}
 use Rattle.strm_chain.specs.Enabled.{ChainValue}
 use Rattle.strm_chain.proofs.QuietLemmas.{Leads-snoc, same_trans, leads_to, same_to}
 use Rattle.strm_chain.proofs.chain.Chain.settle.Goals as goal
@@ -10,20 +10,20 @@ loop-place-preserved g c =
     let l = c.loop-place.invariant in
     let before = c.take_hops-hops.new.self.image in
     let at = c.loop-place.self.image in
-    let now = c.look.new.self.image in
+    let now = c.next_enabled.new.self.image in
     let counted = c.in-Some.ensures.given in
     record {
       empty = l.empty;
-      leads = leads_to _ c.loop-place.moves before at now c.look.ensures.image l.leads;
-      same = same_to before at now c.look.ensures.image l.same;
+      leads = leads_to _ c.loop-place.moves before at now c.next_enabled.ensures.image l.leads;
+      same = same_to before at now c.next_enabled.ensures.image l.same;
       whole = l.whole;
-      still = λ none. c.look.ensures.image ∙ l.still none;
+      still = λ none. c.next_enabled.ensures.image ∙ l.still none;
       least = omega (arith, l.least, l.counted, counted);
       most = λ kinds.
           let before = l.most kinds in
           let rested = c.in-Some.ensures.rests c.if-may.false in
-          let same = ap message_count c.look.ensures.image in
-          let options = ap options_count c.look.ensures.image in
+          let same = ap message_count c.next_enabled.ensures.image in
+          let options = ap options_count c.next_enabled.ensures.image in
           omega (arith, before, rested, same, options, counted);
       own = omega (arith, l.own, c.in-Some.ensures.rests c.if-may.false, counted);
       counted = l.counted;
@@ -34,7 +34,7 @@ loop-place-preserved-in-Continue-1 g c =
     let l = c.loop-place.invariant in
     let before = c.take_hops-hops.new.self.image in
     let at = c.loop-place.self.image in
-    let mid = c.look.new.self.image in
+    let mid = c.next_enabled.new.self.image in
     let now = c.move_one.new.self.image in
     let place = c.in-Some.place in
     let counted = c.in-Some.ensures.given in
@@ -42,23 +42,23 @@ loop-place-preserved-in-Continue-1 g c =
     let few = c.in_ok-move_one.ensures.counted in
     let long : length (c.loop-place.moves ++ place ∷ []) ≡ length c.loop-place.moves + 1 = length-append c.loop-place.moves (place ∷ []) in
     let all = ap length c.in_ok-move_one.ensures.moves in
-    let may_now : may g.M.Kind.Kinds.means mid place ≡ true = ap (λ i. may g.M.Kind.Kinds.means i place) c.look.ensures.image ∙ c.in-Some.ensures.may ∙ c.if-may.true in
-    let to_mid = leads_to _ c.loop-place.moves before at mid c.look.ensures.image l.leads in
+    let may_now : may g.M.Kind.Kinds.means mid place ≡ true = ap (λ i. may g.M.Kind.Kinds.means i place) c.next_enabled.ensures.image ∙ c.in-Some.ensures.may ∙ c.if-may.true in
+    let to_mid = leads_to _ c.loop-place.moves before at mid c.next_enabled.ensures.image l.leads in
     record {
       empty = c.in_ok-move_one.ensures.done;
       leads = rw c.in_ok-move_one.ensures.moves
           (Leads-snoc _ c.loop-place.moves before mid now place to_mid may_now c.in_ok-move_one.ensures.ok);
-      same = same_trans before mid now (same_to before at mid c.look.ensures.image l.same) c.in_ok-move_one.ensures.same;
+      same = same_trans before mid now (same_to before at mid c.next_enabled.ensures.image l.same) c.in_ok-move_one.ensures.same;
       whole = l.whole;
       still = λ none.
-          let moves : true ≡ false = sym may_now ∙ ap (λ i. may g.M.Kind.Kinds.means i place) (c.look.ensures.image ∙ l.still none) ∙ none place in
+          let moves : true ≡ false = sym may_now ∙ ap (λ i. may g.M.Kind.Kinds.means i place) (c.next_enabled.ensures.image ∙ l.still none) ∙ none place in
           cc;
       least = omega (arith, l.least, counted, kept, few, long, all);
       most = λ kinds.
           let before = l.most kinds in
           let looked = c.in-Some.ensures.moves c.if-may.true in
-          let same = ap message_count c.look.ensures.image in
-          let options = ap options_count c.look.ensures.image in
+          let same = ap message_count c.next_enabled.ensures.image in
+          let options = ap options_count c.next_enabled.ensures.image in
           let more = c.in_ok-move_one.ensures.more kinds (c.in-Some.ensures.enabled c.if-may.true) in
           omega (arith, before, looked, same, options, counted, kept, more, long, all);
       own = omega (arith, l.own, counted, kept, c.in_ok-move_one.ensures.few, long, all);
@@ -70,7 +70,7 @@ returns-clause-most g c =
     let began = ap (λ (v : ChainValue _). v.image) c.take_hops-hops.ensures.same ∙ c.restart.ensures.image in
     λ kinds.
     let most = c.loop-place.invariant.most kinds in
-    let kept = ap (λ (v : ChainValue _). v.image) c.put_back_hops.ensures ∙ c.look.ensures.image in
+    let kept = ap (λ (v : ChainValue _). v.image) c.put_back_hops.ensures ∙ c.next_enabled.ensures.image in
     let looked = ap message_count kept in
     let set = ap options_count kept in
     let places = ap place_count began in
@@ -104,13 +104,13 @@ pub returns-then-is_broken-clause-same : goal.returns-then-is_broken-clause-same
 returns-then-is_broken-clause-same g c = tt
 
 pub returns-clause-moves : goal.returns-clause-moves
-returns-clause-moves g c = rw (c.put_back_hops.ensures, c.look.ensures.image, ← c.restart.ensures.image, ← c.take_hops-hops.ensures.same) c.loop-place.invariant.leads
+returns-clause-moves g c = rw (c.put_back_hops.ensures, c.next_enabled.ensures.image, ← c.restart.ensures.image, ← c.take_hops-hops.ensures.same) c.loop-place.invariant.leads
 
 pub returns-clause-same : goal.returns-clause-same
-returns-clause-same g c = rw (c.put_back_hops.ensures, c.look.ensures.image, ← c.restart.ensures.image, ← c.take_hops-hops.ensures.same) c.loop-place.invariant.same
+returns-clause-same g c = rw (c.put_back_hops.ensures, c.next_enabled.ensures.image, ← c.restart.ensures.image, ← c.take_hops-hops.ensures.same) c.loop-place.invariant.same
 
 pub returns-clause-quiet : goal.returns-clause-quiet
-returns-clause-quiet g c = rw (c.put_back_hops.ensures, c.look.ensures.image) c.in_default.ensures.quiet
+returns-clause-quiet g c = rw (c.put_back_hops.ensures, c.next_enabled.ensures.image) c.in_default.ensures.quiet
 
 pub returns-clause-none : goal.returns-clause-none
 returns-clause-none g c = rw c.put_back_hops.ensures c.in_default.ensures.none

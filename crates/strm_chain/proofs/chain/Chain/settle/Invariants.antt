@@ -1,8 +1,8 @@
 use Rattle.std.proofs.Common.{◌≡◌, ◌<◌, ◌≤◌, ◌+◌, ◌-◌, ◌*◌, ◌^◌, false, [], length}
-use Rattle.strm_ends.specs.Same.{SameModules}
-use Rattle.strm_ends.specs.Flow.{NoneMay}
+use Rattle.strm_chain_ends.specs.Same.{SameModules}
+use Rattle.strm_chain_ends.specs.Flow.{NoneMay}
 use Rattle.strm_module.specs.Calm.{IsCalm}
-use Rattle.strm_ends.specs.Count.{message_count, place_count, options_count}
+use Rattle.strm_chain_ends.specs.Count.{message_count, place_count, options_count}
 use Rattle.strm_chain.specs.Count.{looks_at_most}
 use Rattle.strm_chain.specs.Service.{Leads}
 use Rattle.strm_chain.proofs.chain.Chain.settle.Given as goal

@@ -1,19 +1,19 @@
-use Rattle.strm_ends.specs.declared.place.Place.{Place}
-use Rattle.strm_ends.specs.Flow.{turn_of}
-use Rattle.strm_ends.specs.Image.{end_of}
-use Rattle.strm_qpair.specs.End.{in_drv}
+use Rattle.strm_chain_ends.specs.declared.place.Place.{Place}
+use Rattle.strm_chain_ends.specs.Flow.{turn_of}
+use Rattle.strm_chain_ends.specs.Image.{end_of}
+use Rattle.strm_chain_end.specs.End.{in_drv}
 use Rattle.std.proofs.Common.{◌∙◌, ◌≡◌, length, refl, ap, arith}
-use Rattle.strm_ends.proofs.TurnLemmas.{turns_with}
-use Rattle.strm_ends.specs.declared.place.NextQueue.TheVariants.{Of}
-use Rattle.strm_ends.specs.declared.place.Place.TheVariants as Places
-use Rattle.strm_ends.specs.Held.{held_by, DiffersIn}
-use Rattle.strm_ends.proofs.NextLemmas.{ways_of_same}
+use Rattle.strm_chain_ends.proofs.TurnLemmas.{turns_with}
+use Rattle.strm_chain_ends.specs.declared.place.NextQueue.TheVariants.{Of}
+use Rattle.strm_chain_ends.specs.declared.place.Place.TheVariants as Places
+use Rattle.strm_chain_ends.specs.Held.{held_by, DiffersIn}
+use Rattle.strm_chain_ends.proofs.NextLemmas.{ways_of_same}
 use Rattle.strm_module.specs.Calm.{options_of, options_held}
-use Rattle.strm_ends.specs.Count.{answers_options}
+use Rattle.strm_chain_ends.specs.Count.{answers_options}
 use Rattle.strm_chain.proofs.CaseLemmas.{on_option, if_some, if_none}
 use Rattle.strm_chain.proofs.CountLemmas.{drv_served, drv_sets_less, count_take}
 use Rattle.strm_chain.proofs.EnablingLemmas.{places_same}
-use Rattle.strm_ends.proofs.FrameLemmas.{take_driver_differs, same_differs}
+use Rattle.strm_chain_ends.proofs.FrameLemmas.{take_driver_differs, same_differs}
 use Rattle.strm_chain.proofs.chain.Chain.take_driver.Goals as goal
 
 pub invariant_of-self : goal.invariant_of-self
@@ -26,8 +26,8 @@ invariant_of-self g c =
     on_option c.take_driver-first.result _ _ _ c.take_driver-first.ensures.some c.take_driver-first.ensures.none
     (λ m e. take_driver_differs old c.args.end new m c.take_driver-first.ensures.same e.0 e.1)
     (λ e. same_differs old new (Of (Places.Drv c.args.end)) e.1) in (
-      c.wake.ensures.ready old c.len-before.ensures c.self.invariant.0 differs (λ p _ _. turns p),
-      c.wake.ensures.places (places_same old new c.self.inside.enabling.run.items (ways_of_same old new differs.same) c.self.invariant.1),
+      c.enable_by_change.ensures.ready old c.len-before.ensures c.self.invariant.0 differs (λ p _ _. turns p),
+      c.enable_by_change.ensures.places (places_same old new c.self.inside.enabling.run.items (ways_of_same old new differs.same) c.self.invariant.1),
       c.self.invariant.2,
     )
 
@@ -39,9 +39,9 @@ returns-clause-moves g c =
     rw (← c.self.view_is)
     (if_some c.take_driver-first.result _ _ c.take_driver-first.ensures.some
     (λ m e enabled.
-    let less = c.wake.ensures.taken place refl enabled in
+    let less = c.enable_by_change.ensures.taken place refl enabled in
     let b = answers_options old.driver in
-    count_take old new (Of place) (length c.self.inside.enabling.run.items) (length c.wake.new.self.run.items) (options_of b m) (take_driver_differs old c.args.end new m c.take_driver-first.ensures.same e.0 e.1) (drv_served old new c.args.end m e.0) less (drv_sets_less b old new c.args.end m e.0)))
+    count_take old new (Of place) (length c.self.inside.enabling.run.items) (length c.enable_by_change.new.self.run.items) (options_of b m) (take_driver_differs old c.args.end new m c.take_driver-first.ensures.same e.0 e.1) (drv_served old new c.args.end m e.0) less (drv_sets_less b old new c.args.end m e.0)))
 
 pub returns-clause-rests : goal.returns-clause-rests
 returns-clause-rests g c =
@@ -51,11 +51,11 @@ returns-clause-rests g c =
     rw (← c.self.view_is)
     (if_none c.take_driver-first.result _ _ c.take_driver-first.ensures.none
     (λ e enabled.
-    let less = c.wake.ensures.taken place refl enabled in
+    let less = c.enable_by_change.ensures.taken place refl enabled in
     let b = answers_options old.driver in
     let held = ap (λ i. options_held b (held_by i (Of place))) e.1 in
     let long = ap (λ i. length (held_by i (Of place))) e.1 in
-    count_take old new (Of place) (length c.self.inside.enabling.run.items) (length c.wake.new.self.run.items) 0 (same_differs old new (Of place) e.1) (record { fewer = omega (arith, long); one = omega (arith, long) }) less (omega (arith, held))))
+    count_take old new (Of place) (length c.self.inside.enabling.run.items) (length c.enable_by_change.new.self.run.items) 0 (same_differs old new (Of place) e.1) (record { fewer = omega (arith, long); one = omega (arith, long) }) less (omega (arith, held))))
 
 pub returns-clause-some : goal.returns-clause-some
 returns-clause-some g c = rw (← c.self.view_is) c.take_driver-first.ensures.some
@@ -67,4 +67,4 @@ pub returns-clause-same : goal.returns-clause-same
 returns-clause-same g c = rw (← c.self.view_is) c.take_driver-first.ensures.same
 
 pub returns-clause-given : goal.returns-clause-given
-returns-clause-given g c = rw (← c.self.view_is) c.wake.ensures.given
+returns-clause-given g c = rw (← c.self.view_is) c.enable_by_change.ensures.given

@@ -1,14 +1,14 @@
-use Rattle.strm_ends.specs.declared.place.Place.{Place}
-use Rattle.strm_ends.specs.Flow.{turn_of}
-use Rattle.strm_ends.specs.Image.{end_of}
-use Rattle.strm_qpair.specs.End.{in_head}
+use Rattle.strm_chain_ends.specs.declared.place.Place.{Place}
+use Rattle.strm_chain_ends.specs.Flow.{turn_of}
+use Rattle.strm_chain_ends.specs.Image.{end_of}
+use Rattle.strm_chain_end.specs.End.{in_head}
 use Rattle.std.proofs.Common.{drop, ◌∙◌, refl, ap, ◌≡◌}
-use Rattle.strm_ends.proofs.TurnLemmas.{turns_with}
-use Rattle.strm_ends.specs.declared.place.NextQueue.TheVariants.{Head}
-use Rattle.strm_ends.specs.Held.{DiffersIn}
-use Rattle.strm_ends.proofs.NextLemmas.{ways_of_same}
+use Rattle.strm_chain_ends.proofs.TurnLemmas.{turns_with}
+use Rattle.strm_chain_ends.specs.declared.place.NextQueue.TheVariants.{Head}
+use Rattle.strm_chain_ends.specs.Held.{DiffersIn}
+use Rattle.strm_chain_ends.proofs.NextLemmas.{ways_of_same}
 use Rattle.strm_chain.proofs.EnablingLemmas.{places_same}
-use Rattle.strm_ends.proofs.FrameLemmas.{take_head_differs}
+use Rattle.strm_chain_ends.proofs.FrameLemmas.{take_head_differs}
 use Rattle.strm_chain.proofs.chain.Chain.take_head.Goals as goal
 
 pub invariant_of-self : goal.invariant_of-self
@@ -18,8 +18,8 @@ invariant_of-self g c =
     let turns : (p : Place) → turn_of g.M.Kind.Kinds.means new p ≡ turn_of g.M.Kind.Kinds.means old p = λ p. ap (λ i. turn_of g.M.Kind.Kinds.means i p) c.take_head-first.ensures.image ∙ turns_with g.M.Kind.Kinds.means old c.args.end (in_head (end_of old c.args.end) (drop 1 (end_of old c.args.end).head)) refl p in
     let differs : DiffersIn old new (Head c.args.end) =
     take_head_differs old c.args.end new c.take_head-first.ensures.image in (
-      c.wake.ensures.ready old c.len-before.ensures c.self.invariant.0 differs (λ p _ _. turns p),
-      c.wake.ensures.places (places_same old new c.self.inside.enabling.run.items (ways_of_same old new differs.same) c.self.invariant.1),
+      c.enable_by_change.ensures.ready old c.len-before.ensures c.self.invariant.0 differs (λ p _ _. turns p),
+      c.enable_by_change.ensures.places (places_same old new c.self.inside.enabling.run.items (ways_of_same old new differs.same) c.self.invariant.1),
       c.self.invariant.2,
     )
 

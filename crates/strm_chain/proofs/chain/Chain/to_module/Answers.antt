@@ -4,11 +4,11 @@ use Rattle.strm_chain.specs.Hop.{carry, hop_of, next_module}
 use Rattle.strm_chain.proofs.HopLemmas.{rest_after, module_hop}
 use Rattle.strm_chain.proofs.LoadLemmas.{outs_fall}
 use Rattle.std.proofs.Common.{◌-◌}
-use Rattle.strm_ends.specs.Image.{end_of}
-use Rattle.strm_ends.proofs.CalmLemmas.{gets_calm}
+use Rattle.strm_chain_ends.specs.Image.{end_of}
+use Rattle.strm_chain_ends.proofs.CalmLemmas.{gets_calm}
 use Rattle.strm_chain.specs.Deliver.{put_at}
 use Rattle.std.proofs.Common.{arith}
-use Rattle.strm_ends.specs.Count.{answers_options}
+use Rattle.strm_chain_ends.specs.Count.{answers_options}
 use Rattle.strm_chain.specs.Count.{options_carried}
 use Rattle.strm_chain.proofs.CountLemmas.{outs_calm, outs_set}
 use Rattle.strm_chain.proofs.chain.Chain.to_module.Goals as goal

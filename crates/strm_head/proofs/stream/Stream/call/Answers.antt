@@ -1,4 +1,4 @@
-use Rattle.strm_head.specs.Begin.{out_of}
+use Rattle.strm_head.specs.Effects.{out_of}
 use Rattle.strm_head.proofs.KeptLemmas.{answered_kept}
 use Rattle.strm_head.proofs.stream.Stream.call.Goals as goal
 

@@ -41,7 +41,7 @@ returns-clause-spent c = λ rank.
 pub invariant_of-self-2 : goal.invariant_of-self-2
 invariant_of-self-2 c = record {
   laned = c.in_ok-at.ensures.laned;
-  empty = rw c.min-self-inside.ensures (lowered_empty c.self.inside.front c.in_ok-at.at c.self.inside.lanes.items c.put_behind.new.lanes.items c.in_ok-at.ensures.before c.self.invariant.empty);
+  empty = rw c.min-self-inside.ensures (lowered_empty c.self.inside.front c.in_ok-at.at c.self.inside.lanes.items c.push_last_of_rank.new.lanes.items c.in_ok-at.ensures.before c.self.invariant.empty);
   counted = grind (arith, common_steps);
   most = omega (arith, c.self.invariant.most, c.if-self-eq-MOST.false);
 }

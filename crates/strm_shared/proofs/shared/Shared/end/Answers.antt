@@ -1,4 +1,4 @@
-use Rattle.strm_history.proofs.SerialLemmas.{legal_accounts}
+use Rattle.strm_shared_log.proofs.SerialLemmas.{legal_accounts}
 use Rattle.strm_shared.proofs.TurnLemmas.{counts_agree, if_ok_more, no_memory_receipt, no_memory_seats, on_ok, same_fault}
 use Rattle.strm_shared.proofs.shared.Shared.end.Goals as goal
 

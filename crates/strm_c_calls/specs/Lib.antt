@@ -1,0 +1,10 @@
+pub mod Owned
+pub mod Codes
+pub mod Arguments
+pub mod Judged
+pub mod Returned
+pub mod Fits
+pub mod Call
+pub mod Arrival
+pub mod Outside
+pub mod Polls

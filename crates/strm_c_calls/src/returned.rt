@@ -1,0 +1,282 @@
+//! The parts of an answer that are written where the caller has room for them.
+ghost use Rattle.std.specs.Prelude.{◌≡◌, pos, negsuc, option_copied};
+ghost use Rattle.strm_head_calls.specs.declared.answer.Reply.TheVariants as Replies;
+ghost use Rattle.strm_c_numbers.specs.Numbers as numbers;
+ghost use Rattle.strm_c_numbers.specs.Bytes.{filled, filled_if};
+ghost use Rattle.strm_c_calls.specs.Codes as codes;
+ghost use Rattle.strm_c_calls.specs.Returned.{ctl_of, dat_of, got_whole, got_of, reply_next, received_flags, received_band, returned_value, returned_bytes, name_field, returned_name, returned_count, HasTaken, IsValue, AreValues, IsNamed};
+
+use crate::codes::{more_number, priority_number};
+use strm_c_numbers::{fill, fill_part, int_of, kind_number, length_of, read_number};
+use strm_head_calls::{Acknowledged, Answer, Received, Reply};
+use strm_msg::{Message, MsgKind};
+
+/// The description of a message or of an ioctl that is returned with its bytes.
+#[repr(C)]
+#[derive(Drop)]
+pub struct Returned {
+    /// The length of control, -1 for none.
+    pub ctl_len: i32,
+    /// The length of data, -1 for none.
+    pub dat_len: i32,
+    /// 1, or 0 if nothing was found. For an ioctl its answer: STRM_ACK, STRM_NAK or STRM_TIMEOUT.
+    pub found: i32,
+    /// RS_HIPRI or 0. For getpmsg MSG_HIPRI or MSG_BAND. For a message of a wire, the number of its kind.
+    pub flags: i32,
+    /// The band of the message of getpmsg, or of a wire.
+    pub band: i32,
+    /// MORECTL, MOREDATA, both or neither.
+    pub more: i32,
+    /// The value that an ioctl returned.
+    pub rval: u64,
+}
+
+/// The description of parts of these lengths.
+fn lengths(ctl_len: i32, dat_len: i32, flags: i32) -> Returned
+    ensures { result ≡ record { ctl_len = ctl_len; dat_len = dat_len; found = pos 1; flags = flags; band = pos 0; more = pos 0; rval = 0 } }
+{
+    Returned {
+        ctl_len,
+        dat_len,
+        found: 1,
+        flags,
+        band: 0,
+        more: 0,
+        rval: 0,
+    }
+}
+
+/// The description of a reply without parts.
+fn nothing(found: i32) -> Returned
+    ensures { result ≡ record { ctl_len = negsuc 0; dat_len = negsuc 0; found = found; flags = pos 0; band = pos 0; more = pos 0; rval = 0 } }
+{
+    Returned {
+        found,
+        ..lengths(-1, -1, 0)
+    }
+}
+
+/// The flags and the band of the message of getpmsg.
+fn received(flag: Received) -> (i32, i32)
+    ensures { result ≡ (pos (received_flags flag), numbers.int_of (received_band flag)) }
+{
+    match flag {
+        Received::Band { band } => (4, int_of(u64::from(band))),
+        Received::Hipri => (1, 0),
+    }
+}
+
+/// Writes the data of an ioctl's answer, and returns the description of the answer.
+fn write_ack(answer: &Acknowledged, dat: &mut [u8]) -> Returned
+    ensures bytes { dat.new ≡ filled_if (dat_of (Replies.Str answer.now)) dat.old }
+    ensures told { result ≡ got_of (Replies.Str answer.now) }
+{
+    match answer {
+        Acknowledged::Ack { rval, dat: part } => Returned {
+            rval: *rval,
+            ..lengths(-1, fill_part(dat, part.as_ref()), 0)
+        },
+        Acknowledged::Nak { .. } => nothing(2),
+        Acknowledged::Timeout => nothing(3),
+    }
+}
+
+/// The description of a message that is taken whole from a wire.
+fn whole(m: &Message) -> Returned
+    ensures { result ≡ got_whole m.now }
+{
+    let flags = kind_number(m.kind);
+    Returned {
+        band: int_of(u64::from(m.band)),
+        ..lengths(length_of(m.ctl.as_ref()), length_of(m.dat.as_ref()), flags)
+    }
+}
+
+/// The description of a closed wire from which all messages were taken.
+fn hangup() -> Returned
+    ensures { result ≡ got_of Replies.Hangup }
+{
+    lengths(-1, -1, kind_number(MsgKind::MHangup))
+}
+
+/// Writes both parts of a message to buffers, and returns its description.
+fn write_whole(m: &Message, ctl: &mut [u8], dat: &mut [u8]) -> Returned
+    ensures control { ctl.new ≡ filled_if (ctl_of (Replies.Message m.now)) ctl.old }
+    ensures bytes { dat.new ≡ filled_if (dat_of (Replies.Message m.now)) dat.old }
+    ensures told { result ≡ got_of (Replies.Message m.now) }
+{
+    fill_part(ctl, m.ctl.as_ref());
+    fill_part(dat, m.dat.as_ref());
+    whole(m)
+}
+
+/// Writes the parts of a reply to buffers, and returns its description.
+fn write_reply(reply: &Reply, ctl: &mut [u8], dat: &mut [u8]) -> Returned
+    ensures control { ctl.new ≡ filled_if (ctl_of reply.now) ctl.old }
+    ensures bytes { dat.new ≡ filled_if (dat_of reply.now) dat.old }
+    ensures told { result ≡ got_of reply.now }
+{
+    match reply {
+        Reply::Getmsg {
+            ctl: control,
+            dat: part,
+            flag,
+            more,
+        } => Returned {
+            more: more_number(*more),
+            ..lengths(
+                fill_part(ctl, control.as_ref()),
+                fill_part(dat, part.as_ref()),
+                priority_number(*flag),
+            )
+        },
+        Reply::Getpmsg {
+            ctl: control,
+            dat: part,
+            flag,
+            more,
+        } => {
+            let (flags, band) = received(*flag);
+            Returned {
+                band,
+                more: more_number(*more),
+                ..lengths(
+                    fill_part(ctl, control.as_ref()),
+                    fill_part(dat, part.as_ref()),
+                    flags,
+                )
+            }
+        }
+        Reply::Peek { found } => match found {
+            Some(seen) => lengths(
+                fill_part(ctl, seen.ctl()),
+                fill_part(dat, seen.dat()),
+                priority_number(seen.flag),
+            ),
+            None => nothing(0),
+        },
+        Reply::Read { dat: bytes } => {
+            fill(dat, bytes.as_slice());
+            lengths(-1, int_of(bytes.len() as u64), 0)
+        }
+        Reply::Str { answer } => write_ack(answer, dat),
+        Reply::Message { m } => write_whole(m, ctl, dat),
+        Reply::Hangup => hangup(),
+        _ => nothing(0),
+    }
+}
+
+/// The description of the message that a take would return, or of the hangup if there is none.
+pub fn write_next(first: Option<&Message>) -> Returned
+    ensures { result ≡ got_of (reply_next (option_copied first.entry)) }
+{
+    match first {
+        Some(m) => whole(m),
+        None => hangup(),
+    }
+}
+
+/// Writes the parts of an answer to buffers, and its description, if it is a reply.
+pub fn write_parts(answer: &Answer, ctl: &mut [u8], dat: &mut [u8], got: &mut Returned)
+    ensures { HasTaken ctl.old dat.old got.old ctl.new dat.new got.new answer.now }
+{
+    if let Answer::Done(reply) = answer {
+        *got = write_reply(reply, ctl, dat);
+    }
+}
+
+/// A truth as a number.
+fn bit(truth: bool) -> u64
+    ensures { result ≡ codes.bit_number truth }
+{
+    if truth { 1 } else { 0 }
+}
+
+/// The number of a reply, or 0 if it has none.
+fn value_of(reply: &Reply) -> u64
+    ensures { result ≡ returned_value reply.now }
+{
+    match reply {
+        Reply::Write { len } => *len,
+        Reply::Nread { messages, .. } => *messages,
+        Reply::GetRead { mode, prot } => read_number(*mode, *prot),
+        Reply::Canput { can } => bit(*can),
+        Reply::Ckband { waits } => bit(*waits),
+        Reply::Getband { band } => *band,
+        Reply::Find { found } => bit(*found),
+        _ => 0,
+    }
+}
+
+/// The number of data bytes of the first message, or 0 if the reply does not have it.
+fn bytes_of(reply: &Reply) -> u64
+    ensures { result ≡ returned_bytes reply.now }
+{
+    match reply {
+        Reply::Nread { bytes, .. } => *bytes,
+        _ => 0,
+    }
+}
+
+/// Stores the number of an answer, if it is a reply.
+pub fn write_value(answer: &Answer, value: &mut i32)
+    ensures { IsValue value.old value.new answer.now }
+{
+    if let Answer::Done(reply) = answer {
+        *value = int_of(value_of(reply));
+    }
+}
+
+/// Stores both numbers of an answer, if it is a reply.
+pub fn write_values(answer: &Answer, value: &mut i32, bytes: &mut i32)
+    ensures { AreValues value.old bytes.old value.new bytes.new answer.now }
+{
+    if let Answer::Done(reply) = answer {
+        *value = int_of(value_of(reply));
+        *bytes = int_of(bytes_of(reply));
+    }
+}
+
+/// Writes a name to a buffer, with zeros behind it up to nine bytes.
+fn fill_name(buffer: &mut [u8], name: &[u8])
+    ensures { buffer.new ≡ filled (name_field name.now) buffer.old }
+{
+    let mut field = [0; 9];
+    fill(&mut field, name);
+    fill(buffer, &field);
+}
+
+/// Writes one name of a reply to a buffer, if it has that many, and returns the number of its names.
+fn write_name(reply: &Reply, i: u64, buffer: &mut [u8]) -> u64
+    ensures bytes { buffer.new ≡ filled_if (returned_name i reply.now) buffer.old }
+    ensures count { result ≡ returned_count reply.now }
+{
+    match reply {
+        Reply::Look { name } => {
+            if i == 0 {
+                fill_name(buffer, name.as_slice());
+            }
+            1
+        }
+        Reply::List { names, driver } => {
+            let names = names.as_slice();
+            let count = names.len() as u64;
+            if i < count {
+                fill_name(buffer, names[i as usize].as_slice());
+            } else if i == count {
+                fill_name(buffer, driver.name());
+            }
+            count + 1
+        }
+        _ => 0,
+    }
+}
+
+/// Writes one name of an answer to a buffer, and stores the number of its names, if it is a reply.
+pub fn write_names(answer: &Answer, i: u64, name: &mut [u8], count: &mut i32)
+    ensures { IsNamed i name.old count.old name.new count.new answer.now }
+{
+    if let Answer::Done(reply) = answer {
+        *count = int_of(write_name(reply, i, name));
+    }
+}

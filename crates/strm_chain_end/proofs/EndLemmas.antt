@@ -1,0 +1,41 @@
+-- One module's queues change, and its end stays as it was otherwise.
+use Rattle.std.proofs.Common.{◌≡◌, ◌<◌, ◌-◌, ℕ, true, List, Some, length, slice_get, slice_set, slice_index_or, ◌∙◌, ap, refl, arith, suc, zero}
+use Rattle.std.proofs.Math.Seq.{map-set_same}
+use Rattle.std.proofs.lemmas.Option.{slice_get_read}
+use Rattle.std.specs.List.{list_all}
+use Rattle.strm_msg.specs.Message.{Msg}
+use Rattle.strm_msg.specs.declared.words.Side.{Side}
+use Rattle.strm_module.specs.Kinds.{Meaning}
+use Rattle.strm_chain_end.specs.Pair.{QueuePair, pair_gets, pair_serves}
+use Rattle.strm_chain_end.specs.End.{EndState, pair_at, set_pair, end_gets, end_serves}
+use Rattle.strm_chain_end.specs.Modules.{Identity, identity_of, identities_of, are_fit, is_fit_module}
+
+abbrev identity : {K : Type 0} → QueuePair K → Identity
+identity s = identity_of s.shape
+
+-- the same modules stand there
+pub identities-set : {K : Type 0} (xs : List (QueuePair K)) (i : ℕ) (s d : QueuePair K) → d ≡ slice_index_or xs i d → identity_of s.shape ≡ identity_of d.shape → identities_of (slice_set xs i s) ≡ identities_of xs
+identities-set xs i s d at same = map-set_same identity xs i s d (same ∙ ap identity at)
+
+pub fit-set : {K : Type 0} (xs : List (QueuePair K)) (i : ℕ) (s d : QueuePair K) → d ≡ slice_index_or xs i d → identity_of s.shape ≡ identity_of d.shape → are_fit xs ≡ true → are_fit (slice_set xs i s) ≡ true
+fit-set xs i s d at same fit = ap (λ (is : List Identity). list_all is_fit_module is) (identities-set xs i s d at same) ∙ fit
+
+-- the module numbered i stands at i - 1
+pub pair_at-index : {K : Type 0} (xs : List (QueuePair K)) (i : ℕ) → 0 < i → pair_at xs i ≡ slice_get xs (i - 1)
+pair_at-index xs zero h = absurd (omega arith)
+pair_at-index xs (suc i) h = let e : suc i - 1 ≡ i = omega arith in rw e refl
+
+pub set_pair-index : {K : Type 0} (xs : List (QueuePair K)) (i : ℕ) (s : QueuePair K) → 0 < i → set_pair xs i s ≡ slice_set xs (i - 1) s
+set_pair-index xs zero s h = absurd (omega arith)
+set_pair-index xs (suc i) s h = let e : suc i - 1 ≡ i = omega arith in rw e refl
+
+pub pair_at-found : {K : Type 0} (xs : List (QueuePair K)) (i : ℕ) (d : QueuePair K) → 0 < i → i - 1 < length xs → d ≡ slice_index_or xs (i - 1) d → pair_at xs i ≡ Some d
+pair_at-found xs i d h l at = pair_at-index xs i h ∙ slice_get_read xs (length xs) (i - 1) d refl l at
+
+module _ {K : Type 0} (means : Meaning K) where
+  -- what the module that is found gets and serves
+  pub gets_found : (e : EndState K) (i : ℕ) (d : QueuePair K) (side : Side) (m : Msg) → 0 < i → pair_at e.modules i ≡ Some d → end_gets means e i side m ≡ record { state = record e { modules = slice_set e.modules (i - 1) (pair_gets means d side m).pair }; outs = (pair_gets means d side m).outs }
+  gets_found e i d side m h found = rw (found, set_pair-index e.modules i (pair_gets means d side m).pair h) refl
+
+  pub serves_found : (e : EndState K) (i : ℕ) (d : QueuePair K) (side : Side) → 0 < i → pair_at e.modules i ≡ Some d → end_serves means e i side ≡ record { state = record e { modules = slice_set e.modules (i - 1) (pair_serves means d side).pair }; outs = (pair_serves means d side).outs }
+  serves_found e i d side h found = rw (found, set_pair-index e.modules i (pair_serves means d side).pair h) refl

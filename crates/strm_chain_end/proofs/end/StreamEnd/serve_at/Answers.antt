@@ -1,0 +1,47 @@
+use Rattle.std.proofs.Common.{◌≡◌, ◌<◌, ◌-◌, length, Some, refl, rules}
+use Rattle.strm_chain_end.specs.End.{pair_at}
+use Rattle.strm_chain_end.specs.Modules.{waits_well}
+use Rattle.strm_chain_end.proofs.EndLemmas.{identities-set, fit-set, pair_at-found, serves_found}
+use Rattle.strm_chain_end.proofs.WaitLemmas.{all-set}
+use Rattle.strm_chain_end.proofs.end.StreamEnd.serve_at.Goals as goal
+
+pub invariant_of-self : goal.invariant_of-self
+invariant_of-self g c =
+    let k = c.self.invariant in
+    record {
+      room = k.room;
+      few = search rules;
+      head_fit = k.head_fit;
+      drv_fit = k.drv_fit;
+      fit = fit-set c.self.inside.pairs.items (c.args.i - 1) c.serve.new.self c.index_mut.result.now c.index_mut.ensures.value c.serve.ensures.identity k.fit;
+      waits = all-set waits_well c.self.inside.pairs.items (c.args.i - 1) c.serve.new.self c.index_mut.result.now c.index_mut.ensures.value (search rules) c.serve.ensures.waits k.waits;
+      calm = k.calm;
+    }
+
+pub returns-clause-outs : goal.returns-clause-outs
+returns-clause-outs g c =
+    let xs = c.self.inside.pairs.items in
+    let pos : 0 < c.args.i = search rules in
+    let in_list : c.args.i - 1 < length xs = search rules in
+    let found : pair_at xs c.args.i ≡ Some c.index_mut.result.now = pair_at-found xs c.args.i c.index_mut.result.now pos in_list c.index_mut.ensures.value in
+    let at : pair_at c.args.self.now.state.modules c.args.i ≡ Some c.index_mut.result.now = rw (← c.self.view_is) found in
+    rw (serves_found g.M.Kind.Kinds.means c.args.self.now.state c.args.i c.index_mut.result.now c.args.side pos at) c.serve.ensures.outs
+
+pub returns-clause-state : goal.returns-clause-state
+returns-clause-state g c =
+    let xs = c.self.inside.pairs.items in
+    let pos : 0 < c.args.i = search rules in
+    let in_list : c.args.i - 1 < length xs = search rules in
+    let found : pair_at xs c.args.i ≡ Some c.index_mut.result.now = pair_at-found xs c.args.i c.index_mut.result.now pos in_list c.index_mut.ensures.value in
+    let at : pair_at c.args.self.now.state.modules c.args.i ≡ Some c.index_mut.result.now = rw (← c.self.view_is) found in
+    rw (serves_found g.M.Kind.Kinds.means c.args.self.now.state c.args.i c.index_mut.result.now c.args.side pos at, ← c.self.view_is) (search rules)
+
+pub returns-clause-same : goal.returns-clause-same
+returns-clause-same g c =
+    rw (← c.self.view_is)
+    (record {
+      is_open = refl;
+      drv_marks = refl;
+      modules = identities-set c.self.inside.pairs.items (c.args.i - 1) c.serve.new.self c.index_mut.result.now c.index_mut.ensures.value c.serve.ensures.identity;
+      ids = record { next = refl; pending = refl; kept = λ _. refl };
+    })

@@ -1,0 +1,12 @@
+pub mod Pair
+pub mod End
+pub mod Modules
+pub mod Head
+pub mod Driver
+pub mod Canput
+pub mod Next
+pub mod Offer
+pub mod Change
+pub mod Order
+pub mod Inside
+pub mod First

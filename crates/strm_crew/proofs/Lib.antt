@@ -1,4 +1,0 @@
-pub mod AccountLemmas
-pub mod DealLemmas
-pub mod PlayLemmas
-pub mod ReachedLemmas

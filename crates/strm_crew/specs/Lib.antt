@@ -1,5 +1,0 @@
-pub mod Run
-pub mod Transcript
-pub mod Account
-pub mod Dealing
-pub mod Play

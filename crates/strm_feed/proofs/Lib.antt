@@ -1,2 +1,0 @@
-mod FeedLemmas
-mod PartLemmas

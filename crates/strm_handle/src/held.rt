@@ -1,9 +1,0 @@
-//! What the pointer of an open handle leads to.
-use strm_head::Stream;
-use strm_module::Plain;
-
-/// A stream whose modules are of the built-in kinds, each known by its shape alone.
-#[derive(Drop)]
-pub struct Held {
-    pub stream: Stream<Plain>,
-}

@@ -1,9 +1,0 @@
-use Rattle.std.proofs.Common.{refl}
-use Rattle.strm_call.specs.declared.request.Request.TheVariants as Requests
-use Rattle.strm_head.proofs.BeginLemmas.{done_begins}
-use Rattle.strm_head.proofs.beginning.begin_flush_band.Goals as goal
-
-pub returns : goal.returns
-returns g c =
-    rw c.done.ensures
-    (done_begins g.M.Kind.Kinds.means c.args.chain.now.image c.args.end (Requests.FlushBand c.args.band c.args.r c.args.w) c.flush.result (g.A.Replied.says c.plain.result) c.flush.new.chain.image c.plain.ensures c.flush.ensures.image c.flush.ensures.failed refl refl refl refl c.requires.whole)

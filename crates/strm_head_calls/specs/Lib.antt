@@ -1,0 +1,9 @@
+pub mod Request
+pub mod Calls
+pub mod Refusal
+pub mod Reply
+pub mod Cut
+pub mod ReplyForm
+pub mod Effect
+pub mod Setup
+pub mod Polled

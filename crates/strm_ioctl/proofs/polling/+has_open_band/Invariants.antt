@@ -1,4 +1,0 @@
-use Rattle.strm_ioctl.proofs.polling.+has_open_band.Given as goal
-
-abbrev pub decreases-has_open_band : goal.decreases-has_open_band
-decreases-has_open_band l = l.band

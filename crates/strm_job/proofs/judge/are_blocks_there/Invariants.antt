@@ -1,9 +1,0 @@
-use Rattle.std.proofs.Common.{ℕ, ◌<◌, get_or, Vec, Global}
-use Rattle.strm_job.specs.declared.script.ScriptCall.{ScriptCall}
-use Rattle.strm_job.specs.There.{AreCallsThere}
-use Rattle.strm_job.proofs.judge.are_blocks_there.Given as goal
-
--- what the calls of each block so far name is there
-abbrev pub invariant-loop-block : goal.invariant-loop-block
-invariant-loop-block g l =
-    (k : ℕ) (d : Vec (ScriptCall g.row.P.Denot) Global) → k < l.block-index → AreCallsThere l.setups (get_or l.blocks k d).items

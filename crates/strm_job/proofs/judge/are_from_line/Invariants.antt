@@ -1,8 +1,0 @@
-use Rattle.std.proofs.Common.{ℕ, ◌<◌, get_or}
-use Rattle.strm_job.specs.declared.script.Feed.{Feed}
-use Rattle.strm_job.specs.There.{IsFromLine}
-use Rattle.strm_job.proofs.judge.are_from_line.Given as goal
-
--- each feed so far is of messages that come from a line
-abbrev pub invariant-loop-feed : goal.invariant-loop-feed
-invariant-loop-feed l = (k : ℕ) (d : Feed) → k < l.feed-index → IsFromLine (get_or l.feeds k d)

@@ -1,3 +1,0 @@
-pub mod Scripts
-pub mod There
-pub mod Fault

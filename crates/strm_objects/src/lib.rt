@@ -1,7 +1,0 @@
-//! Objects for the built-in kinds of module, to take as they are. `new` of each judges what it is given, and makes the
-//! module that it names.
-#![tactic(auto)]
-
-mod objects;
-
-pub use objects::{Band, Count, CrNl, Line, Mute, Pass, Split, Table, Tee};

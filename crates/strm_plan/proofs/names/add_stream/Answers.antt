@@ -1,7 +1,0 @@
-use Rattle.std.proofs.Common.{Ok, ap, sym, ◌∙◌}
-use Rattle.strm_plan.specs.Plan.{streams_view}
-use Rattle.strm_plan.proofs.StreamLemmas.{inserted}
-use Rattle.strm_plan.proofs.names.add_stream.Goals as goal
-
-pub returns : goal.returns
-returns c = ap Ok (sym (ap streams_view c.in_ok-insert.ensures.entries ∙ inserted (λ k. k.items) c.args.streams.now.entries c.args.chosen c.args.setup c.requires))

@@ -1,4 +1,0 @@
-use Rattle.strm_qpair.proofs.end.StreamEnd.close.Goals as goal
-
-pub returns-clause-head_room : goal.returns-clause-head_room
-returns-clause-head_room g c = rw (← c.self.view_is) c.empty_list.ensures.room

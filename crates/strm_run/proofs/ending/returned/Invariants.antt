@@ -1,7 +1,0 @@
-use Rattle.std.proofs.Common.{All}
-use Rattle.strm_crew.specs.Play.{ArePlayed}
-use Rattle.strm_run.proofs.ending.returned.Given as goal
-
--- the callers so far have played their scripts
-abbrev pub invariant-loop-one : goal.invariant-loop-one
-invariant-loop-one g l = All (λ accounts. ArePlayed g.N.Plays.run accounts.items) l.all.items

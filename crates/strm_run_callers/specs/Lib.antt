@@ -1,0 +1,7 @@
+pub mod Run
+pub mod Transcript
+pub mod Account
+pub mod Dealing
+pub mod Play
+pub mod Feeding
+pub mod RunName

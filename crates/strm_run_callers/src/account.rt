@@ -1,0 +1,114 @@
+//! A seat of a caller, with the receipts of its calls.
+ghost use Rattle.std.specs.Prelude.{◌≡◌, ◌+◌, All, length, map, slice_get, take, IfOk, OnOk, Some};
+ghost use Rattle.strm_head_calls.specs.declared.event.Event.TheVariants.{Asked};
+ghost use Rattle.strm_run_callers.specs.Account.{fresh_account, HasReceipts};
+ghost use Rattle.strm_run_input.specs.Scripts.{calls_on, script_of};
+ghost use Rattle.strm_run_callers.specs.Play.{CallsDoFit};
+
+use crate::run_name::{Of, RunName};
+use std::alloc::Global;
+use std::marker::{Model, PhantomData};
+use std::sync::Wait;
+use strm_head_calls::Reply;
+use strm_module::{BoxedModule, ModuleOf};
+use strm_msg::NoMem;
+use strm_shared::{Seat, Shared};
+use strm_shared_ended::Receipts;
+use strm_shared_entry::SharedEntry;
+use strm_shared_log::{Call, Called};
+
+/// A seat of a caller on a stream, with the entries of the calls that were made from it, in order, as their
+/// receipts show them. A contract sees both.
+///
+/// As long as each call has a receipt they are those of the first calls that the caller's script has for the
+/// stream.
+#[derive(Drop)]
+pub struct Account<K, N: RunName<K>> {
+    seat: Seat,
+    entries: Vec<SharedEntry<K>>,
+    of: PhantomData<N>,
+}
+
+impl<K, N: RunName<K>> Model for Account<K, N> {
+    ghost use Rattle.strm_run_callers.specs.Account.{AccountValue, HasReceipts};
+
+    ghost Value = { AccountValue K };
+
+    ghost view = { λ a. record { seat = a.seat; entries = a.entries.items } };
+
+    ghost invariant = { λ a. HasReceipts N.run a.seat a.entries.items };
+}
+
+impl<K: Drop, N: RunName<K>> Account<K, N> {
+    /// A seat from which no call was made.
+    pub(crate) fn new(alloc: Global, seat: Seat) -> Account<K, N>
+        requires { seat.calls ≡ 0 }
+        ensures { result ≡ fresh_account seat }
+    {
+        Account {
+            seat,
+            entries: Vec::new(alloc),
+            of: PhantomData,
+        }
+    }
+
+    /// The seat, and the receipts.
+    pub fn into_parts(self) -> (Seat, Receipts<K>)
+        ensures seat { result.0 ≡ self.seat }
+        ensures caller { result.1.caller ≡ self.seat.caller }
+        ensures entries { result.1.entries.items ≡ self.entries }
+        ensures receipts { HasReceipts N.run self.seat self.entries }
+    {
+        let Account {
+            seat,
+            entries,
+            of: _,
+        } = self;
+        let caller = seat.caller();
+        (seat, Receipts { caller, entries })
+    }
+}
+
+/// Makes one call from a seat, whose entry is kept behind those before it, as its receipt shows it. The
+/// modules that came back are dropped, and so is a call that was not made. Fails only when memory runs out.
+pub(crate) fn call_on<M: ModuleOf, N: RunName<M::Kind>, R: Wait>(
+    rt: &R,
+    shared: &Shared<M, Of<N>>,
+    account: &mut Account<M::Kind, N>,
+    call: Call<BoxedModule<M>>,
+) -> Result<(), NoMem>
+    requires fits { CallsDoFit M.row M.Kind.row M.Kind.Kinds }
+    requires number { account.old.seat.number ≡ shared.now.number }
+    requires next { slice_get (calls_on account.old.seat.number (script_of N.run.scripts account.old.seat.caller)) account.old.seat.calls ≡ Some (call.end, Asked call.request) }
+    ensures seat { OnOk result (account.new.seat ≡ record account.old.seat { calls = account.old.seat.calls + 1; shown = account.new.seat.shown }) }
+    ensures before { OnOk result (take (length account.old.entries) account.new.entries ≡ account.old.entries) }
+{
+    account.entries.reserve(1)?;
+    match shared.enter::<Reply, R>(rt, &mut account.seat, call) {
+        Called::Done { receipt, .. } => {
+            if let Some(receipt) = receipt {
+                account.entries.push_reserved(receipt.into_entry());
+            }
+            Ok(())
+        }
+        Called::NoRoom(call) => {
+            drop(call);
+            Err(NoMem)
+        }
+    }
+}
+
+/// Seats from which no call was made. Fails only when memory runs out.
+pub(crate) fn accounts_of<K: Drop, N: RunName<K>>(
+    alloc: Global,
+    seats: Vec<Seat>,
+) -> Result<Vec<Account<K, N>>, NoMem>
+    requires { All (λ seat. seat.calls ≡ 0) seats.items }
+    ensures { IfOk result (λ accounts. accounts.items ≡ map fresh_account seats.items) }
+{
+    let mut all = Vec::new(alloc);
+    for seat in seats {
+        all.push(Account::new(alloc, seat))?;
+    }
+    Ok(all)
+}

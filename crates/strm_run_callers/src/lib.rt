@@ -1,0 +1,23 @@
+//! The crew of a run: callers that play their scripts, and the streams that they share. Feeders offer the
+//! feeds at the same time.
+//!
+//! Each is a plain value, proved without a thread. `strm_run` gives each caller and each feeder a thread, and
+//! judges the input of a run before and its results afterwards.
+#![tactic(auto)]
+
+mod account;
+mod dealing;
+mod feeding;
+mod gate;
+mod player;
+mod run_name;
+mod streams;
+
+pub use account::Account;
+pub use dealing::{deal, seated};
+pub use feeding::{Feeding, Offered};
+pub use gate::Gate;
+pub use player::{Played, Player, play_each};
+pub use run_name::{Of, RunName};
+pub use streams::Streams;
+pub use strm_shared_ended::{Receipts, holds_all, log_of};

@@ -1,5 +1,0 @@
-use Rattle.strm_script.proofs.ReadBackLemmas.{fields_back}
-use Rattle.strm_script.proofs.field.fields_are_read_back.Goals as goal
-
-pub returns : goal.returns
-returns c = fields_back

@@ -1,0 +1,194 @@
+-- Each limit, computed at the number itself: the greatest that is taken, and the next, which is not. Those of calls and of a stream's
+-- modules are computed in `strm_head`, and those of the command line in `strsh_options`.
+use Rattle.std.proofs.Common.{◌≡◌, ℕ, true, false, Some, None, List, [], ◌∷◌, length, replicate, codes, Result, Ok, Err, is_ok, refl}
+use Rattle.strm_msg.specs.Message.{data_msg, ioctl_msg, pcproto_msg}
+use Rattle.strm_msg.specs.declared.words.Side.TheVariants.{Rd}
+use Rattle.strm_module.specs.Builtin.{builtin}
+use Rattle.strm_module.specs.Calm.{options_of}
+use Rattle.strm_module.specs.Module.{serve_of}
+use Rattle.strm_module.specs.Shape.{is_name, is_split, new_shape}
+use Rattle.strm_module.specs.declared.shape.Shape.{Shape}
+use Rattle.strm_module.specs.declared.kind.Kind.{Kind}
+use Rattle.strm_module.specs.declared.kind.Kind.TheVariants as kinds
+use Rattle.strm_module.specs.declared.driver.Driver.TheVariants.{Line}
+use Rattle.strm_head_calls.specs.Setup.{is_ring}
+use Rattle.strm_head_calls.specs.declared.setup.Setup.{Setup}
+use Rattle.strm_run_input.specs.Resolve.{is_worker_count}
+use Rattle.strm_script_words.specs.Arrival.{message_at}
+use Rattle.strm_script_words.specs.Field.{Number, marks_at, maximum_at, number_at, part_at, part_upto}
+use Rattle.strm_script_words.specs.Push.{builtin_words}
+use Rattle.strm_script_words.specs.Table.{Asked, Told, request_at}
+use Rattle.strm_script_words.specs.declared.arrival.MessageWord.TheVariants as messages
+use Rattle.strm_script_words.specs.declared.fault.Cause.{Cause}
+use Rattle.strm_script_words.specs.declared.fault.Cause.TheVariants as causes
+use Rattle.strm_script_words.specs.declared.verb.Verb.{Verb}
+use Rattle.strm_script_words.specs.declared.verb.Verb.TheVariants as verbs
+use Rattle.strm_script_parse.specs.Plan.{Call, Fed, Partial, Process, Streams}
+use Rattle.strm_script_parse.specs.Reading.{fields_in, fresh_name, has_room, lines_onto, nothing_yet, spelt, with_call, with_message, with_process}
+use Rattle.strm_script_parse.specs.declared.loading.TheConstants.{MOST_READ}
+use Rattle.std.specs.Str.Lines.{lines}
+
+-- ---- modules
+
+abbrev module_of : Kind → Shape Kind
+module_of kind = new_shape 1 (109 ∷ []) None None kind
+
+longest_name : is_name (replicate 8 97) ≡ true
+longest_name = refl
+
+name_too_long : is_name (replicate 9 97) ≡ false
+name_too_long = refl
+
+greatest_split : is_split 4096 ≡ true
+greatest_split = refl
+
+split_too_great : is_split 4097 ≡ false
+split_too_great = refl
+
+-- the kind of a line discipline that has no rest yet, when a LF and so many other bytes have come
+abbrev keeps : ℕ → Kind
+keeps many = (serve_of builtin (module_of (kinds.Line [])) Rd (data_msg 0 (10 ∷ replicate many 97))).shape.kind
+
+longest_rest_is_kept : keeps 4096 ≡ kinds.Line (replicate 4096 97)
+longest_rest_is_kept = refl
+
+longer_rest_is_not_kept : keeps 4097 ≡ kinds.Line []
+longer_rest_is_not_kept = refl
+
+-- how often an ioctl of this command sets options, with data that ask for a read mode
+abbrev sets : ℕ → ℕ
+sets cmd = options_of true (ioctl_msg 7 cmd (Some (1 ∷ 0 ∷ 0 ∷ [])))
+
+command_that_sets_options : sets 16 ≡ 1
+command_that_sets_options = refl
+
+command_that_sets_none : sets 17 ≡ 0
+command_that_sets_none = refl
+
+-- ---- streams
+
+-- a line through a ring of so many messages
+abbrev ringed : ℕ → Setup
+ringed ring = record { driver = Line; head = (16, 4); drv = (16, 4); ring = ring }
+
+greatest_ring : is_ring (ringed 4096) ≡ true
+greatest_ring = refl
+
+ring_too_great : is_ring (ringed 4097) ≡ false
+ring_too_great = refl
+
+-- ---- runs
+
+most_workers : is_worker_count 64 ≡ true
+most_workers = refl
+
+too_many_workers : is_worker_count 65 ≡ false
+too_many_workers = refl
+
+-- ---- fields of scripts
+
+longest_number : number_at 9 (codes "00000000000000000009") ≡ Ok 9
+longest_number = refl
+
+number_too_long : number_at 9 (codes "000000000000000000009") ≡ Err causes.Number
+number_too_long = refl
+
+most_times : part_at (codes "*65535:61") ≡ Ok (replicate 65535 97)
+most_times = refl
+
+too_many_times : part_at (codes "*65536:61") ≡ Err causes.Part
+too_many_times = refl
+
+greatest_maximum : maximum_at (codes "65535") ≡ Ok (Some 65535)
+greatest_maximum = refl
+
+maximum_too_great : maximum_at (codes "65536") ≡ Err causes.Number
+maximum_too_great = refl
+
+greatest_mark : marks_at (codes "4294967295/0") ≡ Ok (4294967295, 0)
+greatest_mark = refl
+
+mark_too_great : marks_at (codes "4294967296/0") ≡ Err causes.Number
+mark_too_great = refl
+
+-- whether a band has room is asked
+abbrev asks : List ℕ → Result (Asked Kind) Cause
+asks band = request_at builtin_words 1 verbs.Canput (band ∷ [])
+
+greatest_band : asks (codes "255") ≡ Ok (Told verbs.Canput (Number 255 ∷ []))
+greatest_band = refl
+
+band_too_great : asks (codes "256") ≡ Err causes.Number
+band_too_great = refl
+
+-- control and data, of so many bytes each
+greatest_parts : message_at messages.Pcproto (codes "*1024:61" ∷ codes "*4096:61" ∷ []) ≡ Ok (pcproto_msg (replicate 1024 97) (Some (replicate 4096 97)))
+unfolding part_upto
+greatest_parts = refl
+
+too_much_control : message_at messages.Pcproto (codes "*1025:61" ∷ codes "*4096:61" ∷ []) ≡ Err causes.Part
+unfolding part_upto
+too_much_control = refl
+
+too_much_data : message_at messages.Pcproto (codes "*1024:61" ∷ codes "*4097:61" ∷ []) ≡ Err causes.Part
+unfolding part_upto
+too_much_data = refl
+
+-- ---- lines of scripts
+
+longest_stream_name : fresh_name [] (replicate 16 97) ≡ Ok (replicate 16 97)
+longest_stream_name = refl
+
+stream_name_too_long : fresh_name [] (replicate 17 97) ≡ Err causes.Name
+stream_name_too_long = refl
+
+-- so many streams
+abbrev declared : ℕ → Streams
+declared many = replicate many (115 ∷ [], ringed 1)
+
+sixty_fourth_stream : has_room (declared 63) ≡ true
+sixty_fourth_stream = refl
+
+sixty_fifth_stream : has_room (declared 64) ≡ false
+sixty_fifth_stream = refl
+
+abbrev nothing : Partial Kind
+nothing = nothing_yet
+
+-- so many processes have ended
+abbrev ended : ℕ → Partial Kind
+ended many = record nothing { processes = replicate many (record { name = 112 ∷ []; calls = [] }) }
+
+process_256 : is_ok (with_process (ended 255) (113 ∷ [])) ≡ true
+process_256 = refl
+
+process_257 : with_process (ended 256) (113 ∷ []) ≡ Err causes.TooMany
+process_257 = refl
+
+call_65536 : (d : Partial Kind) (process : Process Kind) (verb : Verb) (call : Call Kind) → length process.calls ≡ 65535 → is_ok (with_call d process verb call) ≡ true
+call_65536 d process verb call many = rw many refl
+
+call_65537 : (d : Partial Kind) (process : Process Kind) (verb : Verb) (call : Call Kind) → length process.calls ≡ 65536 → with_call d process verb call ≡ Err causes.TooMany
+call_65537 d process verb call many = rw many refl
+
+message_65536 : (d : Partial Kind) (feed : Fed) → length feed.messages ≡ 65535 → is_ok (with_message d feed (data_msg 0 [])) ≡ true
+message_65536 d feed many = rw many refl
+
+message_65537 : (d : Partial Kind) (feed : Fed) → length feed.messages ≡ 65536 → with_message d feed (data_msg 0 []) ≡ Err causes.TooMany
+message_65537 d feed many = rw many refl
+
+-- of a comment, which has no fields
+longest_line : fields_in (35 ∷ replicate 16383 97) ≡ Ok []
+longest_line = refl
+
+line_too_long : fields_in (35 ∷ replicate 16384 97) ≡ Err causes.TooLong
+line_too_long = refl
+
+longest_script : (bytes : List ℕ) → length bytes ≡ 1048576 → spelt builtin_words bytes ≡ lines_onto builtin_words 0 nothing (lines bytes)
+longest_script bytes many = rw many refl
+
+script_too_long : (bytes : List ℕ) → length bytes ≡ 1048577 → spelt builtin_words bytes ≡ Err (record { line = 0; cause = causes.TooLong })
+script_too_long bytes many = rw many refl
+
+most_that_is_read : MOST_READ ≡ 1048577
+most_that_is_read = refl

@@ -1,0 +1,12 @@
+pub mod Streams
+pub mod Plan
+pub mod Last
+pub mod Targets
+pub mod Reading
+pub mod Spelling
+pub mod Sound
+pub mod Draft
+pub mod Section
+pub mod RunInput
+pub mod Fault
+pub mod Load

@@ -1,0 +1,96 @@
+-- The plan that a script spells: streams in order, processes with their calls, and feeds with their messages.
+use Rattle.std.specs.Prelude.{ℕ, List, map}
+use Rattle.strm_msg.specs.Message.{Msg}
+use Rattle.strm_msg.specs.declared.words.End.{End}
+use Rattle.strm_module.specs.declared.shape.Shape.{Shape}
+use Rattle.strm_script_words.specs.Table.{Asked, asked_of}
+use Rattle.strm_run_input.specs.declared.script.ScriptCall.{ScriptCall}
+use Rattle.strm_run_input.specs.declared.script.Feed.{Feed}
+pub use Rattle.strm_script_parse.specs.Streams.{Streams, streams_view}
+use Rattle.strm_script_parse.specs.declared.plan.ProcessDecl.{ProcessDecl}
+use Rattle.strm_script_parse.specs.declared.plan.Plan.{Plan}
+use Rattle.strm_script_parse.specs.declared.plan.Names.{Names}
+use Rattle.strm_script_parse.specs.declared.draft.Current.{Current}
+use Rattle.strm_script_parse.specs.declared.draft.Draft.{Draft}
+
+-- a call: the number of its stream, the end, and the request
+pub record Call (K : Type 0) : Type 0 where
+  pub stream : ℕ
+  pub end : End
+  pub asked : Asked K
+
+-- a process: its name, and its calls in order
+pub record Process (K : Type 0) : Type 0 where
+  pub name : List ℕ
+  pub calls : List (Call K)
+
+-- the messages that are offered to a line or a wire
+pub record Fed : Type 0 where
+  pub stream : ℕ
+  pub messages : List Msg
+
+-- the plan that a script spells
+pub record Whole (K : Type 0) : Type 0 where
+  pub streams : Streams
+  pub processes : List (Process K)
+  pub feeds : List Fed
+
+-- the names of the streams, each with its setup, and of the processes; a transcript is printed by them
+pub record NamesValue : Type 0 where
+  pub streams : Streams
+  pub processes : List (List ℕ)
+
+-- the process or feed to which the next lines belong
+pub data Place (K : Type 0) : Type 0 where
+  Nowhere : Place K
+  In_process : (process : Process K) → Place K
+  In_feed : (feed : Fed) → Place K
+
+-- a plan while it is read: the processes and feeds that have ended, the number of declared modules, and the
+-- process or feed that goes on
+pub record Partial (K : Type 0) : Type 0 where
+  pub streams : Streams
+  pub processes : List (Process K)
+  pub feeds : List Fed
+  pub modules : ℕ
+  pub place : Place K
+
+-- ---- the values of the code, without their layout in memory
+
+-- a call
+abbrev pub call_view : {K : Type 0} → ScriptCall (Shape K) → Call K
+call_view line = record { stream = line.stream; end = line.call.end; asked = asked_of line.call.request }
+
+-- a process; its calls are without their layout in memory
+abbrev pub process_view : {K : Type 0} → ProcessDecl (Shape K) → Process K
+process_view process = record { name = process.name.items; calls = map call_view process.calls }
+
+-- the messages of a feed, and the stream that it is for
+abbrev pub feed_view : Feed → Fed
+feed_view feed = record { stream = feed.stream; messages = feed.messages.items }
+
+-- a plan
+abbrev pub plan_view : {K : Type 0} → Plan (Shape K) → Whole K
+plan_view plan =
+    record { streams = streams_view plan.streams.entries; processes = map process_view plan.processes.items; feeds = map feed_view plan.feeds.items }
+
+-- the names of a plan
+abbrev pub names_view : Names → NamesValue
+names_view names = record { streams = streams_view names.streams.entries; processes = map (λ name. name.items) names.processes.items }
+
+-- the process or feed that goes on
+abbrev pub place_view : {K : Type 0} → Current (Shape K) → Place K
+place_view Current.Nowhere = Nowhere
+place_view (Current.Process process) = In_process (process_view process.value)
+place_view (Current.Feed feed) = In_feed (feed_view feed)
+
+-- a plan while it is read
+abbrev pub draft_view : {K : Type 0} → Draft (Shape K) → Partial K
+draft_view draft =
+    record {
+      streams = streams_view draft.streams.map.entries;
+      processes = map process_view draft.processes.items;
+      feeds = map feed_view draft.feeds.items;
+      modules = draft.modules;
+      place = place_view draft.current;
+    }

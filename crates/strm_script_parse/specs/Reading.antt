@@ -1,0 +1,243 @@
+-- The reading of a script from left to right: its plan, or its first fault.
+use Rattle.std.specs.Prelude.{ℕ, ◌+◌, ◌==◌, ◌||◌, ◌&&◌, Bool, not, nat_lt, nat_le, List, [], ◌∷◌, ◌++◌, length, Result, Ok, Err, codes, map, is_some, if◌then◌else◌, slice_index}
+use Rattle.std.specs.Str.{bytes_eq}
+use Rattle.std.specs.Str.Lines.{lines}
+use Rattle.std.specs.List.{list_any, list_all}
+use Rattle.strm_msg.specs.Message.{Msg}
+use Rattle.strm_script_text.specs.Bytes.{is_allowed}
+use Rattle.strm_script_text.specs.Text.{name_of, fields_of}
+use Rattle.strm_module.specs.declared.driver.Driver.{Driver}
+use Rattle.strm_module.specs.declared.driver.Driver.TheVariants.{Echo, Loop, Line, Wire}
+use Rattle.strm_module.specs.Driver.{is_line}
+use Rattle.strm_head_calls.specs.declared.setup.Setup.{Setup}
+use Rattle.strm_head_calls.specs.declared.setup.TheConstants.{MOST_RING}
+use Rattle.strm_script_words.specs.Fault.{◌>>=◌, or_fault}
+use Rattle.strm_script_words.specs.Field.{number_at, marks_at}
+use Rattle.strm_script_words.specs.Naming.{KindWords}
+use Rattle.strm_script_words.specs.Table.{verb_named, is_push, arity_at, request_at}
+use Rattle.strm_script_words.specs.Arrival.{message_named, message_at}
+use Rattle.strm_script_words.specs.declared.fault.Cause.{Cause}
+use Rattle.strm_script_words.specs.declared.fault.Cause.TheVariants as causes
+use Rattle.strm_script_words.specs.declared.verb.Verb.{Verb}
+use Rattle.strm_script_words.specs.declared.arrival.MessageWord.{MessageWord}
+use Rattle.strm_script_parse.specs.Plan.{Call, Process, Fed, Streams, Whole, Place, Nowhere, In_process, In_feed, Partial}
+use Rattle.strm_script_parse.specs.Targets.{stream_names, stream_at, target_of}
+use Rattle.strm_script_parse.specs.declared.plan.TheConstants.{LONGEST}
+use Rattle.strm_script_parse.specs.declared.draft.TheConstants.{MOST_STREAMS, MOST_PROCESSES, MOST_CALLS, MOST_MESSAGES, LONGEST_LINE}
+use Rattle.strm_script_parse.specs.declared.parsing.TheConstants.{LONGEST_SCRIPT}
+
+-- a name that none of these is
+abbrev pub fresh_name : List (List ℕ) → List ℕ → Result (List ℕ) Cause
+fresh_name used text = do
+  chosen ← or_fault causes.Name (name_of LONGEST text)
+  if list_any (bytes_eq chosen) used then Err causes.Name else Ok chosen
+
+-- the plan once the process or feed that goes on at this place has ended
+abbrev pub ended_at : {K : Type 0} → Partial K → Place K → Partial K
+ended_at d Nowhere = record d { place = Nowhere }
+ended_at d (In_process process) = record d { processes = d.processes ++ process ∷ []; place = Nowhere }
+ended_at d (In_feed feed) = record d { feeds = d.feeds ++ feed ∷ []; place = Nowhere }
+
+-- the plan once nothing goes on any more
+abbrev pub ended : {K : Type 0} → Partial K → Partial K
+ended d = ended_at d d.place
+
+-- ---- stream NAME DRIVER H D, and RING for a line or a wire
+
+-- the driver of a word
+abbrev pub driver_at : List ℕ → Result Driver Cause
+driver_at text =
+    if bytes_eq text (codes "echo") then Ok Echo
+    else (if bytes_eq text (codes "loop") then Ok Loop else (if bytes_eq text (codes "line") then Ok Line else (if bytes_eq text (codes "wire") then Ok Wire else Err causes.UnknownWord)))
+
+-- the ring of a number from 1 to the greatest ring
+abbrev pub ring_at : List ℕ → Result ℕ Cause
+ring_at text = number_at MOST_RING text >>= λ ring. if nat_le 1 ring then Ok ring else Err causes.Number
+
+-- the ring behind the marks; a stream without a ring counts as one with room for one message
+abbrev pub rings_at : Driver → List (List ℕ) → Result ℕ Cause
+rings_at driver [] = if is_line driver then Err causes.Fields else Ok 1
+rings_at driver (ring ∷ []) = if is_line driver then ring_at ring else Err causes.Fields
+rings_at driver texts = Err causes.Fields
+
+-- the number of fields that follow DRIVER
+abbrev pub setup_arity : Driver → ℕ
+setup_arity driver = if is_line driver then 3 else 2
+
+-- the setup of a stream of this driver
+unfoldable pub setup_at : Driver → List (List ℕ) → Result Setup Cause
+setup_at driver (head ∷ drv ∷ texts) = do
+  above ← marks_at head
+  below ← marks_at drv
+  ring ← rings_at driver texts
+  Ok (record { driver = driver; head = above; drv = below; ring = ring })
+setup_at driver texts = Err causes.Fields
+
+-- the name and the setup of a new stream
+abbrev pub declared_at : Streams → Driver → List ℕ → List (List ℕ) → Result (List ℕ × Setup) Cause
+declared_at streams driver name texts = do
+  chosen ← fresh_name (stream_names streams) name
+  setup ← setup_at driver texts
+  Ok (chosen, setup)
+
+-- whether there is room for one more stream
+abbrev pub has_room : Streams → Bool
+has_room streams = nat_lt (length streams) MOST_STREAMS
+
+-- the plan with one more stream
+abbrev pub with_stream : {K : Type 0} → Partial K → List ℕ × Setup → Result (Partial K) Cause
+with_stream d stream =
+    if has_room d.streams then Ok (record d { streams = d.streams ++ stream ∷ [] }) else Err causes.TooMany
+
+-- the plan with the stream of a line that has the number of fields of its driver
+abbrev pub setup_onto : {K : Type 0} → Partial K → Driver → List ℕ → List (List ℕ) → Result (Partial K) Cause
+setup_onto d driver name texts = declared_at d.streams driver name texts >>= λ stream. with_stream d stream
+
+-- the plan behind a stream line; the driver decides how many fields there are, so its word is checked before
+-- their number
+unfoldable pub stream_onto : {K : Type 0} → Partial K → List (List ℕ) → Result (Partial K) Cause
+stream_onto d (name ∷ driver ∷ texts) = do
+  kind ← driver_at driver
+  if length texts == setup_arity kind then setup_onto d kind name texts else Err causes.Fields
+stream_onto d texts = Err causes.Fields
+
+-- ---- process NAME
+
+-- the name of a new process; `line` stands for arrivals in a transcript, so no process has that name
+abbrev pub process_name : {K : Type 0} → List (Process K) → List ℕ → Result (List ℕ) Cause
+process_name processes text = do
+  chosen ← fresh_name (map (λ process. process.name) processes) text
+  if bytes_eq chosen (codes "line") then Err causes.Name else Ok chosen
+
+-- the plan with a new process of this name, which goes on
+abbrev pub with_process : {K : Type 0} → Partial K → List ℕ → Result (Partial K) Cause
+with_process d chosen =
+    if nat_lt (length d.processes) MOST_PROCESSES then Ok (record d { place = In_process (record { name = chosen; calls = [] }) }) else Err causes.TooMany
+
+-- the plan behind a process line
+unfoldable pub process_onto : {K : Type 0} → Partial K → List (List ℕ) → Result (Partial K) Cause
+process_onto d (name ∷ []) = process_name d.processes name >>= λ chosen. with_process d chosen
+process_onto d texts = Err causes.Fields
+
+-- ---- feed NAME
+
+-- whether the stream has a feed
+abbrev pub has_feed : List Fed → ℕ → Bool
+has_feed feeds number = list_any (λ feed. feed.stream == number) feeds
+
+-- the plan with a new feed, for a line or a wire that has none
+abbrev pub with_feed : {K : Type 0} → Partial K → ℕ × Driver → Result (Partial K) Cause
+with_feed d found =
+    if is_line found.1 && not (has_feed d.feeds found.0) then Ok (record d { place = In_feed (record { stream = found.0; messages = [] }) })
+    else Err causes.OutOfPlace
+
+-- the plan behind a feed line
+unfoldable pub feed_onto : {K : Type 0} → Partial K → List (List ℕ) → Result (Partial K) Cause
+feed_onto d (name ∷ []) = or_fault causes.NoSuch (stream_at d.streams name) >>= λ found. with_feed d found
+feed_onto d texts = Err causes.Fields
+
+-- ---- VERB NAME:END ..
+
+-- the number of declared modules, with that of this call
+abbrev pub modules_after : Verb → ℕ → ℕ
+modules_after verb modules = if is_push verb then modules + 1 else modules
+
+-- a call that has its number of fields, read from left to right
+abbrev pub placed_call : {K : Type 0} → KindWords K → Streams → ℕ → Verb → List ℕ → List (List ℕ) → Result (Call K) Cause
+placed_call words streams serial verb target texts = do
+  place ← or_fault causes.NoSuch (target_of streams target)
+  asked ← request_at words serial verb texts
+  Ok (record { stream = place.0; end = place.1; asked = asked })
+
+-- a call; the number of fields is checked first, and for a push the word of its kind before that
+unfoldable pub call_at : {K : Type 0} → KindWords K → Streams → ℕ → Verb → List (List ℕ) → Result (Call K) Cause
+call_at words streams serial verb [] = Err causes.Fields
+call_at words streams serial verb (target ∷ texts) =
+    arity_at words verb texts >>= λ arity. if length texts == arity then placed_call words streams serial verb target texts else Err causes.Fields
+
+-- the plan with one more call of the process that goes on
+abbrev pub with_call : {K : Type 0} → Partial K → Process K → Verb → Call K → Result (Partial K) Cause
+with_call d process verb call =
+    if nat_lt (length process.calls) MOST_CALLS then Ok (record d { modules = modules_after verb d.modules; place = In_process (record { name = process.name; calls = process.calls ++ call ∷ [] }) })
+    else Err causes.TooMany
+
+-- the plan behind a call line; a push declares the next module
+unfoldable pub call_onto : {K : Type 0} → KindWords K → Partial K → Process K → Verb → List (List ℕ) → Result (Partial K) Cause
+call_onto words d process verb texts = call_at words d.streams (d.modules + 1) verb texts >>= λ call. with_call d process verb call
+
+-- ---- a message of a feed
+
+-- the plan with one more message of the feed that goes on
+abbrev pub with_message : {K : Type 0} → Partial K → Fed → Msg → Result (Partial K) Cause
+with_message d feed m =
+    if nat_lt (length feed.messages) MOST_MESSAGES then Ok (record d { place = In_feed (record { stream = feed.stream; messages = feed.messages ++ m ∷ [] }) })
+    else Err causes.TooMany
+
+-- the plan behind a message line
+unfoldable pub message_onto : {K : Type 0} → Partial K → Fed → MessageWord → List (List ℕ) → Result (Partial K) Cause
+message_onto d feed word texts = message_at word texts >>= λ m. with_message d feed m
+
+-- ---- a line
+
+-- the cause of the fault of a word that cannot be here: out of place if it could be elsewhere
+abbrev pub outside : List ℕ → Cause
+outside word = if is_some (verb_named word) || is_some (message_named word) then causes.OutOfPlace else causes.UnknownWord
+
+-- the plan behind a call of the process that goes on, or a message of the feed that goes on; `flush` is a
+-- message in a feed, and a call elsewhere
+abbrev pub inner_onto : {K : Type 0} → KindWords K → Partial K → Place K → List ℕ → List (List ℕ) → Result (Partial K) Cause
+inner_onto words d Nowhere word texts = Err (outside word)
+inner_onto words d (In_process process) word texts = or_fault (outside word) (verb_named word) >>= λ verb. call_onto words d process verb texts
+inner_onto words d (In_feed feed) word texts = or_fault (outside word) (message_named word) >>= λ m. message_onto d feed m texts
+
+-- the plan behind the line that begins with this word
+unfoldable pub word_onto : {K : Type 0} → KindWords K → Partial K → List ℕ → List (List ℕ) → Result (Partial K) Cause
+word_onto words d word texts =
+    if bytes_eq word (codes "stream") then stream_onto (ended d) texts
+    else (if bytes_eq word (codes "process") then process_onto (ended d) texts
+    else (if bytes_eq word (codes "feed") then feed_onto (ended d) texts else inner_onto words d d.place word texts))
+
+-- the plan behind a line of these fields; a line without fields adds nothing
+abbrev pub fields_onto : {K : Type 0} → KindWords K → Partial K → List (List ℕ) → Result (Partial K) Cause
+fields_onto words d [] = Ok d
+fields_onto words d (word ∷ texts) = word_onto words d word texts
+
+-- the fields of a line without its LF and the CR before it; its length is checked first; a comment has none,
+-- and nothing else of it is checked
+abbrev pub fields_in : List ℕ → Result (List (List ℕ)) Cause
+fields_in line =
+    if nat_lt LONGEST_LINE (length line) then Err causes.TooLong
+    else (if slice_index line 0 == 35 then Ok [] else (if list_all is_allowed line then Ok (fields_of line) else Err causes.Byte))
+
+-- the plan behind a line
+unfoldable pub line_onto : {K : Type 0} → KindWords K → Partial K → List ℕ → Result (Partial K) Cause
+line_onto words d line = fields_in line >>= λ texts. fields_onto words d texts
+
+-- ---- all lines
+
+-- a fault at its line, counted from 1, with the cause
+pub record FaultAt : Type 0 where
+  pub line : ℕ
+  pub cause : Cause
+
+-- the plan of a script that ends here
+abbrev pub plan_of : {K : Type 0} → Partial K → Whole K
+plan_of d = record { streams = (ended d).streams; processes = (ended d).processes; feeds = (ended d).feeds }
+
+-- the reading of the other lines behind a line that was read; a fault gets the number of its line
+abbrev pub then_lines : {K : Type 0} → ℕ → Result (Partial K) Cause → (Partial K → Result (Whole K) FaultAt) → Result (Whole K) FaultAt
+then_lines n (Ok d) others = others d
+then_lines n (Err cause) others = Err (record { line = n; cause = cause })
+
+-- the reading of lines, one after another, behind that many that were read
+unfoldable pub lines_onto : {K : Type 0} → KindWords K → ℕ → Partial K → List (List ℕ) → Result (Whole K) FaultAt
+lines_onto words n d [] = Ok (plan_of d)
+lines_onto words n d (line ∷ others) = then_lines (n + 1) (line_onto words d line) (λ e. lines_onto words (n + 1) e others)
+
+-- the plan before the first line
+abbrev pub nothing_yet : {K : Type 0} → Partial K
+nothing_yet = record { streams = []; processes = []; feeds = []; modules = 0; place = Nowhere }
+
+-- the plan that a script spells, or its first fault; the length of the whole is checked before any line
+abbrev pub spelt : {K : Type 0} → KindWords K → List ℕ → Result (Whole K) FaultAt
+spelt words bytes = if nat_lt LONGEST_SCRIPT (length bytes) then Err (record { line = 0; cause = causes.TooLong }) else lines_onto words 0 nothing_yet (lines bytes)

@@ -1,0 +1,405 @@
+//! A plan while it is read, line by line.
+ghost use Rattle.std.specs.Prelude.{◌≡◌, ◌≤◌, ◌<◌, ◌^◌, true, Ok, length, map, IsErrOf, IsOk};
+ghost use Rattle.strm_script_parse.specs.Plan.{call_view, draft_view, feed_view, plan_view, process_view, streams_view};
+ghost use Rattle.strm_script_parse.specs.Plan.{In_feed, In_process};
+ghost use Rattle.strm_script_parse.specs.Reading as reading;
+ghost use Rattle.strm_script_parse.specs.Section.{takes, with_calls};
+ghost use Rattle.strm_script_words.specs.Fault.{Gives};
+
+use crate::call_line::{call_at, modules_after};
+use crate::declared::Declared;
+use crate::names::{add_stream, process_name, stream_name};
+use crate::plan::{Name, Plan, ProcessDecl};
+use crate::setup::{arity, driver_at, setup_at};
+use crate::target::stream_at;
+use indexmap::IndexMap;
+use std::alloc::Global;
+use std::mem;
+use strm_head_calls::Setup;
+use strm_module::{BoxedModule, Driver};
+use strm_run_input::{Feed, Script};
+use strm_script_text::cut_fields;
+use strm_script_words::{
+    Cause, MessageWord, PlayModule, ReadError, ReadKind, Verb, from_keyword, message_at,
+};
+
+/// The most streams of a plan.
+const MOST_STREAMS: usize = 64;
+
+/// The most processes of a plan.
+const MOST_PROCESSES: usize = 256;
+
+/// The most calls of a process.
+const MOST_CALLS: usize = 65_536;
+
+/// The most messages of a feed.
+const MOST_MESSAGES: usize = 65_536;
+
+/// The longest line, in bytes, without its LF and a CR before it.
+const LONGEST_LINE: usize = 16_384;
+
+/// The process or feed to which the next lines belong.
+#[derive(Drop)]
+enum Current<P> {
+    /// Neither a process nor a feed.
+    Nowhere,
+    /// A process, in a box, which each of its lines passes on.
+    Process(Box<ProcessDecl<P>>),
+    /// A feed.
+    Feed(Feed),
+}
+
+/// A plan while it is read: the processes and feeds that have ended, the number of declared modules, and the
+/// process or feed that goes on.
+#[derive(Drop)]
+pub(crate) struct Draft<P> {
+    /// The streams that were declared.
+    streams: Declared,
+    /// The processes that have ended.
+    processes: Vec<ProcessDecl<P>>,
+    /// The feeds that have ended.
+    feeds: Vec<Feed>,
+    /// The number of modules that all processes have declared.
+    modules: u64,
+    /// The process or feed that goes on.
+    current: Current<P>,
+}
+
+/// Whether there is room for one more stream.
+fn has_room(streams: &IndexMap<Name, Setup>) -> bool
+    ensures { result ≡ reading.has_room (streams_view streams.now.entries) }
+{
+    streams.len() < MOST_STREAMS
+}
+
+/// Whether the stream of this number has a feed.
+fn has_feed(feeds: &[Feed], number: u32) -> bool
+    ensures { result ≡ reading.has_feed (map feed_view feeds.now) number }
+{
+    feeds.iter().any(|feed| feed.stream == number)
+}
+
+/// Cuts a line into fields, in a list that is for them. The length of the line is checked first. A comment
+/// begins with `#` and has no fields; nothing else of it is checked.
+pub(crate) fn fields_in<'a>(line: &'a [u8], texts: &mut Vec<&'a [u8]>) -> Result<(), ReadError>
+    ensures fields { Gives (λ _. map (λ text. text.now) texts.new.items) result (reading.fields_in line.now) }
+    ensures length { LONGEST_LINE < length line.now → IsErrOf result (ReadError.Fault Cause.TooLong) }
+{
+    if line.len() > LONGEST_LINE {
+        return Err(ReadError::Fault(Cause::TooLong));
+    }
+    if line.first() == Some(&b'#') {
+        texts.clear();
+        return Ok(());
+    }
+    if !cut_fields(line, texts)? {
+        return Err(ReadError::Fault(Cause::Byte));
+    }
+    Ok(())
+}
+
+/// The cause of the fault of a word that cannot be at its place.
+fn outside(word: &[u8]) -> Cause
+    ensures { result ≡ reading.outside word.now }
+{
+    if from_keyword::<Verb>(word).is_some() || from_keyword::<MessageWord>(word).is_some() {
+        Cause::OutOfPlace
+    } else {
+        Cause::UnknownWord
+    }
+}
+
+impl<M: PlayModule> Draft<BoxedModule<M>>
+where
+    M::Kind: ReadKind,
+{
+    /// A plan before its first line.
+    pub(crate) fn new(alloc: Global) -> Draft<BoxedModule<M>>
+        ensures { draft_view result ≡ reading.nothing_yet }
+    {
+        Draft {
+            streams: Declared {
+                map: IndexMap::new(alloc),
+                last: None,
+            },
+            processes: Vec::new(alloc),
+            feeds: Vec::new(alloc),
+            modules: 0,
+            current: Current::Nowhere,
+        }
+    }
+
+    /// Ends the process or feed that goes on. Fails only when memory runs out.
+    fn close(&mut self) -> Result<(), ReadError>
+        ensures { Gives (λ _. draft_view self.new) result (Ok (reading.ended (draft_view self.old))) }
+    {
+        match mem::replace(&mut self.current, Current::Nowhere) {
+            Current::Nowhere => Ok(()),
+            Current::Process(process) => Ok(self.processes.push(Box::into_inner(process))?),
+            Current::Feed(feed) => Ok(self.feeds.push(feed)?),
+        }
+    }
+
+    /// Reads a stream line, with the fields behind its driver. Takes memory only if nothing is wrong.
+    fn add_setup(&mut self, driver: Driver, name: &[u8], texts: &[&[u8]]) -> Result<(), ReadError>
+        ensures line { Gives (λ _. draft_view self.new) result (reading.setup_onto (draft_view self.old) driver name.now (map (λ text. text.now) texts.now)) }
+        ensures memory { IsErrOf result ReadError.Memory → IsOk (reading.setup_onto (draft_view self.old) driver name.now (map (λ text. text.now) texts.now)) }
+    {
+        let chosen = stream_name(&self.streams.map, name)?;
+        let setup = setup_at(driver, texts)?;
+        if !has_room(&self.streams.map) {
+            return Err(ReadError::Fault(Cause::TooMany));
+        }
+        self.streams.last = None;
+        add_stream(&mut self.streams.map, chosen, setup)
+    }
+
+    /// Reads NAME DRIVER H D, and RING for a line or a wire. The driver is checked before the number of
+    /// fields. Takes memory only if nothing is wrong.
+    #[tactic(auto, unfolding(crate::specs::Reading::stream_onto))]
+    fn stream_line(&mut self, texts: &[&[u8]]) -> Result<(), ReadError>
+        ensures line { Gives (λ _. draft_view self.new) result (reading.stream_onto (draft_view self.old) (map (λ text. text.now) texts.now)) }
+        ensures memory { IsErrOf result ReadError.Memory → IsOk (reading.stream_onto (draft_view self.old) (map (λ text. text.now) texts.now)) }
+    {
+        let [name, driver, texts @ ..] = texts else {
+            return Err(ReadError::Fault(Cause::Fields));
+        };
+        let driver = driver_at(driver)?;
+        if texts.len() != arity(driver) {
+            return Err(ReadError::Fault(Cause::Fields));
+        }
+        self.add_setup(driver, name, texts)
+    }
+
+    /// Reads the NAME of a process, which goes on from here. Takes memory only if nothing is wrong.
+    #[tactic(auto, unfolding(crate::specs::Reading::process_onto))]
+    fn process_line(&mut self, alloc: Global, texts: &[&[u8]]) -> Result<(), ReadError>
+        ensures line { Gives (λ _. draft_view self.new) result (reading.process_onto (draft_view self.old) (map (λ text. text.now) texts.now)) }
+        ensures memory { IsErrOf result ReadError.Memory → IsOk (reading.process_onto (draft_view self.old) (map (λ text. text.now) texts.now)) }
+    {
+        let [name] = texts else {
+            return Err(ReadError::Fault(Cause::Fields));
+        };
+        let name = process_name(&self.processes, name)?;
+        if self.processes.len() >= MOST_PROCESSES {
+            return Err(ReadError::Fault(Cause::TooMany));
+        }
+        let calls = Script::new(alloc);
+        match Box::new(alloc, ProcessDecl { name, calls }) {
+            Ok(process) => self.current = Current::Process(process),
+            Err(_) => return Err(ReadError::Memory),
+        }
+        Ok(())
+    }
+
+    /// Reads the NAME of a line or a wire, whose feed goes on from here. Takes no memory.
+    #[tactic(auto, unfolding(crate::specs::Reading::feed_onto))]
+    fn feed_line(&mut self, alloc: Global, texts: &[&[u8]]) -> Result<(), ReadError>
+        requires { length self.old.streams.map.entries ≤ MOST_STREAMS }
+        ensures line { Gives (λ _. draft_view self.new) result (reading.feed_onto (draft_view self.old) (map (λ text. text.now) texts.now)) }
+        ensures memory { IsErrOf result ReadError.Memory → ⊥ }
+    {
+        let [name] = texts else {
+            return Err(ReadError::Fault(Cause::Fields));
+        };
+        let Some((stream, driver)) = stream_at(&self.streams.map, &mut None, name) else {
+            return Err(ReadError::Fault(Cause::NoSuch));
+        };
+        if !driver.is_line() || has_feed(&self.feeds, stream) {
+            return Err(ReadError::Fault(Cause::OutOfPlace));
+        }
+        let messages = Vec::new(alloc);
+        self.current = Current::Feed(Feed { stream, messages });
+        Ok(())
+    }
+
+    /// Reads a call of the process that goes on.
+    #[tactic(auto, unfolding(crate::specs::Reading::call_onto))]
+    fn call_line(
+        &mut self,
+        alloc: Global,
+        mut process: Box<ProcessDecl<BoxedModule<M>>>,
+        verb: Verb,
+        texts: &[&[u8]],
+    ) -> Result<(), ReadError>
+        requires few { length self.old.streams.map.entries ≤ MOST_STREAMS }
+        requires modules { self.old.modules < 2 ^ 63 }
+        ensures { Gives (λ _. draft_view self.new) result (reading.call_onto M.Kind.words (draft_view self.old) (process_view process.value) verb (map (λ text. text.now) texts.now)) }
+    {
+        let Declared { map, last } = &mut self.streams;
+        let call = call_at(alloc, map, last, self.modules + 1, verb, texts)?;
+        if process.calls.len() >= MOST_CALLS {
+            return Err(ReadError::Fault(Cause::TooMany));
+        }
+        process.calls.push(alloc, call)?;
+        self.modules = modules_after(verb, self.modules);
+        self.current = Current::Process(process);
+        Ok(())
+    }
+
+    /// Reads a message of the feed that goes on.
+    #[tactic(auto, unfolding(crate::specs::Reading::message_onto))]
+    fn message_line(
+        &mut self,
+        alloc: Global,
+        mut feed: Feed,
+        word: MessageWord,
+        texts: &[&[u8]],
+    ) -> Result<(), ReadError>
+        ensures { Gives (λ _. draft_view self.new) result (reading.message_onto (draft_view self.old) (feed_view feed) word (map (λ text. text.now) texts.now)) }
+    {
+        let message = message_at(alloc, word, texts)?;
+        if feed.messages.len() >= MOST_MESSAGES {
+            return Err(ReadError::Fault(Cause::TooMany));
+        }
+        feed.messages.push(message)?;
+        self.current = Current::Feed(feed);
+        Ok(())
+    }
+
+    /// Reads a line of a process, by its word.
+    fn process_word(
+        &mut self,
+        alloc: Global,
+        process: Box<ProcessDecl<BoxedModule<M>>>,
+        word: &[u8],
+        texts: &[&[u8]],
+    ) -> Result<(), ReadError>
+        requires few { length self.old.streams.map.entries ≤ MOST_STREAMS }
+        requires modules { self.old.modules < 2 ^ 63 }
+        ensures { Gives (λ _. draft_view self.new) result (reading.inner_onto M.Kind.words (draft_view self.old) (In_process (process_view process.value)) word.now (map (λ text. text.now) texts.now)) }
+    {
+        match from_keyword(word) {
+            Some(verb) => self.call_line(alloc, process, verb, texts),
+            None => Err(ReadError::Fault(outside(word))),
+        }
+    }
+
+    /// Reads a line of a feed, by its word.
+    fn feed_word(
+        &mut self,
+        alloc: Global,
+        feed: Feed,
+        word: &[u8],
+        texts: &[&[u8]],
+    ) -> Result<(), ReadError>
+        ensures { Gives (λ _. draft_view self.new) result (reading.inner_onto M.Kind.words (draft_view self.old) (In_feed (feed_view feed)) word.now (map (λ text. text.now) texts.now)) }
+    {
+        match from_keyword(word) {
+            Some(word) => self.message_line(alloc, feed, word, texts),
+            None => Err(ReadError::Fault(outside(word))),
+        }
+    }
+
+    /// Reads a line of the process or feed that goes on, by its word.
+    #[tactic(auto, unfolding(crate::specs::Reading::call_onto, crate::specs::Reading::message_onto))]
+    fn inner_line(&mut self, alloc: Global, word: &[u8], texts: &[&[u8]]) -> Result<(), ReadError>
+        requires few { length self.old.streams.map.entries ≤ MOST_STREAMS }
+        requires modules { self.old.modules < 2 ^ 63 }
+        ensures { Gives (λ _. draft_view self.new) result (reading.inner_onto M.Kind.words (draft_view self.old) (draft_view self.old).place word.now (map (λ text. text.now) texts.now)) }
+    {
+        match mem::replace(&mut self.current, Current::Nowhere) {
+            Current::Nowhere => Err(ReadError::Fault(outside(word))),
+            Current::Process(process) => self.process_word(alloc, process, word, texts),
+            Current::Feed(feed) => self.feed_word(alloc, feed, word, texts),
+        }
+    }
+
+    /// Reads a line, by its word.
+    #[tactic(auto, unfolding(crate::specs::Reading::word_onto))]
+    fn word_line(&mut self, alloc: Global, word: &[u8], texts: &[&[u8]]) -> Result<(), ReadError>
+        requires few { length self.old.streams.map.entries ≤ MOST_STREAMS }
+        requires modules { self.old.modules < 2 ^ 63 }
+        ensures { Gives (λ _. draft_view self.new) result (reading.word_onto M.Kind.words (draft_view self.old) word.now (map (λ text. text.now) texts.now)) }
+    {
+        if word == b"stream".as_slice() {
+            self.close()?;
+            return self.stream_line(texts);
+        }
+        if word == b"process".as_slice() {
+            self.close()?;
+            return self.process_line(alloc, texts);
+        }
+        if word == b"feed".as_slice() {
+            self.close()?;
+            return self.feed_line(alloc, texts);
+        }
+        self.inner_line(alloc, word, texts)
+    }
+
+    /// Reads a line, by its fields. A line without fields adds nothing.
+    fn fields_line(&mut self, alloc: Global, texts: &[&[u8]]) -> Result<(), ReadError>
+        requires few { length self.old.streams.map.entries ≤ MOST_STREAMS }
+        requires modules { self.old.modules < 2 ^ 63 }
+        ensures { Gives (λ _. draft_view self.new) result (reading.fields_onto M.Kind.words (draft_view self.old) (map (λ text. text.now) texts.now)) }
+    {
+        match texts {
+            [] => Ok(()),
+            [word, texts @ ..] => self.word_line(alloc, word, texts),
+        }
+    }
+
+    /// Reads a line. The list is for its fields, so that not each line takes memory for them.
+    #[tactic(auto, unfolding(crate::specs::Reading::line_onto))]
+    pub(crate) fn line<'a>(
+        &mut self,
+        alloc: Global,
+        line: &'a [u8],
+        texts: &mut Vec<&'a [u8]>,
+    ) -> Result<(), ReadError>
+        requires few { length self.old.streams.map.entries ≤ MOST_STREAMS }
+        requires modules { self.old.modules < 2 ^ 63 }
+        ensures line { Gives (λ _. draft_view self.new) result (reading.line_onto M.Kind.words (draft_view self.old) line.now) }
+        ensures length { LONGEST_LINE < length line.now → IsErrOf result (ReadError.Fault Cause.TooLong) }
+    {
+        fields_in(line, texts)?;
+        self.fields_line(alloc, texts.as_slice())
+    }
+
+    /// Whether a process goes on that has no call yet and may have that many.
+    pub(crate) fn takes(&self, many: usize) -> bool
+        ensures { result ≡ takes (draft_view self.now).place many }
+    {
+        match &self.current {
+            Current::Process(process) => process.calls.is_empty() && many <= MOST_CALLS,
+            Current::Nowhere | Current::Feed(_) => false,
+        }
+    }
+
+    /// Gives the process that goes on these calls.
+    pub(crate) fn set_calls(&mut self, calls: Script<BoxedModule<M>>)
+        requires { takes (draft_view self.old).place (length calls) ≡ true }
+        ensures { draft_view self.new ≡ with_calls (draft_view self.old) (map call_view calls) }
+    {
+        if let Current::Process(process) = &mut self.current {
+            process.calls = calls;
+        }
+    }
+
+    /// The setup of each stream that was declared so far, by its name.
+    pub(crate) fn streams(&self) -> &IndexMap<Name, Setup>
+        ensures { streams_view result.now.entries ≡ (draft_view self.now).streams }
+    {
+        &self.streams.map
+    }
+
+    /// The plan that the lines make. Fails only when memory runs out.
+    pub(crate) fn finish(mut self) -> Result<Plan<BoxedModule<M>>, ReadError>
+        ensures { Gives plan_view result (Ok (reading.plan_of (draft_view self))) }
+    {
+        self.close()?;
+        let Draft {
+            streams,
+            processes,
+            feeds,
+            modules: _,
+            current: _,
+        } = self;
+        let Declared { map, last: _ } = streams;
+        Ok(Plan {
+            streams: map,
+            processes,
+            feeds,
+        })
+    }
+}

@@ -1,0 +1,73 @@
+//! The names of streams and of processes, each of which is given once.
+ghost use Rattle.std.specs.Prelude.{◌≡◌, ◌++◌, ◌∷◌, [], false, map, IfOk, Ok};
+ghost use Rattle.std.specs.List.{list_any};
+ghost use Rattle.std.specs.Str.{bytes_eq};
+ghost use Rattle.strm_script_parse.specs.Plan.{process_view, streams_view};
+ghost use Rattle.strm_script_parse.specs.Reading as reading;
+ghost use Rattle.strm_script_parse.specs.Targets.{stream_names};
+ghost use Rattle.strm_script_words.specs.Fault.{Gives, Tells};
+
+use crate::plan::{LONGEST, Name, ProcessDecl};
+use indexmap::IndexMap;
+use strm_head_calls::Setup;
+use strm_module::{BoxedModule, ModuleOf};
+use strm_script_text::name;
+use strm_script_words::{Cause, ReadError};
+
+/// Whether a stream has this name.
+fn has_stream(streams: &IndexMap<Name, Setup>, chosen: &Name) -> bool
+    ensures { result ≡ list_any (bytes_eq chosen.now.items) (stream_names (streams_view streams.now.entries)) }
+{
+    streams.contains_key(chosen)
+}
+
+/// Whether a process has this name.
+fn has_process<M: ModuleOf>(processes: &[ProcessDecl<BoxedModule<M>>], chosen: &Name) -> bool
+    ensures { result ≡ list_any (bytes_eq chosen.now.items) (map (λ process. process.name) (map process_view processes.now)) }
+{
+    processes.iter().any(|process| *chosen == process.name)
+}
+
+/// The name of a new stream. Refused if the text is no name, or if a stream has it.
+pub(crate) fn stream_name(streams: &IndexMap<Name, Setup>, text: &[u8]) -> Result<Name, Cause>
+    ensures unused { IfOk result (λ name. list_any (bytes_eq name.items) (stream_names (streams_view streams.now.entries)) ≡ false) }
+    ensures name { Tells (λ name. name.items) result (reading.fresh_name (stream_names (streams_view streams.now.entries)) text.now) }
+{
+    let Some(chosen) = name::<LONGEST>(text) else {
+        return Err(Cause::Name);
+    };
+    if has_stream(streams, &chosen) {
+        return Err(Cause::Name);
+    }
+    Ok(chosen)
+}
+
+/// The name of a new process. Refused if the text is no name, if a process has it, or if it is `line`, which
+/// stands for arrivals in a transcript.
+pub(crate) fn process_name<M: ModuleOf>(
+    processes: &[ProcessDecl<BoxedModule<M>>],
+    text: &[u8],
+) -> Result<Name, Cause>
+    ensures { Tells (λ name. name.items) result (reading.process_name (map process_view processes.now) text.now) }
+{
+    let Some(chosen) = name::<LONGEST>(text) else {
+        return Err(Cause::Name);
+    };
+    if has_process(processes, &chosen) || chosen.as_slice() == b"line".as_slice() {
+        return Err(Cause::Name);
+    }
+    Ok(chosen)
+}
+
+/// Adds a stream of a new name as the last one. Fails only when memory runs out.
+pub(crate) fn add_stream(
+    streams: &mut IndexMap<Name, Setup>,
+    chosen: Name,
+    setup: Setup,
+) -> Result<(), ReadError>
+    requires { list_any (bytes_eq chosen.items) (stream_names (streams_view streams.old.entries)) ≡ false }
+    ensures { Gives (λ _. streams_view streams.new.entries) result (Ok (streams_view streams.old.entries ++ (chosen.items, setup) ∷ [])) }
+{
+    streams.insert(chosen, setup)?;
+    Ok(())
+}

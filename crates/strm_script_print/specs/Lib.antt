@@ -1,0 +1,6 @@
+pub mod Fields
+pub mod Replies
+pub mod LineBuffer
+pub mod Lines
+pub mod ReadBack
+pub mod Sharing

@@ -1,0 +1,50 @@
+//! The transcript of a run, as text.
+ghost use Rattle.std.specs.Prelude.{OnOk};
+ghost use Rattle.std.specs.Io.KnownBytes.{Appends};
+ghost use Rattle.strm_script_parse.specs.Plan.{names_view};
+ghost use Rattle.strm_script_print.specs.Lines.{numbered_text, transcript_text};
+
+use crate::module::PrintKind;
+use crate::stream::put_stream;
+use std::io::{self, Write};
+use strm_script_parse::Names;
+use strm_shared_entry::{StreamLog, Transcript};
+
+/// Writes the lines of the stream of this number; nothing if there is no such stream.
+pub(crate) fn put_numbered<W: Write, K: PrintKind + Drop>(
+    w: &mut W,
+    names: &Names,
+    number: usize,
+    log: &StreamLog<K>,
+) -> io::Result<()>
+    ensures { OnOk result (Appends (W.contents w.old) (W.contents w.new) (numbered_text K.spelling (names_view names.now) number log.now)) }
+{
+    match names.streams.get_index(number) {
+        Some((name, setup)) => {
+            put_stream(w, names.processes.as_slice(), name.as_slice(), setup, log)
+        }
+        None => Ok(()),
+    }
+}
+
+/// Prints a transcript to a writer: stream after stream, each with its name, and each call with the name of
+/// its process.
+///
+/// A stream has these lines: its name, each step in order with its maker and its answer, end A, and end B of
+/// a loop. A line or a wire also has the numbers of a feed's messages that were accepted, that came in, and
+/// that were handed back. Streams without a log are not printed, nor logs without a stream.
+///
+/// Refused only if the writer refuses, with its error, after the text that could be written. Takes no memory.
+#[tactic(auto, using(crate::proofs::LineLemmas::one_more_written, crate::proofs::LineLemmas::none_written))]
+pub fn print<W: Write, K: PrintKind + Drop>(
+    transcript: &Transcript<K>,
+    names: &Names,
+    w: &mut W,
+) -> io::Result<()>
+    ensures text { OnOk result (Appends (W.contents w.old) (W.contents w.new) (transcript_text K.spelling (names_view names.now) transcript.now.streams.items)) }
+{
+    for (number, log) in transcript.streams.iter().enumerate() {
+        put_numbered(w, names, number, log)?;
+    }
+    Ok(())
+}

@@ -1,0 +1,50 @@
+//! Things that scripts name by words.
+ghost use Rattle.std.specs.Prelude.{◌≡◌, map};
+ghost use Rattle.strm_script_words.specs.Fault.{Tells, or_fault};
+ghost use Rattle.strm_script_words.specs.Field.{keyword_at};
+ghost use Rattle.strm_script_words.specs.Words.{named};
+
+use crate::fault::Cause;
+use strm_script_text::is_same_word;
+
+/// A value that scripts and transcripts name by one word: a call, a flag, a kind of module.
+pub trait Keyword: Copy + 'static {
+    ghost use Rattle.std.specs.Prelude.{◌≡◌, ℕ, List};
+
+    // The word of each value.
+    ghost word: { Self → List ℕ };
+
+    // The values that a script may name.
+    ghost all: { List Self };
+
+    /// The word of the value.
+    fn word(self) -> &'static [u8]
+        ensures { result.now ≡ word self };
+
+    /// The values that a script may name.
+    fn all() -> &'static [Self]
+        ensures { result.now ≡ all };
+}
+
+/// The value of this word; nothing if the word names none.
+pub fn from_keyword<W: Keyword>(text: &[u8]) -> Option<W>
+    ensures { result ≡ named W.word W.all text.now }
+{
+    for one in W::all() {
+        if is_same_word(one.word(), text) {
+            return Some(*one);
+        }
+    }
+    None
+}
+
+/// The value of this word. Refused if the word names none.
+pub(crate) fn keyword_at<W: Keyword>(text: &[u8]) -> Result<W, Cause>
+    ensures choice { Tells W.word result (keyword_at (map W.word W.all) text.now) }
+    ensures value { Tells (λ one. one) result (or_fault Cause.UnknownWord (named W.word W.all text.now)) }
+{
+    match from_keyword(text) {
+        Some(one) => Ok(one),
+        None => Err(Cause::UnknownWord),
+    }
+}

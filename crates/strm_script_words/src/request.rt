@@ -1,0 +1,280 @@
+//! The calls of a script, by their fields.
+ghost use Rattle.std.specs.Prelude.{◌≡◌, true, false, map, IsErrOf};
+ghost use Rattle.strm_script_words.specs.Fault.{Gives, Tells};
+ghost use Rattle.strm_script_words.specs.Table as table;
+
+use crate::fault::{Cause, ReadError};
+use crate::field::{maximum_at, optional_at, part_at, u8_at, u16_at, u32_at};
+use crate::keyword::keyword_at;
+use crate::kinds::{PlayModule, ReadKind, shape_at};
+use crate::verb::Verb;
+use std::alloc::Global;
+use strm_head_calls::Request;
+use strm_module::{BoxedModule, Instance, ModuleOf};
+
+/// Reads `putmsg CTL DAT FLAG`.
+fn putmsg<M: ModuleOf>(alloc: Global, texts: &[&[u8]]) -> Result<Request<BoxedModule<M>>, ReadError>
+    ensures { Gives table.asked_of result (table.told_at Verb.Putmsg (map (λ text. text.now) texts.now)) }
+{
+    let [ctl, dat, flag] = texts else {
+        return Err(ReadError::Fault(Cause::Fields));
+    };
+    let ctl = optional_at(alloc, ctl)?;
+    let dat = optional_at(alloc, dat)?;
+    let flag = keyword_at(flag)?;
+    Ok(Request::putmsg(alloc, ctl, dat, flag)?)
+}
+
+/// Reads `putpmsg CTL DAT BAND FLAG`.
+fn putpmsg<M: ModuleOf>(
+    alloc: Global,
+    texts: &[&[u8]],
+) -> Result<Request<BoxedModule<M>>, ReadError>
+    ensures { Gives table.asked_of result (table.told_at Verb.Putpmsg (map (λ text. text.now) texts.now)) }
+{
+    let [ctl, dat, band, flag] = texts else {
+        return Err(ReadError::Fault(Cause::Fields));
+    };
+    let ctl = optional_at(alloc, ctl)?;
+    let dat = optional_at(alloc, dat)?;
+    let band = u8_at(band)?;
+    let flag = keyword_at(flag)?;
+    Ok(Request::putpmsg(alloc, ctl, dat, band, flag)?)
+}
+
+/// Reads `getmsg MAXCTL MAXDAT FLAG`.
+fn getmsg<M: ModuleOf>(texts: &[&[u8]]) -> Result<Request<BoxedModule<M>>, Cause>
+    ensures { Tells table.asked_of result (table.told_at Verb.Getmsg (map (λ text. text.now) texts.now)) }
+{
+    let [maxctl, maxdat, flag] = texts else {
+        return Err(Cause::Fields);
+    };
+    let maxctl = maximum_at(maxctl)?;
+    let maxdat = maximum_at(maxdat)?;
+    let flag = keyword_at(flag)?;
+    Ok(Request::Getmsg {
+        maxctl,
+        maxdat,
+        flag,
+    })
+}
+
+/// Reads `getpmsg MAXCTL MAXDAT BAND FLAG`.
+fn getpmsg<M: ModuleOf>(texts: &[&[u8]]) -> Result<Request<BoxedModule<M>>, Cause>
+    ensures { Tells table.asked_of result (table.told_at Verb.Getpmsg (map (λ text. text.now) texts.now)) }
+{
+    let [maxctl, maxdat, band, flag] = texts else {
+        return Err(Cause::Fields);
+    };
+    let maxctl = maximum_at(maxctl)?;
+    let maxdat = maximum_at(maxdat)?;
+    let band = u8_at(band)?;
+    let flag = keyword_at(flag)?;
+    Ok(Request::Getpmsg {
+        maxctl,
+        maxdat,
+        band,
+        flag,
+    })
+}
+
+/// Reads `read MAX`.
+fn read<M: ModuleOf>(texts: &[&[u8]]) -> Result<Request<BoxedModule<M>>, Cause>
+    ensures { Tells table.asked_of result (table.told_at Verb.Read (map (λ text. text.now) texts.now)) }
+{
+    let [max] = texts else {
+        return Err(Cause::Fields);
+    };
+    let max = u16_at(max)?;
+    Ok(Request::Read { max })
+}
+
+/// Reads `write DAT`.
+fn write<M: ModuleOf>(alloc: Global, texts: &[&[u8]]) -> Result<Request<BoxedModule<M>>, ReadError>
+    ensures { Gives table.asked_of result (table.told_at Verb.Write (map (λ text. text.now) texts.now)) }
+{
+    let [dat] = texts else {
+        return Err(ReadError::Fault(Cause::Fields));
+    };
+    let dat = part_at(alloc, dat)?;
+    Ok(Request::Write { dat })
+}
+
+/// Reads `find NAME`.
+fn find<M: ModuleOf>(alloc: Global, texts: &[&[u8]]) -> Result<Request<BoxedModule<M>>, ReadError>
+    ensures { Gives table.asked_of result (table.told_at Verb.Find (map (λ text. text.now) texts.now)) }
+{
+    let [name] = texts else {
+        return Err(ReadError::Fault(Cause::Fields));
+    };
+    let name = part_at(alloc, name)?;
+    Ok(Request::Find { name })
+}
+
+/// Reads `str CMD DAT`.
+fn str<M: ModuleOf>(alloc: Global, texts: &[&[u8]]) -> Result<Request<BoxedModule<M>>, ReadError>
+    ensures { Gives table.asked_of result (table.told_at Verb.Str (map (λ text. text.now) texts.now)) }
+{
+    let [cmd, dat] = texts else {
+        return Err(ReadError::Fault(Cause::Fields));
+    };
+    let cmd = u32_at(cmd)?;
+    let dat = optional_at(alloc, dat)?;
+    Ok(Request::str(alloc, cmd, dat)?)
+}
+
+/// Reads `flush SIDES`.
+fn flush<M: ModuleOf>(texts: &[&[u8]]) -> Result<Request<BoxedModule<M>>, Cause>
+    ensures { Tells table.asked_of result (table.told_at Verb.Flush (map (λ text. text.now) texts.now)) }
+{
+    let [sides] = texts else {
+        return Err(Cause::Fields);
+    };
+    let (r, w) = keyword_at(sides)?;
+    Ok(Request::Flush { r, w })
+}
+
+/// Reads `flushband BAND SIDES`.
+fn flush_band<M: ModuleOf>(texts: &[&[u8]]) -> Result<Request<BoxedModule<M>>, Cause>
+    ensures { Tells table.asked_of result (table.told_at Verb.FlushBand (map (λ text. text.now) texts.now)) }
+{
+    let [band, sides] = texts else {
+        return Err(Cause::Fields);
+    };
+    let band = u8_at(band)?;
+    let (r, w) = keyword_at(sides)?;
+    Ok(Request::FlushBand { band, r, w })
+}
+
+/// Reads `peek MAXCTL MAXDAT FLAG`.
+fn peek<M: ModuleOf>(texts: &[&[u8]]) -> Result<Request<BoxedModule<M>>, Cause>
+    ensures { Tells table.asked_of result (table.told_at Verb.Peek (map (λ text. text.now) texts.now)) }
+{
+    let [maxctl, maxdat, flag] = texts else {
+        return Err(Cause::Fields);
+    };
+    let maxctl = maximum_at(maxctl)?;
+    let maxdat = maximum_at(maxdat)?;
+    let flag = keyword_at(flag)?;
+    Ok(Request::Peek {
+        maxctl,
+        maxdat,
+        flag,
+    })
+}
+
+/// Reads `setread MODE PROT`.
+fn set_read<M: ModuleOf>(texts: &[&[u8]]) -> Result<Request<BoxedModule<M>>, Cause>
+    ensures { Tells table.asked_of result (table.told_at Verb.SetRead (map (λ text. text.now) texts.now)) }
+{
+    let [mode, prot] = texts else {
+        return Err(Cause::Fields);
+    };
+    let mode = keyword_at(mode)?;
+    let prot = keyword_at(prot)?;
+    Ok(Request::SetRead { mode, prot })
+}
+
+/// Reads `canput BAND`.
+fn canput<M: ModuleOf>(texts: &[&[u8]]) -> Result<Request<BoxedModule<M>>, Cause>
+    ensures { Tells table.asked_of result (table.told_at Verb.Canput (map (λ text. text.now) texts.now)) }
+{
+    let [band] = texts else {
+        return Err(Cause::Fields);
+    };
+    let band = u8_at(band)?;
+    Ok(Request::Canput { band })
+}
+
+/// Reads `ckband BAND`.
+fn ckband<M: ModuleOf>(texts: &[&[u8]]) -> Result<Request<BoxedModule<M>>, Cause>
+    ensures { Tells table.asked_of result (table.told_at Verb.Ckband (map (λ text. text.now) texts.now)) }
+{
+    let [band] = texts else {
+        return Err(Cause::Fields);
+    };
+    let band = u8_at(band)?;
+    Ok(Request::Ckband { band })
+}
+
+/// Reads `push KIND NAME RD WR` and the fields of the kind. The module is made with its object.
+fn push<M: PlayModule>(
+    alloc: Global,
+    serial: u64,
+    texts: &[&[u8]],
+) -> Result<Request<BoxedModule<M>>, ReadError>
+where
+    M::Kind: ReadKind,
+    ensures { Gives table.asked_of result (table.request_at M.Kind.words serial Verb.Push (map (λ text. text.now) texts.now)) }
+{
+    let shape = shape_at(alloc, serial, texts)?;
+    let object = M::object(alloc, &shape)?;
+    let instance = BoxedModule::new(alloc, Instance::new(shape, object))?;
+    Ok(Request::Push { instance })
+}
+
+/// Reads a call without fields. Refused if there is a field.
+fn plain<M: ModuleOf>(
+    texts: &[&[u8]],
+    request: Request<BoxedModule<M>>,
+) -> Result<Request<BoxedModule<M>>, Cause>
+    ensures { Tells table.asked_of result (table.plain_at (table.asked_of request) (map (λ text. text.now) texts.now)) }
+{
+    match texts {
+        [] => Ok(request),
+        _ => Err(Cause::Fields),
+    }
+}
+
+/// The request of a call that has no part and is no push.
+fn bare_at<M: ModuleOf>(verb: Verb, texts: &[&[u8]]) -> Result<Request<BoxedModule<M>>, Cause>
+    requires { table.takes_memory verb ≡ false }
+    ensures { Tells table.asked_of result (table.told_at verb (map (λ text. text.now) texts.now)) }
+{
+    match verb {
+        Verb::Getmsg => getmsg(texts),
+        Verb::Getpmsg => getpmsg(texts),
+        Verb::Read => read(texts),
+        Verb::Pop => plain(texts, Request::Pop),
+        Verb::Look => plain(texts, Request::Look),
+        Verb::List => plain(texts, Request::List),
+        Verb::Flush => flush(texts),
+        Verb::FlushBand => flush_band(texts),
+        Verb::Nread => plain(texts, Request::Nread),
+        Verb::Peek => peek(texts),
+        Verb::SetRead => set_read(texts),
+        Verb::GetRead => plain(texts, Request::GetRead),
+        Verb::Canput => canput(texts),
+        Verb::Ckband => ckband(texts),
+        Verb::Getband => plain(texts, Request::Getband),
+        Verb::Close => plain(texts, Request::Close),
+        Verb::Take => plain(texts, Request::Take),
+        Verb::Poll => plain(texts, Request::Poll),
+        _ => unreachable!(),
+    }
+}
+
+/// The request of a call, by its fields behind NAME:END. The module of a push gets the serial. Refused for a
+/// wrong number of fields, then for the first field with a fault; and when memory runs out, if a field is a
+/// part or the call is a push.
+pub fn request_at<M: PlayModule>(
+    alloc: Global,
+    serial: u64,
+    verb: Verb,
+    texts: &[&[u8]],
+) -> Result<Request<BoxedModule<M>>, ReadError>
+where
+    M::Kind: ReadKind,
+    ensures asked { Gives table.asked_of result (table.request_at M.Kind.words serial verb (map (λ text. text.now) texts.now)) }
+    ensures memory { IsErrOf result ReadError.Memory → table.takes_memory verb ≡ true }
+{
+    match verb {
+        Verb::Putmsg => putmsg(alloc, texts),
+        Verb::Putpmsg => putpmsg(alloc, texts),
+        Verb::Write => write(alloc, texts),
+        Verb::Push => push(alloc, serial, texts),
+        Verb::Find => find(alloc, texts),
+        Verb::Str => str(alloc, texts),
+        bare => Ok(bare_at(bare, texts)?),
+    }
+}

@@ -1,0 +1,162 @@
+//! The calls of a script, by their words.
+ghost use Rattle.std.specs.Prelude.{◌≡◌, length, map};
+ghost use Rattle.strm_script_words.specs.Fault.{Tells};
+ghost use Rattle.strm_script_words.specs.Table as table;
+
+use crate::fault::Cause;
+use crate::keyword::{Keyword, from_keyword};
+use crate::kinds::{ReadKind, push_arity};
+
+/// A call on an end of a stream.
+#[derive(Clone, Copy, Debug, PartialEq, Eq)]
+pub enum Verb {
+    /// Sends a message (putmsg(2)).
+    Putmsg,
+    /// Sends a message in a band (putpmsg(2)).
+    Putpmsg,
+    /// Takes a message (getmsg(2)).
+    Getmsg,
+    /// Takes a message of a band (getpmsg(2)).
+    Getpmsg,
+    /// Reads bytes (read(2)).
+    Read,
+    /// Writes bytes (write(2)).
+    Write,
+    /// Puts a module in below the head (I_PUSH).
+    Push,
+    /// Takes the topmost module out (I_POP).
+    Pop,
+    /// Asks for the name of the topmost module (I_LOOK).
+    Look,
+    /// Asks for the names of all modules and of the driver (I_LIST).
+    List,
+    /// Asks for a module of a name (I_FIND).
+    Find,
+    /// Sends an ioctl (I_STR).
+    Str,
+    /// Flushes all bands (I_FLUSH).
+    Flush,
+    /// Flushes one band (I_FLUSHBAND).
+    FlushBand,
+    /// Asks for the number of messages that wait (I_NREAD).
+    Nread,
+    /// Looks at the first message (I_PEEK).
+    Peek,
+    /// Sets how reads treat messages (I_SRDOPT).
+    SetRead,
+    /// Asks how reads treat messages (I_GRDOPT).
+    GetRead,
+    /// Asks whether a message of a band could be sent (I_CANPUT).
+    Canput,
+    /// Asks whether a message of a band waits (I_CKBAND).
+    Ckband,
+    /// Asks for the band of the first message (I_GETBAND).
+    Getband,
+    /// Closes the end (close(2)).
+    Close,
+    /// Takes a message that was sent down to a wire.
+    Take,
+    /// Asks for the state of the end, as poll(2) reports it.
+    Poll,
+}
+
+impl Verb {
+    /// The number of fields of the call behind NAME:END, if it is no push.
+    fn count(self) -> usize
+        ensures { result ≡ length (table.forms_of self) }
+    {
+        match self {
+            Verb::Putpmsg | Verb::Getpmsg => 4,
+            Verb::Putmsg | Verb::Getmsg | Verb::Peek => 3,
+            Verb::Str | Verb::FlushBand | Verb::SetRead => 2,
+            Verb::Read | Verb::Write | Verb::Find | Verb::Flush | Verb::Canput | Verb::Ckband => 1,
+            Verb::Push
+            | Verb::Pop
+            | Verb::Look
+            | Verb::List
+            | Verb::Nread
+            | Verb::GetRead
+            | Verb::Getband
+            | Verb::Close
+            | Verb::Take
+            | Verb::Poll => 0,
+        }
+    }
+
+    /// The number of fields of the call behind NAME:END. For a push it depends on the first of them. Refused
+    /// if that is missing, or names no kind of module.
+    pub fn arity<K: ReadKind>(self, texts: &[&[u8]]) -> Result<usize, Cause>
+        ensures { Tells (λ n. n) result (table.arity_at K.words self (map (λ text. text.now) texts.now)) }
+    {
+        if matches!(self, Verb::Push) {
+            return push_arity::<K>(texts);
+        }
+        Ok(self.count())
+    }
+}
+
+impl Keyword for Verb {
+    ghost use Rattle.strm_script_words.specs.Table.{all_verbs, word_of};
+
+    ghost word = { word_of };
+
+    ghost all = { all_verbs };
+
+    fn word(self) -> &'static [u8] {
+        match self {
+            Verb::Putmsg => b"putmsg",
+            Verb::Putpmsg => b"putpmsg",
+            Verb::Getmsg => b"getmsg",
+            Verb::Getpmsg => b"getpmsg",
+            Verb::Read => b"read",
+            Verb::Write => b"write",
+            Verb::Push => b"push",
+            Verb::Pop => b"pop",
+            Verb::Look => b"look",
+            Verb::List => b"list",
+            Verb::Find => b"find",
+            Verb::Str => b"str",
+            Verb::Flush => b"flush",
+            Verb::FlushBand => b"flushband",
+            Verb::Nread => b"nread",
+            Verb::Peek => b"peek",
+            Verb::SetRead => b"setread",
+            Verb::GetRead => b"getread",
+            Verb::Canput => b"canput",
+            Verb::Ckband => b"ckband",
+            Verb::Getband => b"getband",
+            Verb::Close => b"close",
+            Verb::Take => b"take",
+            Verb::Poll => b"poll",
+        }
+    }
+
+    fn all() -> &'static [Verb] {
+        &[
+            Verb::Putmsg,
+            Verb::Putpmsg,
+            Verb::Getmsg,
+            Verb::Getpmsg,
+            Verb::Read,
+            Verb::Write,
+            Verb::Push,
+            Verb::Pop,
+            Verb::Look,
+            Verb::List,
+            Verb::Find,
+            Verb::Str,
+            Verb::Flush,
+            Verb::FlushBand,
+            Verb::Nread,
+            Verb::Peek,
+            Verb::SetRead,
+            Verb::GetRead,
+            Verb::Canput,
+            Verb::Ckband,
+            Verb::Getband,
+            Verb::Close,
+            Verb::Take,
+            Verb::Poll,
+        ]
+    }
+}

@@ -1,5 +1,0 @@
-use Rattle.strm_settling.proofs.SettlingLemmas.{settling_ends}
-use Rattle.strm_settling.proofs.laws.settling_ends.Goals as goal
-
-pub returns : goal.returns
-returns g c = settling_ends

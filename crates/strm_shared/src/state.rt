@@ -1,0 +1,227 @@
+//! The state under the lock of a shared stream.
+ghost use Rattle.std.specs.Prelude.{◌≡◌, ◌↔◌, ◌+◌, ◌<◌, ◌^◌, true, [], All, IfOk, length, replicate};
+ghost use Rattle.strm_module.specs.Driver.{is_line};
+ghost use Rattle.strm_head_calls.specs.Setup.{is_fit};
+ghost use Rattle.strm_head_calls.specs.declared.event.Event.TheVariants.{Asked};
+ghost use Rattle.strm_shared_entry.specs.Own.{arrivals};
+ghost use Rattle.strm_shared_entry.specs.Called.{is_done};
+ghost use Rattle.strm_shared_log.specs.Log.{CallsBy, LeavesRoom};
+ghost use Rattle.strm_shared_log.specs.Opened.{opened};
+ghost use Rattle.strm_shared_ring.specs.StreamRunName.{IsNextOf};
+ghost use Rattle.strm_shared_ring.specs.Inlet.{fresh_inlet};
+ghost use Rattle.strm_shared.specs.Ending.{room_of, Counted};
+ghost use Rattle.strm_shared.specs.CallCounts.{has_count, turned, AreInTurn};
+ghost use Rattle.strm_shared.specs.Arrivals.{Intakes, CallsAfter, TakesAll};
+
+use crate::call_counts::CallCounts;
+use crate::seat::Seat;
+use std::alloc::Global;
+use std::marker::Model;
+use strm_head_calls::ReplyForm;
+use strm_module::{BoxedModule, ModuleOf};
+use strm_msg::NoMem;
+use strm_shared_log::{Call, Called, EntryCell, EntryRoom, Landed, Log, Setup};
+use strm_shared_ring::{Inlet, StreamRunName};
+
+/// The state under the lock of a shared stream: the number of the stream, the stream with its history, the
+/// number of calls that each caller has made there, and the inlet for the messages of a line.
+///
+/// While the calls are in turn, the counts are those of the history, and the calls of each caller are the
+/// first of those that the run has for it. The messages that came in, as the history has them, are those that
+/// have left the inlet.
+#[derive(Drop)]
+pub(crate) struct SharedState<M: ModuleOf, N: StreamRunName<M::Kind>> {
+    number: u32,
+    log: Log<M>,
+    turns: CallCounts,
+    inlet: Inlet<M::Kind, N>,
+}
+
+impl<M: ModuleOf, N: StreamRunName<M::Kind>> Model for SharedState<M, N> {
+    ghost use Rattle.strm_shared.specs.CallCounts.{SharedStateValue, IsSharedState};
+
+    ghost Value = { SharedStateValue M.Kind };
+
+    ghost view = { λ s. record { number = s.number; log = s.log; turns = s.turns; inlet = s.inlet } };
+
+    ghost invariant = { λ s. IsSharedState (N.calls s.number) s.number s.log s.turns s.inlet };
+}
+
+/// The outcome of the next message of a line.
+#[derive(Clone, Copy)]
+pub(crate) enum Intake {
+    /// It came in.
+    Entered,
+    /// There is none, or it cannot come in yet, and is held back.
+    HeldBack,
+    /// Memory ran out for it, and it is held back.
+    NoMem,
+}
+
+impl<M: ModuleOf, N: StreamRunName<M::Kind>> SharedState<M, N> {
+    /// A stream that was just made, on which no caller has made a call, with the inlet of its ring. Fails
+    /// only when memory runs out.
+    pub(crate) fn new(
+        alloc: Global,
+        number: u32,
+        setup: Setup,
+        callers: u32,
+        inlet: Inlet<M::Kind, N>,
+    ) -> Result<SharedState<M, N>, NoMem>
+        requires marks { is_fit setup ≡ true }
+        requires inlet { inlet ≡ fresh_inlet number (is_line setup.driver) }
+        ensures number { IfOk result (λ all. all.number ≡ number) }
+        ensures log { IfOk result (λ all. all.log ≡ record { setup = setup; image = opened setup; history = []; room = 0 }) }
+        ensures turns { IfOk result (λ all. all.turns ≡ record { counts = replicate callers 0; in_turn = true }) }
+    {
+        let turns = CallCounts::new(alloc, callers)?;
+        let Ok(log) = Log::new(alloc, setup) else {
+            return Err(NoMem);
+        };
+        Ok(SharedState {
+            number,
+            log,
+            turns,
+            inlet,
+        })
+    }
+
+    /// Whether it is the state under the lock of the stream of this number and setup.
+    pub(crate) fn is_of(&self, number: u32, setup: Setup) -> bool
+        ensures { result ≡ true ↔ (self.now.number ≡ number) × (self.now.log.setup ≡ setup) }
+    {
+        self.number == number && self.log.setup() == setup
+    }
+
+    /// Whether the calls are in turn, those of as many callers, and each seat counts as many as its caller
+    /// has made.
+    pub(crate) fn seats_agree(&self, callers: u32, seats: &[Seat]) -> bool
+        ensures { result ≡ true ↔ (self.now.turns.in_turn ≡ true) × (length self.now.turns.counts ≡ callers) × All (λ seat. has_count seat self.now.turns.counts ≡ true) seats.now }
+    {
+        self.turns.seats_agree(callers, seats)
+    }
+
+    /// Lets the next message of the line come in, if there is one and it can. Else it is held back, and
+    /// nothing is changed. Room for a call's entry stays.
+    #[inline(never)]
+    fn admit_next(&mut self) -> Intake
+        ensures number { self.new.number ≡ self.old.number }
+        ensures log { Intakes M.Kind.means self.old.log result self.new.log self.new.inlet.held }
+        ensures room { LeavesRoom self.old.log self.new.log }
+        ensures turns { self.new.turns ≡ self.old.turns }
+    {
+        let Some(m) = self.inlet.take() else {
+            return Intake::HeldBack;
+        };
+        match self.log.arrive(m) {
+            Landed::Entered => Intake::Entered,
+            Landed::Full(m) => {
+                self.inlet.hold(m);
+                Intake::HeldBack
+            }
+            Landed::NoMem(m) => {
+                self.inlet.hold(m);
+                Intake::NoMem
+            }
+        }
+    }
+
+    /// Lets messages of the line come in, in order, as long as they can, at most as many as its ring holds,
+    /// and returns whether there was memory for each. The first for which there was none is held back, and
+    /// none comes in behind it. Room for a call's entry stays.
+    fn admit_arrivals(&mut self) -> bool
+        ensures number { self.new.number ≡ self.old.number }
+        ensures log { TakesAll M.Kind.means self.old.log result self.new.log self.new.inlet.held }
+        ensures room { LeavesRoom self.old.log self.new.log }
+        ensures turns { self.new.turns ≡ self.old.turns }
+    {
+        if !self.log.setup().is_line() {
+            return true;
+        }
+        for _at in 0..self.log.setup().ring {
+            match self.admit_next() {
+                Intake::Entered => {}
+                Intake::HeldBack => return true,
+                Intake::NoMem => return false,
+            }
+        }
+        true
+    }
+
+    /// Makes one call of a seat, as `Log::enter` makes it. The seat counts it, and it is counted in its turn.
+    /// There is room for its entry in the history.
+    fn enter<A: ReplyForm>(
+        &mut self,
+        seat: &mut Seat,
+        call: Call<BoxedModule<M>>,
+        room: EntryRoom<M::Kind>,
+        cell: EntryCell<M::Kind>,
+    ) -> Called<BoxedModule<M>, M::Kind, A::CallerCopy>
+        requires room { room ≡ room_of seat.old call }
+        requires next { IsNextOf (N.calls seat.old.number seat.old.caller) seat.old.calls (call.end, Asked call.request) }
+        requires counts { seat.old.calls + 1 < 2 ^ 64 }
+        requires reserved { 0 < self.old.log.room }
+        ensures number { self.new.number ≡ self.old.number }
+        ensures log { CallsBy M.Kind.means A.Agrees self.old.log seat.old.caller (seat.old.calls + 1) call result self.new.log }
+        ensures made { is_done result ≡ true }
+        ensures counts { Counted call seat.old result seat.new }
+        ensures turns { self.new.turns ≡ turned self.old.number seat.old result self.old.turns }
+        ensures inlet { self.new.inlet ≡ self.old.inlet }
+    {
+        let is_next = self.turns.is_next(self.number, seat);
+        let called = self.log.enter::<A>(call, room, cell);
+        seat.count(called.has_receipt());
+        self.turns.count(is_next, seat);
+        called
+    }
+
+    /// Makes one call of a seat, with room for its entry, after the messages of the line that can come in.
+    /// Its place in the history is found first. Where memory runs out for that, the call comes back and
+    /// nothing came in. Where memory runs out for a message, those before it came in, that one is held back,
+    /// and the call comes back.
+    ///
+    /// To be called with the call that the run has next for the seat, which can count one more.
+    pub(crate) fn call<A: ReplyForm>(
+        &mut self,
+        seat: &mut Seat,
+        call: Call<BoxedModule<M>>,
+        room: EntryRoom<M::Kind>,
+    ) -> Called<BoxedModule<M>, M::Kind, A::CallerCopy>
+        requires room { room ≡ room_of seat.old call }
+        requires next { IsNextOf (N.calls seat.old.number seat.old.caller) seat.old.calls (call.end, Asked call.request) }
+        requires counts { seat.old.calls + 1 < 2 ^ 64 }
+        ensures number { self.new.number ≡ self.old.number }
+        ensures log { CallsAfter M.Kind.means A.Agrees self.old.log seat.old.caller (seat.old.calls + 1) call result self.new.log self.new.inlet.held }
+        ensures counts { Counted call seat.old result seat.new }
+        ensures turns { self.new.turns ≡ turned self.old.number seat.old result self.old.turns }
+    {
+        let Ok(cell) = self.log.reserve() else {
+            drop(room);
+            return Called::NoRoom(call);
+        };
+        if !self.admit_arrivals() {
+            drop(cell);
+            drop(room);
+            return Called::NoRoom(call);
+        }
+        self.enter::<A>(seat, call, room, cell)
+    }
+
+    /// The stream with its history, the counts, and the inlet.
+    pub(crate) fn into_parts(self) -> (Log<M>, CallCounts, Inlet<M::Kind, N>)
+        ensures log { result.0 ≡ self.log }
+        ensures turns { result.1 ≡ self.turns }
+        ensures inlet { result.2 ≡ self.inlet }
+        ensures in_turn { self.turns.in_turn ≡ true → AreInTurn (N.calls self.number) self.turns.counts self.log.history }
+        ensures came_in { arrivals self.log.history ≡ self.inlet.came }
+        ensures of { (self.inlet.number ≡ self.number) × (self.inlet.is_fed ≡ is_line self.log.setup.driver) }
+    {
+        let SharedState {
+            number: _,
+            log,
+            turns,
+            inlet,
+        } = self;
+        (log, turns, inlet)
+    }
+}

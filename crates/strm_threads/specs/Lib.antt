@@ -1,2 +1,0 @@
-pub mod Portions
-pub mod Turns

@@ -159,6 +159,7 @@ impl Moves {
     }
 
     /// Puts a move behind the others. Fails only when memory runs out.
+    #[inline(always)]
     pub(crate) fn push(&mut self, alloc: Global, place: Place) -> Result<(), NoMem>
         ensures { OnOk result (self.new ≡ self.old ++ place ∷ []) }
     {

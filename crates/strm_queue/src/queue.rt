@@ -225,6 +225,7 @@ impl BandQueue {
 
     /// Whether a band holds the low water mark or less, so that messages that wait behind the queue must
     /// move. Between the marks, where a band is neither slack nor full, they may move and need not.
+    #[inline(always)]
     pub fn slack(&self, band: u8) -> bool
         ensures { result ≡ is_slack self.now.marks self.now.messages band }
     {

@@ -58,14 +58,15 @@ impl<M: ModuleOf> Ends<M> {
         if !driver.has_end(end) {
             return Ok(DriverSends::Nothing);
         }
-        match end {
-            End::A => {
+        match (driver, end) {
+            (Driver::Wire, End::A) => {
                 let kind = m.kind;
                 let sends = self.a.put_at_driver(driver, m)?;
                 self.flush_input(kind);
                 Ok(sends)
             }
-            End::B => self.b.put_at_driver(driver, m),
+            (Driver::Echo | Driver::Loop | Driver::Line, End::A) => self.a.put_at_driver(driver, m),
+            (_, End::B) => self.b.put_at_driver(driver, m),
         }
     }
 

@@ -151,13 +151,13 @@ impl<M: ModuleOf> Chain<M> {
         ensures back { IfErr result (λ same. same ≡ instance) }
         ensures rooms { self.new.rooms ≡ self.old.rooms }
     {
-        match self.ends.insert(end, instance) {
-            Ok(()) => {
-                self.enabling.enable_all(&self.ends);
-                Ok(())
-            }
-            Err(instance) => Err(instance),
+        if !self.ends.end(end).has_room() {
+            return Err(instance);
         }
+        let alloc = self.ends.alloc();
+        self.ends.end_mut(end).insert(alloc, instance);
+        self.enabling.enable_all(&self.ends);
+        Ok(())
     }
 
     /// Takes the topmost module out, and drops the messages in its queues (I_POP). Takes no memory, and no
@@ -168,7 +168,7 @@ impl<M: ModuleOf> Chain<M> {
         ensures image { self.new.image ≡ with_end self.old.image end (removed (end_of self.old.image end)) }
         ensures rooms { self.new.rooms ≡ self.old.rooms }
     {
-        let module = self.ends.remove(end);
+        let module = self.ends.end_mut(end).remove();
         self.enabling.enable_all(&self.ends);
         module
     }
@@ -181,7 +181,7 @@ impl<M: ModuleOf> Chain<M> {
         ensures room { KeepsHeadRoom self.old.rooms self.new.rooms }
         ensures line_room { self.new.rooms.line ≡ self.old.rooms.line }
     {
-        let modules = self.ends.dismantle(end);
+        let modules = self.ends.end_mut(end).close();
         self.enabling.enable_all(&self.ends);
         modules
     }

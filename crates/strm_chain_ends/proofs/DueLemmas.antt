@@ -2,7 +2,6 @@
 use Rattle.std.proofs.Common.{◌≡◌, ◌≤◌, ℕ, ◌||◌, Bool, true, false, Option, Some, None, List, refl, sym, ◌∙◌, ap, arith, is_some}
 use Rattle.std.proofs.lemmas.Bool.Decides.{nat_tests}
 use Rattle.strm_msg.specs.Message.{Msg}
-use Rattle.strm_msg.specs.Kind.{is_high}
 use Rattle.strm_msg.specs.Marks.{WaterMarks}
 use Rattle.strm_module.specs.Kinds.{Meaning}
 use Rattle.strm_chain_end.specs.declared.offer.Offer.{Offer}

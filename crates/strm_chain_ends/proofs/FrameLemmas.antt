@@ -505,7 +505,7 @@ in_drv_keeps : {K : Type 0} (e : EndState K) (q : List Msg) → SameEnd e (in_dr
 in_drv_keeps e q =
     record { is_open = refl; drv_marks = refl; modules = refl; ids = same_ids e.state }
 
-with_end_keeps : {K : Type 0} (image : Image K) (e : End) (s : EndState K) → SameEnd (end_of image e) s → SameModules image (with_end image e s)
+pub with_end_keeps : {K : Type 0} (image : Image K) (e : End) (s : EndState K) → SameEnd (end_of image e) s → SameModules image (with_end image e s)
 with_end_keeps image A s h = record { driver = refl; broken = refl; on_a = h; on_b = same_end image.b }
 with_end_keeps image B s h = record { driver = refl; broken = refl; on_a = same_end image.a; on_b = h }
 

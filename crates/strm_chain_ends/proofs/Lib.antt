@@ -10,3 +10,4 @@ mod CircleExamples
 pub mod TurnLemmas
 pub mod ServingLemmas
 pub mod OrderLemmas
+pub mod LentLemmas

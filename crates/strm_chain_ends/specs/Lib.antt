@@ -7,3 +7,4 @@ pub mod Next
 pub mod Count
 pub mod Serving
 pub mod Order
+pub mod Lent

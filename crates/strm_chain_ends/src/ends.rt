@@ -1,22 +1,17 @@
 //! One or two ends over a driver.
-ghost use Rattle.std.specs.Prelude.{◌≡◌, ◌∷◌, [], ◌≤◌, OnOk, OnErr, IfErr, IfOk, IfSome, IfNone, is_ok, true, map, Some};
-ghost use Rattle.strm_module.specs.Driver.{has_end};
-ghost use Rattle.strm_chain_end.specs.End.{shapes_of};
+ghost use Rattle.std.specs.Prelude.{◌≡◌, ◌≤◌, IfOk, true};
 ghost use Rattle.strm_chain_end.specs.Modules.{IsFitEnd, HoldsCalm};
-ghost use Rattle.strm_chain_end.specs.Change.{has_room, inserted, removed, closed};
-ghost use Rattle.strm_chain_ends.specs.Image.{end_of, with_end, count_of, room_of, KeepsHeadRoom, fresh};
+ghost use Rattle.strm_chain_ends.specs.Image.{end_of, count_of, room_of, fresh};
 ghost use Rattle.strm_chain_ends.specs.Order.{comes_back, goes_round};
 
-use arrayvec::ArrayVec;
 use std::alloc::Global;
 use std::marker::Model;
 use strm_chain_end::StreamEnd;
-use strm_module::{BoxedModule, Driver, MOST_MODULES, ModuleOf, Shape};
+use strm_module::{Driver, MOST_MODULES, ModuleOf, Shape};
 use strm_msg::{End, Marks, NoMem, Side};
 
 mod flow;
-mod head;
-mod line;
+mod lent;
 mod message;
 
 /// The queues of a stream, with its modules and the records of its heads.
@@ -127,52 +122,5 @@ impl<M: ModuleOf> Ends<M> {
         ensures { result ≡ goes_round M.Kind.means self.now.image end shape.now }
     {
         shape.answers(Side::Rd) && (self.comes_back(end) || self.end(end).answers(Side::Wr))
-    }
-
-    /// Puts a module just below the head, with empty queues (I_PUSH). Takes no memory, and no list
-    /// loses room.
-    ///
-    /// Where the end has no room for it the instance comes back, and nothing is changed.
-    pub fn insert(&mut self, end: End, instance: BoxedModule<M>) -> Result<(), BoxedModule<M>>
-        ensures variant { is_ok result ≡ has_room (end_of self.old.image end) }
-        ensures ok { OnOk result (self.new ≡ record self.old { image = with_end self.old.image end (inserted (end_of self.old.image end) instance) }) }
-        ensures err { OnErr result (self.new ≡ self.old) }
-        ensures back { IfErr result (λ same. same ≡ instance) }
-    {
-        if !self.end(end).has_room() {
-            return Err(instance);
-        }
-        match end {
-            End::A => self.a.insert(self.alloc, instance),
-            End::B => self.b.insert(self.alloc, instance),
-        }
-        Ok(())
-    }
-
-    /// Takes the topmost module out, and drops the messages in its queues (I_POP). Takes no memory, and no
-    /// list loses room.
-    pub fn remove(&mut self, end: End) -> Option<BoxedModule<M>>
-        ensures some { IfSome result (λ it. shapes_of (end_of self.old.image end) ≡ it ∷ shapes_of (end_of self.new.image end)) }
-        ensures none { IfNone result ((end_of self.old.image end).modules ≡ []) }
-        ensures image { self.new ≡ record self.old { image = with_end self.old.image end (removed (end_of self.old.image end)) } }
-    {
-        match end {
-            End::A => self.a.remove(),
-            End::B => self.b.remove(),
-        }
-    }
-
-    /// Takes all modules of an end out, topmost first, drops the messages in their queues and in the head's
-    /// list, and closes the end (close(2)). The driver's list stays. Takes no memory, and no list loses room.
-    pub fn dismantle(&mut self, end: End) -> ArrayVec<Option<BoxedModule<M>>, MOST_MODULES>
-        ensures instances { result.items ≡ map (λ s. Some s.shape) (end_of self.old.image end).modules }
-        ensures image { self.new.image ≡ with_end self.old.image end (closed (end_of self.old.image end)) }
-        ensures room { KeepsHeadRoom self.old.rooms self.new.rooms }
-        ensures line_room { self.new.rooms.line ≡ self.old.rooms.line }
-    {
-        match end {
-            End::A => self.a.close(),
-            End::B => self.b.close(),
-        }
     }
 }

@@ -33,7 +33,7 @@ impl<M: ModuleOf> Chain<M> {
     {
         let queue = NextQueue::Head { end };
         let before = self.ends.len(queue);
-        let first = self.ends.take_head(end);
+        let first = self.ends.end_mut(end).take_head();
         self.enabling.enable_by_change(&self.ends, queue, before);
         first
     }
@@ -48,7 +48,7 @@ impl<M: ModuleOf> Chain<M> {
         ensures room { KeepsHeadRoom self.old.rooms self.new.rooms }
         ensures line_room { self.new.rooms.line ≡ self.old.rooms.line }
     {
-        self.ends.head_room(end, rank)
+        self.ends.end_mut(end).head_room(rank)
     }
 
     /// Puts a message back into a head's list, before those of its rank (putbq(9F)). That takes room
@@ -67,7 +67,7 @@ impl<M: ModuleOf> Chain<M> {
     {
         let queue = NextQueue::Head { end };
         let before = self.ends.len(queue);
-        let answer = self.ends.put_back_head(end, m);
+        let answer = self.ends.end_mut(end).put_back_head(m);
         self.enabling.enable_by_change(&self.ends, queue, before);
         answer
     }
@@ -83,7 +83,7 @@ impl<M: ModuleOf> Chain<M> {
     pub fn set_mode(&mut self, end: End, mode: ReadMode, prot: Prot)
         ensures { self.new ≡ record self.old { image = with_state self.old.image end (with_mode (end_of self.old.image end).state mode prot) } }
     {
-        self.ends.set_mode(end, mode, prot)
+        self.ends.end_mut(end).set_mode(mode, prot)
     }
 
     /// Takes the next id of an end for an ioctl, whose answer is awaited from then on (I_STR).
@@ -94,7 +94,7 @@ impl<M: ModuleOf> Chain<M> {
         ensures id { result ≡ (end_of self.old.image end).state.next }
         ensures image { self.new ≡ record self.old { image = with_state self.old.image end (awaiting_next (end_of self.old.image end).state) } }
     {
-        self.ends.begin_ioctl(end)
+        self.ends.end_mut(end).begin_ioctl()
     }
 
     /// Gives back the id that was taken last, where its ioctl was not sent. To be called where an answer is
@@ -104,7 +104,7 @@ impl<M: ModuleOf> Chain<M> {
         requires unanswered { IsNone (end_of self.old.image end).state.kept }
         ensures { self.new ≡ record self.old { image = with_state self.old.image end (id_given_back (end_of self.old.image end).state) } }
     {
-        self.ends.undo_ioctl(end)
+        self.ends.end_mut(end).undo_ioctl()
     }
 
     /// Takes the answer to an ioctl, if one came, and awaits none any longer. No list loses room.
@@ -112,6 +112,6 @@ impl<M: ModuleOf> Chain<M> {
         ensures answer { result ≡ (end_of self.old.image end).state.kept }
         ensures image { self.new ≡ record self.old { image = with_state self.old.image end (awaiting_none (end_of self.old.image end).state) } }
     {
-        self.ends.end_ioctl(end)
+        self.ends.end_mut(end).end_ioctl()
     }
 }

@@ -37,7 +37,8 @@ impl<M: ModuleOf> Chain<M> {
         ensures line_room { KeepsRoom self.old.rooms.line self.new.rooms.line }
         ensures rest { self.new ≡ record self.old { rooms = record self.old.rooms { line = self.new.rooms.line } } }
     {
-        self.ends.line_room(rank)
+        let end = self.ends.driver().input_end();
+        self.ends.end_mut(end).driver_room(rank)
     }
 
     /// Puts an ordinary message that came in into the list of these (putq(9F)). A high one goes up at once,
@@ -57,13 +58,12 @@ impl<M: ModuleOf> Chain<M> {
         ensures room_a { self.new.rooms.a ≡ self.old.rooms.a }
         ensures room_b { self.new.rooms.b ≡ self.old.rooms.b }
     {
+        let end = self.ends.driver().input_end();
         let queue = NextQueue::Of {
-            place: Place::Drv {
-                end: self.ends.driver().input_end(),
-            },
+            place: Place::Drv { end },
         };
         let before = self.ends.len(queue);
-        let answer = self.ends.line_put(m);
+        let answer = self.ends.end_mut(end).put_driver(m);
         self.enabling.enable_by_change(&self.ends, queue, before);
         answer
     }

@@ -91,7 +91,7 @@ impl<M: ModuleOf> Chain<M> {
         let queue = NextQueue::Head { end };
         let before = self.ends.len(queue);
         let sets = sets_options(m.kind);
-        let answer = self.ends.put_at_head(end, m);
+        let answer = self.ends.end_mut(end).put_at_head(m);
         if sets {
             self.enabling.back_enable(&self.ends, queue);
             return answer;
@@ -147,7 +147,8 @@ impl<M: ModuleOf> Chain<M> {
         let flushes = is_flush(m.kind);
         let module = i as u8;
         let turns = self.ends.turns(end, module);
-        let answer = self.ends.put_at(end, i, side, m);
+        let alloc = self.ends.alloc();
+        let answer = self.ends.end_mut(end).put_at(alloc, i, side, m);
         if flushes {
             self.enabling.enable_all(&self.ends);
             return answer;
@@ -172,7 +173,8 @@ impl<M: ModuleOf> Chain<M> {
         let before = self.ends.len(queue);
         let module = i as u8;
         let turns = self.ends.turns(end, module);
-        match self.ends.serve_at(end, i, side) {
+        let alloc = self.ends.alloc();
+        match self.ends.end_mut(end).serve_at(alloc, i, side) {
             Ok(outs) => {
                 self.enabling
                     .enable_by_turns(&self.ends, end, module, turns);
@@ -200,7 +202,7 @@ impl<M: ModuleOf> Chain<M> {
             place: Place::Drv { end },
         };
         let before = self.ends.len(queue);
-        let first = self.ends.take_driver(end);
+        let first = self.ends.end_mut(end).take_driver();
         self.enabling.enable_by_change(&self.ends, queue, before);
         first
     }

@@ -15,21 +15,29 @@ use Rattle.strm_chain_ends.specs.Count.{answers_options}
 use Rattle.strm_chain.proofs.CountLemmas.{gets_grows, gets_sets_less, count_put}
 use Rattle.strm_chain.specs.Deliver.{ModuleStep}
 use Rattle.strm_chain.proofs.HopLemmas.{gets_nowhere}
+use Rattle.strm_chain_end.specs.End.{end_gets}
+use Rattle.strm_chain_ends.specs.Image.{with_end}
+use Rattle.strm_chain_ends.proofs.LentLemmas.{lent_ok, lent_err, lent_same}
 use Rattle.strm_chain.proofs.chain.Chain.put_at.Goals as goal
 
 pub invariant_of-self-2 : goal.invariant_of-self-2
 invariant_of-self-2 g c =
     let old = c.self.inside.ends.image in
-    let new = c.put_at-answer.new.self.image in
+    let lent = c.end_mut.result.now.state in
+    let left = c.put_at-answer.new.self.state in
+    let new = with_end old c.args.end left in
+    let state = lent_ok c.put_at-answer.result old c.args.end lent left (λ s. (end_gets g.M.Kind.Kinds.means s c.args.i c.args.side c.args.m).state) c.end_mut.ensures.state c.put_at-answer.ensures.state in
+    let err = lent_err c.put_at-answer.result old c.args.end lent left c.end_mut.ensures.state c.put_at-answer.ensures.err in
+    let same = lent_same old c.args.end lent left c.end_mut.ensures.state c.put_at-answer.ensures.same in
     let calm : is_flush c.args.m.kind ≡ false = rw (← c.deref.ensures, ← c.behind-m.view_is) (sym c.is_flush-flushes.ensures ∙ c.if-flushes.false) in
     let elsewhere : (p : Place) → p ≢ Places.Wr c.args.end c.args.i → p ≢ Places.Rd c.args.end c.args.i → turn_of g.M.Kind.Kinds.means new p ≡ turn_of g.M.Kind.Kinds.means old p =
-    on_result c.put_at-answer.result _ _ _ c.put_at-answer.ensures.state c.put_at-answer.ensures.err
+    on_result c.put_at-answer.result _ _ _ state err
     (λ e. turns_gets g.M.Kind.Kinds.means old new c.args.end c.args.i c.args.side c.args.m e)
     (λ e p w r. ap (λ x. turn_of g.M.Kind.Kinds.means x p) e) in
     let differs : DiffersIn old new c.in-Some.queue =
     rw c.in-Some.ensures.some
-    (on_result c.put_at-answer.result _ _ _ c.put_at-answer.ensures.state c.put_at-answer.ensures.err
-    (λ e. gets_differs g.M.Kind.Kinds.means old c.args.end new c.args.i c.args.side c.args.m c.put_at-answer.ensures.same calm e)
+    (on_result c.put_at-answer.result _ _ _ state err
+    (λ e. gets_differs g.M.Kind.Kinds.means old c.args.end new c.args.i c.args.side c.args.m same calm e)
     (λ e. same_differs old new (Of (module_place c.args.side c.args.end c.args.i)) e)) in (
       c.enable_by_change.ensures.ready old c.len-before.ensures (c.enable_by_turns.ensures.ready old c.self.invariant.0) differs
           (c.enable_by_turns.ensures.known old (sym c.turns-turns.ensures.wr) (sym c.turns-turns.ensures.rd) elsewhere),
@@ -40,12 +48,17 @@ invariant_of-self-2 g c =
 pub returns-clause-grows : goal.returns-clause-grows
 returns-clause-grows g c =
     let old = c.self.inside.ends.image in
-    let new = c.put_at-answer.new.self.image in
+    let lent = c.end_mut.result.now.state in
+    let left = c.put_at-answer.new.self.state in
+    let new = with_end old c.args.end left in
+    let state = lent_ok c.put_at-answer.result old c.args.end lent left (λ s. (end_gets g.M.Kind.Kinds.means s c.args.i c.args.side c.args.m).state) c.end_mut.ensures.state c.put_at-answer.ensures.state in
+    let err = lent_err c.put_at-answer.result old c.args.end lent left c.end_mut.ensures.state c.put_at-answer.ensures.err in
+    let same = lent_same old c.args.end lent left c.end_mut.ensures.state c.put_at-answer.ensures.same in
     let calm_kind : is_flush c.args.m.kind ≡ false = rw (← c.deref.ensures, ← c.behind-m.view_is) (sym c.is_flush-flushes.ensures ∙ c.if-flushes.false) in
     let queue = Of (module_place c.args.side c.args.end c.args.i) in
     let is = c.in-Some.ensures.some in
     rw (← c.self.view_is)
-    (if_ok c.put_at-answer.result _ _ _ c.put_at-answer.ensures.state c.put_at-answer.ensures.outs
+    (if_ok c.put_at-answer.result _ _ _ state c.put_at-answer.ensures.outs
     (λ outs e sent kinds calm.
     let b = answers_options old.driver in
     let grow = gets_grows g.M.Kind.Kinds.means old new c.args.end c.args.i c.args.side c.args.m kinds calm e in
@@ -54,37 +67,10 @@ returns-clause-grows g c =
     let put = c.enable_by_change.ensures.put (omega (arith, was, now, grow)) in
     let still = ap length (c.enable_by_turns.ensures.steady (gets_steady g.M.Kind.Kinds.means kinds old new c.args.end c.args.i c.args.side Wr c.args.m e ∙ sym c.turns-turns.ensures.wr) (gets_steady g.M.Kind.Kinds.means kinds old new c.args.end c.args.i c.args.side Rd c.args.m e ∙ sym c.turns-turns.ensures.rd)) in
     let less : length c.enable_by_change.new.self.run.items + length (held_by old queue) ≤ length c.self.inside.enabling.run.items + length (held_by new queue) = omega (arith, put, was, now, still) in
-    count_put old new queue (length c.self.inside.enabling.run.items) (length c.enable_by_change.new.self.run.items) (options_of b c.args.m) (options_sent b outs.items) (gets_differs g.M.Kind.Kinds.means old c.args.end new c.args.i c.args.side c.args.m c.put_at-answer.ensures.same calm_kind e) less (gets_sets_less g.M.Kind.Kinds.means b old new c.args.end c.args.i c.args.side c.args.m outs.items kinds calm e sent)))
-
-pub returns-clause-image : goal.returns-clause-image
-returns-clause-image g c = rw (← c.self.view_is) c.put_at-answer.ensures.state
-
-pub returns-clause-outs : goal.returns-clause-outs
-returns-clause-outs g c = rw (← c.self.view_is) c.put_at-answer.ensures.outs
-
-pub returns-clause-err : goal.returns-clause-err
-returns-clause-err g c = rw (← c.self.view_is) c.put_at-answer.ensures.err
-
-pub returns-clause-same : goal.returns-clause-same
-returns-clause-same g c = rw (← c.self.view_is) c.put_at-answer.ensures.same
+    count_put old new queue (length c.self.inside.enabling.run.items) (length c.enable_by_change.new.self.run.items) (options_of b c.args.m) (options_sent b outs.items) (gets_differs g.M.Kind.Kinds.means old c.args.end new c.args.i c.args.side c.args.m same calm_kind e) less (gets_sets_less g.M.Kind.Kinds.means b old new c.args.end c.args.i c.args.side c.args.m outs.items kinds calm e (sent ∙ ap (λ s. (end_gets g.M.Kind.Kinds.means s c.args.i c.args.side c.args.m).outs) c.end_mut.ensures.state))))
 
 pub returns-clause-given : goal.returns-clause-given
 returns-clause-given g c = rw (← c.self.view_is) (c.enable_by_change.ensures.given ∙ c.enable_by_turns.ensures.given)
-
-pub returns-then-flushes-clause-image : goal.returns-then-flushes-clause-image
-returns-then-flushes-clause-image g c = rw (← c.self.view_is) c.put_at-answer.ensures.state
-
-pub returns-then-flushes-clause-outs : goal.returns-then-flushes-clause-outs
-returns-then-flushes-clause-outs g c = rw (← c.self.view_is) c.put_at-answer.ensures.outs
-
-pub returns-then-flushes-clause-err : goal.returns-then-flushes-clause-err
-returns-then-flushes-clause-err g c = rw (← c.self.view_is) c.put_at-answer.ensures.err
-
-pub returns-then-flushes-clause-same : goal.returns-then-flushes-clause-same
-returns-then-flushes-clause-same g c = rw (← c.self.view_is) c.put_at-answer.ensures.same
-
-pub returns-then-flushes-clause-given : goal.returns-then-flushes-clause-given
-returns-then-flushes-clause-given g c = rw (← c.self.view_is) c.enable_all.ensures.given
 
 pub returns-in_default-clause-image : goal.returns-in_default-clause-image
 returns-in_default-clause-image g c =

@@ -11,16 +11,22 @@ use Rattle.strm_chain_ends.proofs.NextLemmas.{ways_of_same}
 use Rattle.strm_chain.proofs.CaseLemmas.{on_result}
 use Rattle.strm_chain.proofs.EnablingLemmas.{places_same}
 use Rattle.strm_chain_ends.proofs.FrameLemmas.{put_back_differs, same_differs}
+use Rattle.strm_chain_ends.specs.Image.{with_end}
+use Rattle.strm_chain_ends.proofs.LentLemmas.{lent_ok, lent_err, spent_ok, unspent_err}
 use Rattle.strm_chain.proofs.chain.Chain.put_back_head.Goals as goal
 
 pub invariant_of-self : goal.invariant_of-self
 invariant_of-self g c =
     let old = c.self.inside.ends.image in
-    let new = c.put_back_head-answer.new.self.image in
-    let turns : (p : Place) → turn_of g.M.Kind.Kinds.means new p ≡ turn_of g.M.Kind.Kinds.means old p = on_result c.put_back_head-answer.result _ _ _ c.put_back_head-answer.ensures.ok c.put_back_head-answer.ensures.err
+    let lent = c.end_mut.result.now.state in
+    let left = c.put_back_head-answer.new.self.state in
+    let new = with_end old c.args.end left in
+    let ok = lent_ok c.put_back_head-answer.result old c.args.end lent left (λ s. in_head s (put_back_in s.head c.args.m)) c.end_mut.ensures.state c.put_back_head-answer.ensures.ok in
+    let err = lent_err c.put_back_head-answer.result old c.args.end lent left c.end_mut.ensures.state c.put_back_head-answer.ensures.err in
+    let turns : (p : Place) → turn_of g.M.Kind.Kinds.means new p ≡ turn_of g.M.Kind.Kinds.means old p = on_result c.put_back_head-answer.result _ _ _ ok err
     (λ e p. ap (λ i. turn_of g.M.Kind.Kinds.means i p) e ∙ turns_with g.M.Kind.Kinds.means old c.args.end (in_head (end_of old c.args.end) (put_back_in (end_of old c.args.end).head c.args.m)) refl p) (λ e p. ap (λ i. turn_of g.M.Kind.Kinds.means i p) e) in
     let differs : DiffersIn old new (Head c.args.end) =
-    on_result c.put_back_head-answer.result _ _ _ c.put_back_head-answer.ensures.ok c.put_back_head-answer.ensures.err
+    on_result c.put_back_head-answer.result _ _ _ ok err
     (λ e. put_back_differs old c.args.end new c.args.m e)
     (λ e. same_differs old new (Head c.args.end) e) in (
       c.enable_by_change.ensures.ready old c.len-before.ensures c.self.invariant.0 differs (λ p _ _. turns p),
@@ -28,26 +34,12 @@ invariant_of-self g c =
       c.self.invariant.2,
     )
 
-pub returns-clause-ok : goal.returns-clause-ok
-returns-clause-ok g c = rw (← c.self.view_is) c.put_back_head-answer.ensures.ok
-
-pub returns-clause-err : goal.returns-clause-err
-returns-clause-err g c = rw (← c.self.view_is) c.put_back_head-answer.ensures.err
-
-pub returns-clause-back : goal.returns-clause-back
-returns-clause-back g c = c.put_back_head-answer.ensures.back
-
-pub returns-clause-enough : goal.returns-clause-enough
-returns-clause-enough g c = rw (← c.self.view_is) c.put_back_head-answer.ensures.enough
-
 pub returns-clause-spent : goal.returns-clause-spent
-returns-clause-spent g c = rw (← c.self.view_is) c.put_back_head-answer.ensures.spent
+returns-clause-spent g c =
+    let ends = c.self.inside.ends in
+    rw (← c.self.view_is) (spent_ok c.put_back_head-answer.result ends.image.driver ends.rooms c.args.end c.end_mut.result.now c.put_back_head-answer.new.self c.end_mut.ensures.room c.put_back_head-answer.ensures.spent)
 
 pub returns-clause-unspent : goal.returns-clause-unspent
-returns-clause-unspent g c = rw (← c.self.view_is) c.put_back_head-answer.ensures.unspent
-
-pub returns-clause-room : goal.returns-clause-room
-returns-clause-room g c = rw (← c.self.view_is) c.put_back_head-answer.ensures.room
-
-pub returns-clause-line_room : goal.returns-clause-line_room
-returns-clause-line_room g c = rw (← c.self.view_is) c.put_back_head-answer.ensures.line_room
+returns-clause-unspent g c =
+    let ends = c.self.inside.ends in
+    rw (← c.self.view_is) (unspent_err c.put_back_head-answer.result ends.image.driver ends.rooms c.args.end c.end_mut.result.now c.put_back_head-answer.new.self c.end_mut.ensures.room c.put_back_head-answer.ensures.unspent)

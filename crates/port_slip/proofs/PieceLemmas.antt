@@ -5,6 +5,8 @@ use Rattle.port_slip.specs.FrameLaws.{PiecesAreOneLine, RestFollows, UnfinishedI
 use Rattle.port_slip.proofs.FrameLemmas.{with_front, no_end_first}
 use Rattle.std.proofs.lemmas.Option.{same_Some}
 
+-- ---- the bytes of a datagram
+
 take_pick : (n : ℕ) (c : Bool) (p q : ℕ) (ps qs rs ss : List ℕ) → take n ps ≡ take n rs → take n qs ≡ take n ss → take (suc n) (cond c (p ∷ ps) (q ∷ qs)) ≡ take (suc n) (cond c (p ∷ rs) (q ∷ ss))
 take_pick n true p q ps qs rs ss e f = ap (λ t. p ∷ t) e
 take_pick n false p q ps qs rs ss e f = ap (λ t. q ∷ t) f
@@ -23,6 +25,8 @@ take-take-append : (m : ℕ) (xs more : List ℕ) → take m (take m xs ++ more)
 take-take-append zero xs more = refl
 take-take-append (suc m) [] more = refl
 take-take-append (suc m) (x ∷ xs) more = ap (λ t. x ∷ t) (take-take-append m xs more)
+
+-- ---- bytes that are cut at an END
 
 abbrev pub PairOfLists : Type 0
 PairOfLists = List ℕ × List ℕ
@@ -84,6 +88,8 @@ cut-finished (x ∷ xs) more c h =
     ] in
     step (is_end x) h
 
+-- ---- bytes in front of a frame
+
 -- what has begun does not begin with an END
 pub begun-append_begun : (xs more : List ℕ) → begun (xs ++ more) ≡ begun (begun xs ++ more)
 begun-append_begun [] more = refl
@@ -106,6 +112,8 @@ begun-begins (x ∷ xs) =
     let step : (e : Bool) → is_end x ≡ e → Begins (cond e (begun xs) (x ∷ xs)) =
     elim [ true ↦ λ k. begun-begins xs | false ↦ λ k. k ] in
     step (is_end x) refl
+
+-- ---- what is received
 
 -- what is received of bytes b without ENDs in front, which are cut as o says
 abbrev pub reading : ℕ → Option PairOfLists → List ℕ → Received
@@ -139,6 +147,8 @@ received-finished n (x ∷ xs) more c s h =
     let all : List ℕ = x ∷ xs in
     ap (λ t. let b = cond t (begun (xs ++ more)) (all ++ more) in reading n (cut b) b) s
     ∙ ap (λ o. reading n o (all ++ more)) (cut-finished all more c h)
+
+-- ---- the laws
 
 pub pieces_are_one_line : PiecesAreOneLine
 pieces_are_one_line zero piece more = refl

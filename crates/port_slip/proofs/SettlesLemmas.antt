@@ -22,6 +22,8 @@ use Rattle.port_slip.specs.declared.kinds.SlipKind.TheVariants.{Builtin, Slip}
 use Rattle.port_slip.proofs.AnswerLemmas.{slip_stays}
 use Rattle.port_slip.proofs.PieceLemmas.{PairOfLists, reading}
 
+-- ---- what is kept grows shorter
+
 -- what a side may still send is in what is kept, and each sending takes bytes of it
 abbrev bytes_kept : SlipKind → Side → ℕ
 bytes_kept (Builtin kind) side = 0
@@ -83,6 +85,8 @@ kept_short bytes (MFlush false w band) = le_same (length bytes)
 kept_short bytes MHangup = omega arith
 kept_short bytes kind = le_same (length bytes)
 
+-- ---- what a message does
+
 frames_tame : (bytes : List ℕ) (band : ℕ) (side : Side) (kind : MsgKind) (m : Msg) → m.kind ≡ kind → is_high m.kind ≡ true → are_high (slip_action bytes band side kind m).outs ≡ true
 frames_tame bytes band Rd MData m at high = absurd (data_low m at high)
 frames_tame bytes band Wr MData m at high = absurd (data_low m at high)
@@ -128,6 +132,8 @@ slip_own_ups : (kind : SlipKind) (band : Option ℕ) → slip_turn kind Wr ≡ S
 slip_own_ups (Builtin kind) band turn = cc
 slip_own_ups (Slip bytes last) band turn = cc
 
+-- ---- what a side sends of its own
+
 sends_less : (bytes : List ℕ) (last : ℕ) (band : Option ℕ) (holds : Bool) → holds_frame bytes ≡ holds → cond holds (Sends (Some last)) Serves ≡ Sends band → length (received 2 bytes).kept < length bytes
 sends_less bytes last band true at turn = received_less 1 bytes at
 sends_less bytes last band false at turn = cc
@@ -141,6 +147,8 @@ slip_owns_alone : (kind : SlipKind) (side : Side) (band : Option ℕ) → slip_t
 slip_owns_alone (Builtin kind) side band turn = le_same 0
 slip_owns_alone (Slip bytes last) Rd band turn = le_same 0
 slip_owns_alone (Slip bytes last) Wr band turn = cc
+
+-- ---- the law
 
 slip_orderly : IsOrderly slip bytes_kept
 slip_orderly =

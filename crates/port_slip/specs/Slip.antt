@@ -28,6 +28,10 @@ received_action band bytes =
     let all = received 2 bytes in
     record { kind = Slip all.kept band; outs = datagrams_up band all.datagrams }
 
+-- so it is of the data of a message, behind the bytes that are kept
+abbrev pub received_behind : List ℕ → Msg → Action SlipKind
+received_behind bytes m = received_action m.band (bytes ++ unwrap_or m.dat [])
+
 -- the bytes that are kept behind a message that passes: a flush of the read side and a hangup drop them, in
 -- either direction
 abbrev pub kept_after : List ℕ → MsgKind → List ℕ
@@ -38,7 +42,7 @@ kept_after bytes kind = bytes
 -- data on its way down becomes a frame; data on its way up is put behind the bytes that are kept
 abbrev pub slip_action : List ℕ → ℕ → Side → MsgKind → Msg → Action SlipKind
 slip_action bytes band Wr MData m = passed_on (Slip bytes band) Wr (record m { dat = option_map framed m.dat })
-slip_action bytes band Rd MData m = received_action m.band (bytes ++ unwrap_or m.dat [])
+slip_action bytes band Rd MData m = received_behind bytes m
 slip_action bytes band side kind m = passed_on (Slip (kept_after bytes kind) band) side m
 
 abbrev pub slip_acts : Acts SlipKind

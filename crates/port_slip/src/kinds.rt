@@ -1,9 +1,9 @@
 //! The kinds of module of a program with SLIP.
-ghost use Rattle.std.specs.Prelude.{◌≡◌, [], ◌++◌, take, unwrap_or, option_map, IfOk, OnOk, OnErr};
+ghost use Rattle.std.specs.Prelude.{◌≡◌, [], take, unwrap_or, option_map, IfOk, OnOk, OnErr};
 ghost use Rattle.strm_msg.specs.Message.{data_msg};
 ghost use Rattle.strm_msg.specs.declared.words.Side.TheVariants as Side;
 ghost use Rattle.port_slip.specs.Frame.{framed, begun, received};
-ghost use Rattle.port_slip.specs.Slip.{datagrams_up, received_action, kept_after, slip_action};
+ghost use Rattle.port_slip.specs.Slip.{datagrams_up, received_action, kept_after, slip_action, received_behind};
 ghost use Rattle.port_slip.specs.declared.kinds.SlipKind.TheVariants as SlipKind;
 
 use crate::framing::{begun, first_datagram, frame, holds_frame};
@@ -109,8 +109,8 @@ fn receive_behind(
     band: &mut u8,
     m: &Message,
 ) -> Result<Outs, NoMem>
-    ensures outs { IfOk result (λ outs. outs.items ≡ (received_action m.now.band (kept.old ++ unwrap_or m.now.dat [])).outs) }
-    ensures kept { OnOk result (SlipKind.Slip kept.new band.new ≡ (received_action m.now.band (kept.old ++ unwrap_or m.now.dat [])).kind) }
+    ensures outs { IfOk result (λ outs. outs.items ≡ (received_behind kept.old m.now).outs) }
+    ensures kept { OnOk result (SlipKind.Slip kept.new band.new ≡ (received_behind kept.old m.now).kind) }
     ensures err { OnErr result ((kept.new ≡ kept.old) × (band.new ≡ band.old)) }
 {
     let mut bytes = Vec::from_slice(alloc, kept.as_slice())?;

@@ -5,18 +5,15 @@
 //! reply are written where the caller has room for them, and nothing beyond.
 #![tactic(auto)]
 
-ghost use Rattle.std.specs.Prelude.{◌≡◌, ◌||◌, pos, true, false, [], Ok};
-ghost use Rattle.strm_head_calls.specs.declared.request.Request.TheVariants as Requests;
-ghost use Rattle.strm_head_calls.specs.Refusal.{first_that_holds};
+ghost use Rattle.std.specs.Prelude.{◌≡◌, pos, true, false, [], Ok};
 ghost use Rattle.strm_c_numbers.specs.Numbers.{end_of};
 ghost use Rattle.strm_c_calls.specs.Codes.{driver_of, returned_flags};
 ghost use Rattle.strm_c_calls.specs.Arguments as asks;
 ghost use Rattle.strm_c_calls.specs.Returned.{HasTaken, IsValue, AreValues, IsNamed, Nothing};
-ghost use Rattle.strm_c_calls.specs.Call.{Calls, CopiesAndCalls, Opens};
-ghost use Rattle.strm_c_calls.specs.Outside as outside;
+ghost use Rattle.strm_c_calls.specs.OnHandle.{ArrivesOn, CallsOn, CopiesAndCallsOn, OpensOn};
+ghost use Rattle.strm_c_calls.specs.OnHandle.{TakesWholeOn, TellsNextOn};
+ghost use Rattle.strm_c_calls.specs.Outside.{room_of};
 ghost use Rattle.strm_c_calls.specs.Polls.{polled_at};
-ghost use Rattle.strm_c_numbers.specs.Messages.{message_of};
-ghost use Rattle.strm_c_calls.specs.Arrival.{arrival_refusals, CopiesAndHandsIn};
 
 use std::alloc::Global;
 pub use strm_c_calls::{Handle, Returned};
@@ -40,7 +37,7 @@ pub extern "C" fn strm_open(
     drv_lo: u32,
 ) -> i32
     requires { s.old.is_open ≡ false }
-    ensures { Opens (driver_of driver) (head_hi, head_lo) (drv_hi, drv_lo) result (s.new ≡ s.old) s.new.is_open s.new.held.stream }
+    ensures { OpensOn s.old (driver_of driver) (head_hi, head_lo) (drv_hi, drv_lo) result s.new }
 {
     let driver = driver_of(driver);
     open_stream(alloc, s, driver, (head_hi, head_lo), (drv_hi, drv_lo))
@@ -69,7 +66,7 @@ pub extern "C" fn strm_putmsg_parts(
 ) -> i32
     requires { s.old.is_open ≡ true }
     ensures open { s.new.is_open ≡ true }
-    ensures call { Calls s.old.held.stream end (asks.putmsg_of has_ctl ctl.now has_dat dat.now flags) Nothing result s.new.held.stream }
+    ensures call { CallsOn s.old end (asks.putmsg_of has_ctl ctl.now has_dat dat.now flags) Nothing result s.new }
 {
     let asked = putmsg_of(alloc, s, end, has_ctl, ctl, has_dat, dat, flags);
     call(alloc, s, end, asked)
@@ -90,7 +87,8 @@ pub extern "C" fn strm_putpmsg_parts(
 ) -> i32
     requires { s.old.is_open ≡ true }
     ensures open { s.new.is_open ≡ true }
-    ensures call { Calls s.old.held.stream end (asks.putpmsg_of has_ctl ctl.now has_dat dat.now band flags) Nothing result s.new.held.stream }
+    ensures call { CallsOn s.old end (asks.putpmsg_of has_ctl ctl.now has_dat dat.now band flags)
+        Nothing result s.new }
 {
     let asked = putpmsg_of(alloc, s, end, has_ctl, ctl, has_dat, dat, band, flags);
     call(alloc, s, end, asked)
@@ -111,7 +109,8 @@ pub extern "C" fn strm_getmsg_parts(
 ) -> i32
     requires { s.old.is_open ≡ true }
     ensures open { s.new.is_open ≡ true }
-    ensures call { Calls s.old.held.stream end (asks.getmsg_of has_ctl ctl.old has_dat dat.old flags) (HasTaken ctl.old dat.old got.old ctl.new dat.new got.new) result s.new.held.stream }
+    ensures call { CallsOn s.old end (asks.getmsg_of has_ctl ctl.old has_dat dat.old flags)
+        (HasTaken ctl.old dat.old got.old ctl.new dat.new got.new) result s.new }
 {
     let asked = getmsg_of(has_ctl, ctl, has_dat, dat, flags);
     call_taking(alloc, s, end, asked, ctl, dat, got)
@@ -134,7 +133,8 @@ pub extern "C" fn strm_getpmsg_parts(
 ) -> i32
     requires { s.old.is_open ≡ true }
     ensures open { s.new.is_open ≡ true }
-    ensures call { Calls s.old.held.stream end (asks.getpmsg_of has_ctl ctl.old has_dat dat.old band flags) (HasTaken ctl.old dat.old got.old ctl.new dat.new got.new) result s.new.held.stream }
+    ensures call { CallsOn s.old end (asks.getpmsg_of has_ctl ctl.old has_dat dat.old band flags)
+        (HasTaken ctl.old dat.old got.old ctl.new dat.new got.new) result s.new }
 {
     let asked = getpmsg_of(has_ctl, ctl, has_dat, dat, band, flags);
     call_taking(alloc, s, end, asked, ctl, dat, got)
@@ -155,7 +155,8 @@ pub extern "C" fn strm_peek_parts(
 ) -> i32
     requires { s.old.is_open ≡ true }
     ensures open { s.new.is_open ≡ true }
-    ensures call { Calls s.old.held.stream end (asks.peek_of has_ctl ctl.old has_dat dat.old flags) (HasTaken ctl.old dat.old got.old ctl.new dat.new got.new) result s.new.held.stream }
+    ensures call { CallsOn s.old end (asks.peek_of has_ctl ctl.old has_dat dat.old flags)
+        (HasTaken ctl.old dat.old got.old ctl.new dat.new got.new) result s.new }
 {
     let asked = peek_of(has_ctl, ctl, has_dat, dat, flags);
     call_taking(alloc, s, end, asked, ctl, dat, got)
@@ -172,7 +173,8 @@ pub extern "C" fn strm_read_bytes(
 ) -> i32
     requires { s.old.is_open ≡ true }
     ensures open { s.new.is_open ≡ true }
-    ensures call { Calls s.old.held.stream end (asks.read_of bytes.old) (HasTaken [] bytes.old got.old [] bytes.new got.new) result s.new.held.stream }
+    ensures call { CallsOn s.old end (asks.read_of bytes.old)
+        (HasTaken [] bytes.old got.old [] bytes.new got.new) result s.new }
 {
     let asked = read_of(bytes);
     call_taking(alloc, s, end, asked, &mut [], bytes, got)
@@ -189,7 +191,7 @@ pub extern "C" fn strm_write_bytes(
 ) -> i32
     requires { s.old.is_open ≡ true }
     ensures open { s.new.is_open ≡ true }
-    ensures call { Calls s.old.held.stream end (Ok (Requests.Write bytes.now)) (IsValue written.old written.new) result s.new.held.stream }
+    ensures call { CallsOn s.old end (Ok (Request.Write bytes.now)) (IsValue written.old written.new) result s.new }
 {
     let asked = write_of(alloc, s, end, bytes);
     call_for_value(alloc, s, end, asked, written)
@@ -213,7 +215,8 @@ pub extern "C" fn strm_push_kind(
 ) -> i32
     requires { s.old.is_open ≡ true }
     ensures open { s.new.is_open ≡ true }
-    ensures call { CopiesAndCalls s.old.held.stream end (asks.push_of name.now (asks.marks_argument rd_hi rd_lo) (asks.marks_argument wr_hi wr_lo) (asks.kind_of kind number table.now)) Nothing result s.new.held.stream }
+    ensures call { CopiesAndCallsOn s.old end
+        (asks.push_kind_of name.now kind rd_hi rd_lo wr_hi wr_lo number table.now) Nothing result s.new }
 {
     let rd = marks_of(rd_hi, rd_lo);
     let wr = marks_of(wr_hi, wr_lo);
@@ -227,7 +230,7 @@ pub extern "C" fn strm_push_kind(
 pub extern "C" fn strm_pop(alloc: Global, s: &mut Handle, end: u8) -> i32
     requires { s.old.is_open ≡ true }
     ensures open { s.new.is_open ≡ true }
-    ensures call { Calls s.old.held.stream end (Ok Requests.Pop) Nothing result s.new.held.stream }
+    ensures call { CallsOn s.old end (Ok Request.Pop) Nothing result s.new }
 {
     call(alloc, s, end, Ok(Request::Pop))
 }
@@ -243,7 +246,8 @@ pub extern "C" fn strm_look_name(
 ) -> i32
     requires { s.old.is_open ≡ true }
     ensures open { s.new.is_open ≡ true }
-    ensures call { Calls s.old.held.stream end (Ok Requests.Look) (IsNamed 0 name.old count.old name.new count.new) result s.new.held.stream }
+    ensures call { CallsOn s.old end (Ok Request.Look)
+        (IsNamed 0 name.old count.old name.new count.new) result s.new }
 {
     call_for_name(alloc, s, end, Ok(Request::Look), 0, name, count)
 }
@@ -261,7 +265,8 @@ pub extern "C" fn strm_list_name(
 ) -> i32
     requires { s.old.is_open ≡ true }
     ensures open { s.new.is_open ≡ true }
-    ensures call { Calls s.old.held.stream end (Ok Requests.List) (IsNamed i name.old count.old name.new count.new) result s.new.held.stream }
+    ensures call { CallsOn s.old end (Ok Request.List)
+        (IsNamed i name.old count.old name.new count.new) result s.new }
 {
     call_for_name(alloc, s, end, Ok(Request::List), i, name, count)
 }
@@ -277,7 +282,8 @@ pub extern "C" fn strm_find_name(
 ) -> i32
     requires { s.old.is_open ≡ true }
     ensures open { s.new.is_open ≡ true }
-    ensures call { CopiesAndCalls s.old.held.stream end (Ok (Requests.Find name.now)) (IsValue found.old found.new) result s.new.held.stream }
+    ensures call { CopiesAndCallsOn s.old end (Ok (Request.Find name.now))
+        (IsValue found.old found.new) result s.new }
 {
     let asked = find_of(alloc, s, end, name);
     call_for_value(alloc, s, end, asked, found)
@@ -297,7 +303,8 @@ pub extern "C" fn strm_str_bytes(
 ) -> i32
     requires { s.old.is_open ≡ true }
     ensures open { s.new.is_open ≡ true }
-    ensures call { Calls s.old.held.stream end (Ok (Requests.Str cmd (asks.part_argument has_dat dat.old))) (HasTaken [] dat.old got.old [] dat.new got.new) result s.new.held.stream }
+    ensures call { CallsOn s.old end (Ok (asks.ioctl cmd has_dat dat.old))
+        (HasTaken [] dat.old got.old [] dat.new got.new) result s.new }
 {
     let asked = str_of(alloc, s, end, cmd, has_dat, dat);
     call_taking(alloc, s, end, asked, &mut [], dat, got)
@@ -308,7 +315,7 @@ pub extern "C" fn strm_str_bytes(
 pub extern "C" fn strm_flush(alloc: Global, s: &mut Handle, end: u8, flags: u32) -> i32
     requires { s.old.is_open ≡ true }
     ensures open { s.new.is_open ≡ true }
-    ensures call { Calls s.old.held.stream end (asks.flush_of flags) Nothing result s.new.held.stream }
+    ensures call { CallsOn s.old end (asks.flush_of flags) Nothing result s.new }
 {
     let asked = flush_of(flags);
     call(alloc, s, end, asked)
@@ -325,7 +332,7 @@ pub extern "C" fn strm_flushband_flags(
 ) -> i32
     requires { s.old.is_open ≡ true }
     ensures open { s.new.is_open ≡ true }
-    ensures call { Calls s.old.held.stream end (asks.flushband_of band flags) Nothing result s.new.held.stream }
+    ensures call { CallsOn s.old end (asks.flushband_of band flags) Nothing result s.new }
 {
     let asked = flushband_of(band, flags);
     call(alloc, s, end, asked)
@@ -342,7 +349,8 @@ pub extern "C" fn strm_nread(
 ) -> i32
     requires { s.old.is_open ≡ true }
     ensures open { s.new.is_open ≡ true }
-    ensures call { Calls s.old.held.stream end (Ok Requests.Nread) (AreValues messages.old bytes.old messages.new bytes.new) result s.new.held.stream }
+    ensures call { CallsOn s.old end (Ok Request.Nread)
+        (AreValues messages.old bytes.old messages.new bytes.new) result s.new }
 {
     call_for_values(alloc, s, end, Ok(Request::Nread), messages, bytes)
 }
@@ -358,7 +366,7 @@ pub extern "C" fn strm_ckband(
 ) -> i32
     requires { s.old.is_open ≡ true }
     ensures open { s.new.is_open ≡ true }
-    ensures call { Calls s.old.held.stream end (Ok (Requests.Ckband band)) (IsValue waits.old waits.new) result s.new.held.stream }
+    ensures call { CallsOn s.old end (Ok (Request.Ckband band)) (IsValue waits.old waits.new) result s.new }
 {
     call_for_value(alloc, s, end, Ok(Request::Ckband { band }), waits)
 }
@@ -368,7 +376,7 @@ pub extern "C" fn strm_ckband(
 pub extern "C" fn strm_getband(alloc: Global, s: &mut Handle, end: u8, band: &mut i32) -> i32
     requires { s.old.is_open ≡ true }
     ensures open { s.new.is_open ≡ true }
-    ensures call { Calls s.old.held.stream end (Ok Requests.Getband) (IsValue band.old band.new) result s.new.held.stream }
+    ensures call { CallsOn s.old end (Ok Request.Getband) (IsValue band.old band.new) result s.new }
 {
     call_for_value(alloc, s, end, Ok(Request::Getband), band)
 }
@@ -384,7 +392,7 @@ pub extern "C" fn strm_canput(
 ) -> i32
     requires { s.old.is_open ≡ true }
     ensures open { s.new.is_open ≡ true }
-    ensures call { Calls s.old.held.stream end (Ok (Requests.Canput band)) (IsValue can.old can.new) result s.new.held.stream }
+    ensures call { CallsOn s.old end (Ok (Request.Canput band)) (IsValue can.old can.new) result s.new }
 {
     call_for_value(alloc, s, end, Ok(Request::Canput { band }), can)
 }
@@ -394,7 +402,7 @@ pub extern "C" fn strm_canput(
 pub extern "C" fn strm_setread(alloc: Global, s: &mut Handle, end: u8, mode: u32) -> i32
     requires { s.old.is_open ≡ true }
     ensures open { s.new.is_open ≡ true }
-    ensures call { Calls s.old.held.stream end (asks.setread_of mode) Nothing result s.new.held.stream }
+    ensures call { CallsOn s.old end (asks.setread_of mode) Nothing result s.new }
 {
     let asked = setread_of(mode);
     call(alloc, s, end, asked)
@@ -405,7 +413,7 @@ pub extern "C" fn strm_setread(alloc: Global, s: &mut Handle, end: u8, mode: u32
 pub extern "C" fn strm_getread(alloc: Global, s: &mut Handle, end: u8, mode: &mut i32) -> i32
     requires { s.old.is_open ≡ true }
     ensures open { s.new.is_open ≡ true }
-    ensures call { Calls s.old.held.stream end (Ok Requests.GetRead) (IsValue mode.old mode.new) result s.new.held.stream }
+    ensures call { CallsOn s.old end (Ok Request.GetRead) (IsValue mode.old mode.new) result s.new }
 {
     call_for_value(alloc, s, end, Ok(Request::GetRead), mode)
 }
@@ -425,7 +433,7 @@ pub extern "C" fn strm_arrive_parts(
 ) -> i32
     requires { s.old.is_open ≡ true }
     ensures open { s.new.is_open ≡ true }
-    ensures lands { CopiesAndHandsIn (first_that_holds (arrival_refusals s.old.held.stream (asks.part_argument has_ctl ctl.now) (asks.part_argument has_dat dat.now))) (has_ctl || has_dat) s.old.held.stream (message_of kind band (asks.part_argument has_ctl ctl.now) (asks.part_argument has_dat dat.now) number) result s.new.held.stream }
+    ensures lands { ArrivesOn s.old kind band has_ctl ctl.now has_dat dat.now number result s.new }
 {
     arrive(alloc, s, kind, band, has_ctl, ctl, has_dat, dat, number)
 }
@@ -445,7 +453,8 @@ pub extern "C" fn strm_take_parts(
 ) -> i32
     requires { s.old.is_open ≡ true }
     ensures open { s.new.is_open ≡ true }
-    ensures takes { outside.TakesWhole (outside.stays_for_room s.old.held.stream (end_of end) (outside.room_of has_ctl ctl.old) (outside.room_of has_dat dat.old)) s.old.held.stream end (HasTaken ctl.old dat.old got.old ctl.new dat.new got.new) result s.new.held.stream }
+    ensures takes { TakesWholeOn s.old end (room_of has_ctl ctl.old) (room_of has_dat dat.old)
+        (HasTaken ctl.old dat.old got.old ctl.new dat.new got.new) result s.new }
 {
     take_whole(alloc, s, end, has_ctl, ctl, has_dat, dat, got)
 }
@@ -460,7 +469,7 @@ pub extern "C" fn strm_next_lengths(
 ) -> i32
     requires { s.old.is_open ≡ true }
     ensures open { s.new.is_open ≡ true }
-    ensures next { outside.TellsNext s.old.held.stream (end_of end) got.old got.new result s.new.held.stream }
+    ensures next { TellsNextOn s.old end got.old got.new result s.new }
 {
     next(alloc, s, end, got)
 }
@@ -489,7 +498,7 @@ pub extern "C" fn strm_poll(
 pub extern "C" fn strm_close(alloc: Global, s: &mut Handle, end: u8) -> i32
     requires { s.old.is_open ≡ true }
     ensures open { s.new.is_open ≡ true }
-    ensures call { Calls s.old.held.stream end (Ok Requests.Close) Nothing result s.new.held.stream }
+    ensures call { CallsOn s.old end (Ok Request.Close) Nothing result s.new }
 {
     call(alloc, s, end, Ok(Request::Close))
 }

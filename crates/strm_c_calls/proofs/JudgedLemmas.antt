@@ -30,6 +30,8 @@ use Rattle.strm_c_calls.specs.Judged.{refused_at, IsMade}
 use Rattle.strm_c_calls.specs.Fits.{Fits}
 use Rattle.strm_c_calls.specs.Call.{costs_no_memory, IsStep, Answers, checked_call, Calls, CopiesAndCalls}
 
+-- ---- the step of a request that is refused
+
 -- a call that takes no memory here takes none on the stream
 pub costs_none_at : (old : Image Kind) (e : End) (request : Request (Shape Kind)) → costs_no_memory old e request ≡ true → takes_no_memory_at old e request ≡ true
 costs_none_at old e (Requests.Putmsg flag parts) none = absurd cc
@@ -66,6 +68,8 @@ lacking_step old e request plain can takes none =
 either_step : (old : Image Kind) (e : End) (request : Request (Shape Kind)) (found : Option Refusal) → IsPlain old e request → can_lack_memory request ≡ true → costs_no_memory old e request ≡ false → refusal_of builtin old e request ≡ found → IsStep old e request (Refused (unwrap_or found NoMemory)) old
 either_step old e request None plain can takes is = lacking_step old e request plain can takes is
 either_step old e request (Some refusal) plain can takes is = first_step old e request refusal plain is
+
+-- ---- a refusal that is told in the place of a request
 
 -- the same of what was asked at an end, if there is one
 abbrev pub IsPlainAt : Image Kind → Option End → RequestOrRefusal → Type 0
@@ -108,6 +112,8 @@ made_calls old new n asked made writes code plain lacks (inr told_is) calls =
       written = calls.written;
     }
 
+-- ---- want of memory for a copy
+
 -- want of memory for what was asked, which nothing else refuses
 abbrev IsLacking : Image Kind → Image Kind → Option End → RequestOrRefusal → Answer → Type 0
 IsLacking old new end asked answer = (refused_at old end asked ≡ NoMemory) × (answer ≡ Refused NoMemory) × (new ≡ old)
@@ -139,6 +145,8 @@ pub made_copies : (old new : Image Kind) (n : ℕ) (asked made : RequestOrRefusa
 made_copies old new n asked made writes code plain (inl same) calls = inl (subst (λ a. Calls old n a writes code new) same calls)
 made_copies old new n asked made writes code plain (inr told_is) calls =
     copied old new n asked made writes code calls (answers_or_lacks old new (end_of n) asked calls.answer plain (subst (λ a. Answers old (checked_call (end_of n) a) calls.answer new) told_is calls.answers))
+
+-- ---- the requests whose bytes are copied
 
 -- of requests that give no bytes where they are refused, and may want for memory
 plain_if : (old : Image Kind) (e : End) (request : Request (Shape Kind)) → ((refusal : Refusal) → Fits request (Refused refusal)) → costs_no_memory old e request ≡ false → IsPlain old e request
@@ -182,6 +190,8 @@ push_is_plain old None kind fault shape = tt
 push_is_plain old (Some e) None fault shape = tt
 push_is_plain old (Some e) (Some kind) fault shape = pushes old e fault (shape kind)
 
+-- ---- a find
+
 -- of a find, which takes no memory: none of its refusals is want of memory
 abbrev wants : Option Refusal → Bool
 wants None = false
@@ -210,6 +220,8 @@ find_wants_none old e name refusal first =
 pub find_is_plain : (old : Image Kind) (end : Option End) (name : List ℕ) → IsPlainAt old end (Ok (Requests.Find name))
 find_is_plain old None name = tt
 find_is_plain old (Some e) name = record { fits = λ refusal. tt; memory = λ refusal first takes. find_wants_none old e name refusal first }
+
+-- ---- what is made of arguments
 
 -- what is told in the place of a request that has these refusals
 pub told_made : (old : Image Kind) (n : ℕ) (e : End) (request : Request (Shape Kind)) (asked : RequestOrRefusal) (found : Option Refusal) → end_of n ≡ Some e → asked ≡ Ok request → refusal_of builtin old e request ≡ found → IsMade old (end_of n) asked (Err (unwrap_or found NoMemory))

@@ -9,6 +9,8 @@ use Rattle.strm_module.specs.declared.shape.Shape.{Shape}
 use Rattle.strm_head_calls.specs.declared.parts.Parts.{Parts}
 use Rattle.strm_head_calls.specs.declared.refusal.Refusal.{Refusal}
 use Rattle.strm_head_calls.specs.declared.refusal.Refusal.TheVariants.{Invalid}
+use Rattle.strm_head_calls.specs.declared.request.Priority.{Priority}
+use Rattle.strm_head_calls.specs.declared.request.PutFlag.{PutFlag}
 use Rattle.strm_head_calls.specs.declared.request.Request.{Request}
 use Rattle.strm_head_calls.specs.declared.request.Request.TheVariants as Requests
 use Rattle.strm_c_numbers.specs.Numbers.{sides_of, mode_of, prot_of}
@@ -29,6 +31,16 @@ part_argument has bytes = if has then Some bytes else None
 abbrev pub parts_argument : Bool → List ℕ → Bool → List ℕ → Parts
 parts_argument has_ctl ctl has_dat dat = record { ctl = part_argument has_ctl ctl; dat = part_argument has_dat dat }
 
+-- the putmsg of parts, the putpmsg, and the ioctl of data
+abbrev pub putmsg : Priority → Bool → List ℕ → Bool → List ℕ → Request (Shape Kind)
+putmsg flag has_ctl ctl has_dat dat = Requests.Putmsg flag (parts_argument has_ctl ctl has_dat dat)
+
+abbrev pub putpmsg : ℕ → PutFlag → Bool → List ℕ → Bool → List ℕ → Request (Shape Kind)
+putpmsg band flag has_ctl ctl has_dat dat = Requests.Putpmsg band flag (parts_argument has_ctl ctl has_dat dat)
+
+abbrev pub ioctl : ℕ → Bool → List ℕ → Request (Shape Kind)
+ioctl cmd has_dat dat = Requests.Str cmd (part_argument has_dat dat)
+
 -- the most bytes that the caller asks for: the length of the buffer, up to the greatest u16
 abbrev pub most_of : Bool → List ℕ → Option ℕ
 most_of has buffer = if has then Some (min (length buffer) 65535) else None
@@ -38,11 +50,11 @@ band_of band = if nat_le band 255 then Some band else None
 
 abbrev pub putmsg_of : Bool → List ℕ → Bool → List ℕ → ℕ → RequestOrRefusal
 putmsg_of has_ctl ctl has_dat dat flags =
-    ask (priority_of flags) (λ flag. Ok (Requests.Putmsg flag (parts_argument has_ctl ctl has_dat dat)))
+    ask (priority_of flags) (λ flag. Ok (putmsg flag has_ctl ctl has_dat dat))
 
 abbrev pub putpmsg_of : Bool → List ℕ → Bool → List ℕ → ℕ → ℕ → RequestOrRefusal
 putpmsg_of has_ctl ctl has_dat dat band flags =
-    ask (put_flag_of flags) (λ flag. ask (band_of band) (λ b. Ok (Requests.Putpmsg b flag (parts_argument has_ctl ctl has_dat dat))))
+    ask (put_flag_of flags) (λ flag. ask (band_of band) (λ b. Ok (putpmsg b flag has_ctl ctl has_dat dat)))
 
 abbrev pub getmsg_of : Bool → List ℕ → Bool → List ℕ → ℕ → RequestOrRefusal
 getmsg_of has_ctl ctl has_dat dat flags =
@@ -95,3 +107,8 @@ push_if (Some fault) shape = Err Invalid
 -- the push of a new module of serial 0
 abbrev pub push_of : List ℕ → MarkPair → MarkPair → Option Kind → RequestOrRefusal
 push_of name rd wr kind = ask kind (λ k. push_if (make_fault name rd wr) (new_shape 0 name rd wr k))
+
+-- the push of a new module of a kind that a number names
+abbrev pub push_kind_of : List ℕ → ℕ → ℕ → ℕ → ℕ → ℕ → ℕ → List ℕ → RequestOrRefusal
+push_kind_of name kind rd_hi rd_lo wr_hi wr_lo number table =
+    push_of name (marks_argument rd_hi rd_lo) (marks_argument wr_hi wr_lo) (kind_of kind number table)

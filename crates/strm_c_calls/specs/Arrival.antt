@@ -7,7 +7,7 @@ use Rattle.strm_msg.specs.declared.words.End.TheVariants.{A}
 use Rattle.strm_module.specs.Builtin.{builtin}
 use Rattle.strm_module.specs.declared.kind.Kind.{Kind}
 use Rattle.strm_chain_ends.specs.Image.{Image, end_of}
-use Rattle.strm_head_calls.specs.Refusal.{errno_of}
+use Rattle.strm_head_calls.specs.Refusal.{errno_of, first_that_holds}
 use Rattle.strm_head_calls.specs.declared.refusal.Refusal.{Refusal}
 use Rattle.strm_head_calls.specs.declared.refusal.Refusal.TheVariants.{Closed, Broken, Invalid, TooLong}
 use Rattle.strm_head_msg.specs.Send.{is_too_long}
@@ -16,6 +16,7 @@ use Rattle.strm_head.specs.declared.outcome.Arrived.TheVariants.{Taken, Full, No
 use Rattle.strm_head.specs.Arrive.{Arrives}
 use Rattle.strm_module.specs.Driver.{is_line}
 use Rattle.strm_c_numbers.specs.Numbers.{errno_number}
+use Rattle.strm_c_calls.specs.Arguments.{part_argument}
 
 abbrev pub arrived_code : Arrived → ℕ
 arrived_code (Taken moves looks) = 0
@@ -44,6 +45,10 @@ HandsIn old (Some m) code new = Lands old m code new
 abbrev pub arrival_refusals : Image Kind → Part → Part → List (Bool × Refusal)
 arrival_refusals image ctl dat =
     (not (end_of image A).is_open, Closed) ∷ (image.broken, Broken) ∷ (not (is_line image.driver), Invalid) ∷ (is_too_long ctl dat, TooLong) ∷ []
+
+-- the first refusal of a message with these parts whatever their bytes are
+abbrev pub arrival_refusal : Image Kind → Bool → List ℕ → Bool → List ℕ → Option Refusal
+arrival_refusal image has_ctl ctl has_dat dat = first_that_holds (arrival_refusals image (part_argument has_ctl ctl) (part_argument has_dat dat))
 
 -- the result of a part for whose copy memory runs out
 pub record LacksCopy (has_part : Bool) (old : Image Kind) (code : ℤ) (new : Image Kind) : Type 0 where

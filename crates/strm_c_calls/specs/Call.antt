@@ -76,11 +76,15 @@ CopiesAndCalls old end asked writes code new =
 abbrev pub IsNotOpened : ℕ → ℤ → Type 0 → Type 0
 IsNotOpened errno code same = (code ≡ pos errno) × same
 
+-- a new stream of a driver, with the marks of its heads and of the driver
+abbrev pub fresh_with : Driver → ℕ × ℕ → ℕ × ℕ → Image Kind
+fresh_with driver head drv = fresh driver (record { hi = head.0; lo = head.1 }) (record { hi = drv.0; lo = drv.1 })
+
 -- the result of an open that succeeds: the handle leads to a new stream
 pub record IsFresh (driver : Driver) (head drv : ℕ × ℕ) (code : ℤ) (is_open : Bool) (new : Image Kind) : Type 0 where
   pub code_is : code ≡ pos 0
   pub opened : is_open ≡ true
-  pub is_fresh : new ≡ fresh driver (record { hi = head.0; lo = head.1 }) (record { hi = drv.0; lo = drv.1 })
+  pub is_fresh : new ≡ fresh_with driver head drv
 
 -- an open with a driver, by whether its marks are ones that a stream can have: a new stream or ENOSR, else
 -- EINVAL

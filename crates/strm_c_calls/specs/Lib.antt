@@ -7,4 +7,5 @@ pub mod Fits
 pub mod Call
 pub mod Arrival
 pub mod Outside
+pub mod OnHandle
 pub mod Polls

@@ -57,6 +57,11 @@ got ctl dat found flags band more rval =
       rval = rval;
     }
 
+-- the description of parts of these lengths, of which nothing is left
+abbrev pub got_lengths : ℤ → ℤ → ℤ → ℤ → Returned
+got_lengths ctl_len dat_len found flags =
+    record { ctl_len = ctl_len; dat_len = dat_len; found = found; flags = flags; band = pos 0; more = pos 0; rval = 0 }
+
 -- the number of the answer to an ioctl: STRM_ACK is 1, STRM_NAK is 2, and STRM_TIMEOUT is 3, if nothing has
 -- answered
 abbrev pub answer_number : Acknowledged → ℕ

@@ -1,9 +1,8 @@
 //! The requests that the arguments of a call make.
 ghost use Rattle.std.specs.Prelude.{◌≡◌, true, [], Ok, IfOk, IfErr};
 ghost use Rattle.strm_head_calls.specs.declared.request.Request.TheVariants as Requests;
-ghost use Rattle.strm_c_numbers.specs.Numbers.{end_of};
 ghost use Rattle.strm_c_calls.specs.Arguments as asks;
-ghost use Rattle.strm_c_calls.specs.Judged.{IsMade};
+ghost use Rattle.strm_c_calls.specs.OnHandle.{IsMadeOn};
 
 use crate::codes::{get_flag_of, priority_of, put_flag_of, wanted_of};
 use crate::handle::Handle;
@@ -77,7 +76,7 @@ pub fn putmsg_of(
     requires { s.old.is_open ≡ true }
     ensures open { s.new.is_open ≡ true }
     ensures same { s.new.held ≡ s.old.held }
-    ensures made { IsMade s.old.held.stream (end_of end) (asks.putmsg_of has_ctl ctl.now has_dat dat.now flags) result }
+    ensures made { IsMadeOn s.old end (asks.putmsg_of has_ctl ctl.now has_dat dat.now flags) result }
 {
     let Some(flag) = priority_of(flags) else {
         return Err(Refusal::Invalid);
@@ -112,7 +111,7 @@ pub fn putpmsg_of(
     requires { s.old.is_open ≡ true }
     ensures open { s.new.is_open ≡ true }
     ensures same { s.new.held ≡ s.old.held }
-    ensures made { IsMade s.old.held.stream (end_of end) (asks.putpmsg_of has_ctl ctl.now has_dat dat.now band flags) result }
+    ensures made { IsMadeOn s.old end (asks.putpmsg_of has_ctl ctl.now has_dat dat.now band flags) result }
 {
     let Some(flag) = put_flag_of(flags) else {
         return Err(Refusal::Invalid);
@@ -203,7 +202,7 @@ pub fn write_of(alloc: Global, s: &mut Handle, end: u8, bytes: &[u8]) -> Asked
     requires { s.old.is_open ≡ true }
     ensures open { s.new.is_open ≡ true }
     ensures same { s.new.held ≡ s.old.held }
-    ensures made { IsMade s.old.held.stream (end_of end) (Ok (Requests.Write bytes.now)) result }
+    ensures made { IsMadeOn s.old end (Ok (Requests.Write bytes.now)) result }
 {
     let Some(end) = end_of(end) else {
         return Err(Refusal::Closed);
@@ -225,7 +224,7 @@ pub fn find_of(alloc: Global, s: &mut Handle, end: u8, name: &[u8]) -> Asked
     requires { s.old.is_open ≡ true }
     ensures open { s.new.is_open ≡ true }
     ensures same { s.new.held ≡ s.old.held }
-    ensures made { IsMade s.old.held.stream (end_of end) (Ok (Requests.Find name.now)) result }
+    ensures made { IsMadeOn s.old end (Ok (Requests.Find name.now)) result }
 {
     let Some(end) = end_of(end) else {
         return Err(Refusal::Closed);
@@ -255,7 +254,7 @@ pub fn str_of(alloc: Global, s: &mut Handle, end: u8, cmd: u32, has_dat: bool, d
     requires { s.old.is_open ≡ true }
     ensures open { s.new.is_open ≡ true }
     ensures same { s.new.held ≡ s.old.held }
-    ensures made { IsMade s.old.held.stream (end_of end) (Ok (Requests.Str cmd (asks.part_argument has_dat dat.now))) result }
+    ensures made { IsMadeOn s.old end (Ok (asks.ioctl cmd has_dat dat.now)) result }
 {
     let Some(end) = end_of(end) else {
         return Err(Refusal::Closed);
@@ -368,7 +367,7 @@ pub fn push_of(
     requires { s.old.is_open ≡ true }
     ensures open { s.new.is_open ≡ true }
     ensures same { s.new.held ≡ s.old.held }
-    ensures made { IsMade s.old.held.stream (end_of end) (asks.push_of name.now rd wr kind) result }
+    ensures made { IsMadeOn s.old end (asks.push_of name.now rd wr kind) result }
 {
     let Some(kind) = kind else {
         return Err(Refusal::Invalid);

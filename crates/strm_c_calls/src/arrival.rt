@@ -1,10 +1,8 @@
 //! The message that is handed in from a line or a wire.
-ghost use Rattle.std.specs.Prelude.{◌≡◌, ◌||◌, true, IfSome, pos};
+ghost use Rattle.std.specs.Prelude.{◌≡◌, true, IfSome, pos};
 ghost use Rattle.strm_msg.specs.Kind.{is_from_line};
-ghost use Rattle.strm_head_calls.specs.Refusal.{first_that_holds};
-ghost use Rattle.strm_c_numbers.specs.Messages.{message_of};
-ghost use Rattle.strm_c_calls.specs.Arguments as asks;
 ghost use Rattle.strm_c_calls.specs.Arrival as arrivals;
+ghost use Rattle.strm_c_calls.specs.OnHandle.{ArrivesOn};
 
 use crate::arguments::part_of;
 use crate::handle::Handle;
@@ -54,7 +52,7 @@ fn arrival_refusal(
     has_dat: bool,
     dat: &[u8],
 ) -> Option<Refusal>
-    ensures { result ≡ first_that_holds (arrivals.arrival_refusals stream.now (asks.part_argument has_ctl ctl.now) (asks.part_argument has_dat dat.now)) }
+    ensures { result ≡ arrivals.arrival_refusal stream.now has_ctl ctl.now has_dat dat.now }
 {
     if !stream.is_open(End::A) {
         return Some(Refusal::Closed);
@@ -86,7 +84,7 @@ pub fn arrive(
 ) -> i32
     requires { s.old.is_open ≡ true }
     ensures open { s.new.is_open ≡ true }
-    ensures lands { arrivals.CopiesAndHandsIn (first_that_holds (arrivals.arrival_refusals s.old.held.stream (asks.part_argument has_ctl ctl.now) (asks.part_argument has_dat dat.now))) (has_ctl || has_dat) s.old.held.stream (message_of kind band (asks.part_argument has_ctl ctl.now) (asks.part_argument has_dat dat.now) number) result s.new.held.stream }
+    ensures lands { ArrivesOn s.old kind band has_ctl ctl.now has_dat dat.now number result s.new }
 {
     let held = s.take(alloc);
     let refusal = arrival_refusal(&held.stream, has_ctl, ctl, has_dat, dat);

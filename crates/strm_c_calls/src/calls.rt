@@ -2,6 +2,7 @@
 ghost use Rattle.std.specs.Prelude.{◌≡◌, true};
 ghost use Rattle.strm_c_numbers.specs.Numbers.{end_of};
 ghost use Rattle.strm_c_calls.specs.Call as calls;
+ghost use Rattle.strm_c_calls.specs.OnHandle.{CallsOn};
 ghost use Rattle.strm_c_calls.specs.Returned.{HasTaken, IsValue, AreValues, IsNamed, Nothing};
 
 use crate::arguments::Asked;
@@ -54,7 +55,8 @@ fn make(alloc: Global, s: &mut Handle, end: End, request: Request<BoxedModule<Pl
 fn answered(alloc: Global, s: &mut Handle, end: u8, asked: Asked) -> Answer
     requires { s.old.is_open ≡ true }
     ensures open { s.new.is_open ≡ true }
-    ensures answers { calls.Answers s.old.held.stream (calls.checked_call (end_of end) asked) result s.new.held.stream }
+    ensures answers { calls.Answers s.old.held.stream (calls.checked_call (end_of end) asked) result
+        s.new.held.stream }
 {
     match checked_call(end, asked) {
         Ok((end, request)) => make(alloc, s, end, request),
@@ -66,7 +68,7 @@ fn answered(alloc: Global, s: &mut Handle, end: u8, asked: Asked) -> Answer
 pub fn call(alloc: Global, s: &mut Handle, end: u8, asked: Asked) -> i32
     requires { s.old.is_open ≡ true }
     ensures open { s.new.is_open ≡ true }
-    ensures call { calls.Calls s.old.held.stream end asked Nothing result s.new.held.stream }
+    ensures call { CallsOn s.old end asked Nothing result s.new }
 {
     let answer = answered(alloc, s, end, asked);
     let code = code_of(&answer);
@@ -86,7 +88,7 @@ pub fn call_taking(
 ) -> i32
     requires { s.old.is_open ≡ true }
     ensures open { s.new.is_open ≡ true }
-    ensures call { calls.Calls s.old.held.stream end asked (HasTaken ctl.old dat.old got.old ctl.new dat.new got.new) result s.new.held.stream }
+    ensures call { CallsOn s.old end asked (HasTaken ctl.old dat.old got.old ctl.new dat.new got.new) result s.new }
 {
     let answer = answered(alloc, s, end, asked);
     write_parts(&answer, ctl, dat, got);
@@ -99,7 +101,7 @@ pub fn call_taking(
 pub fn call_for_value(alloc: Global, s: &mut Handle, end: u8, asked: Asked, value: &mut i32) -> i32
     requires { s.old.is_open ≡ true }
     ensures open { s.new.is_open ≡ true }
-    ensures call { calls.Calls s.old.held.stream end asked (IsValue value.old value.new) result s.new.held.stream }
+    ensures call { CallsOn s.old end asked (IsValue value.old value.new) result s.new }
 {
     let answer = answered(alloc, s, end, asked);
     write_value(&answer, value);
@@ -119,7 +121,7 @@ pub fn call_for_values(
 ) -> i32
     requires { s.old.is_open ≡ true }
     ensures open { s.new.is_open ≡ true }
-    ensures call { calls.Calls s.old.held.stream end asked (AreValues value.old bytes.old value.new bytes.new) result s.new.held.stream }
+    ensures call { CallsOn s.old end asked (AreValues value.old bytes.old value.new bytes.new) result s.new }
 {
     let answer = answered(alloc, s, end, asked);
     write_values(&answer, value, bytes);
@@ -140,7 +142,7 @@ pub fn call_for_name(
 ) -> i32
     requires { s.old.is_open ≡ true }
     ensures open { s.new.is_open ≡ true }
-    ensures call { calls.Calls s.old.held.stream end asked (IsNamed i name.old count.old name.new count.new) result s.new.held.stream }
+    ensures call { CallsOn s.old end asked (IsNamed i name.old count.old name.new count.new) result s.new }
 {
     let answer = answered(alloc, s, end, asked);
     write_names(&answer, i as u64, name, count);

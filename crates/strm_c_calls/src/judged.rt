@@ -91,7 +91,7 @@ pub fn putmsg_refusal(
     dat: &[u8],
     flag: Priority,
 ) -> Option<Refusal>
-    ensures { result ≡ refusal_of builtin stream.now end (Requests.Putmsg flag (asks.parts_argument has_ctl ctl.now has_dat dat.now)) }
+    ensures { result ≡ refusal_of builtin stream.now end (asks.putmsg flag has_ctl ctl.now has_dat dat.now) }
 {
     let parts = Parts {
         ctl: emptied(alloc, has_ctl),
@@ -115,7 +115,7 @@ pub fn putpmsg_refusal(
     band: u8,
     flag: PutFlag,
 ) -> Option<Refusal>
-    ensures { result ≡ refusal_of builtin stream.now end (Requests.Putpmsg band flag (asks.parts_argument has_ctl ctl.now has_dat dat.now)) }
+    ensures { result ≡ refusal_of builtin stream.now end (asks.putpmsg band flag has_ctl ctl.now has_dat dat.now) }
 {
     let parts = Parts {
         ctl: emptied(alloc, has_ctl),
@@ -153,7 +153,7 @@ pub fn str_refusal(
     has_dat: bool,
     dat: &[u8],
 ) -> Option<Refusal>
-    ensures { result ≡ refusal_of builtin stream.now end (Requests.Str cmd (asks.part_argument has_dat dat.now)) }
+    ensures { result ≡ refusal_of builtin stream.now end (asks.ioctl cmd has_dat dat.now) }
 {
     let request = Request::Str {
         cmd,

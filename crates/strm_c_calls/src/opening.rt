@@ -1,9 +1,9 @@
 //! The opening and the closing of handles.
-ghost use Rattle.std.specs.Prelude.{◌≡◌, true, false, if◌then◌else◌, IfOk, IfErr};
+ghost use Rattle.std.specs.Prelude.{◌≡◌, true, false, if◌then◌else◌, IfOk, IfErr, OnOk};
 ghost use Rattle.strm_msg.specs.declared.errno.Errno.TheVariants.{EINVAL, ENOSR};
-ghost use Rattle.strm_chain_ends.specs.Image.{fresh};
 ghost use Rattle.strm_head_calls.specs.Setup.{are_marks};
-ghost use Rattle.strm_c_calls.specs.Call.{Opens};
+ghost use Rattle.strm_c_calls.specs.Call.{fresh_with};
+ghost use Rattle.strm_c_calls.specs.OnHandle.{OpensOn};
 
 use crate::handle::Handle;
 use crate::held::Held;
@@ -20,7 +20,8 @@ fn opened(
     head: (u32, u32),
     drv: (u32, u32),
 ) -> Result<Box<Held>, Errno>
-    ensures ok { IfOk result (λ held. (are_marks head drv ≡ true) × (held.value.stream ≡ fresh driver (record { hi = head.0; lo = head.1 }) (record { hi = drv.0; lo = drv.1 }))) }
+    ensures marks { OnOk result (are_marks head drv ≡ true) }
+    ensures ok { IfOk result (λ held. held.value.stream ≡ fresh_with driver head drv) }
     ensures err { IfErr result (λ errno. errno ≡ (if are_marks head drv then ENOSR else EINVAL)) }
 {
     match Stream::new(alloc, driver, head, drv) {
@@ -45,7 +46,7 @@ pub fn open_stream(
     drv: (u32, u32),
 ) -> i32
     requires { s.old.is_open ≡ false }
-    ensures { Opens driver head drv result (s.new ≡ s.old) s.new.is_open s.new.held.stream }
+    ensures { OpensOn s.old driver head drv result s.new }
 {
     let Some(driver) = driver else {
         return 22;

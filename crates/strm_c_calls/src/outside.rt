@@ -3,7 +3,9 @@ ghost use Rattle.std.specs.Prelude.{◌≡◌, pos, true, option_copied};
 ghost use Rattle.strm_c_numbers.specs.Numbers.{end_of};
 ghost use Rattle.strm_c_calls.specs.Returned.{HasTaken, got_after};
 ghost use Rattle.strm_c_calls.specs.Codes.{code_of};
+ghost use Rattle.strm_c_calls.specs.OnHandle.{TakesWholeOn, TellsNextOn};
 ghost use Rattle.strm_c_calls.specs.Outside as outside;
+ghost use Rattle.strm_c_calls.specs.Outside.{goes_into, lacks_room, room_of, stays_for_room};
 
 use crate::calls::call_taking;
 use crate::handle::Handle;
@@ -17,7 +19,7 @@ use strm_msg::{Bytes, End, Message};
 
 /// Whether a part goes whole into its room.
 fn goes_into(has: bool, buffer: &[u8], part: Option<&Bytes>) -> bool
-    ensures { result ≡ outside.goes_into (outside.room_of has buffer.now) (option_copied part.entry) }
+    ensures { result ≡ goes_into (room_of has buffer.now) (option_copied part.entry) }
 {
     match part {
         Some(bytes) => has && bytes.len() <= buffer.len(),
@@ -27,7 +29,7 @@ fn goes_into(has: bool, buffer: &[u8], part: Option<&Bytes>) -> bool
 
 /// Whether a message has a part that is longer than its room.
 fn lacks_room(has_ctl: bool, ctl: &[u8], has_dat: bool, dat: &[u8], first: Option<&Message>) -> bool
-    ensures { result ≡ outside.lacks_room (outside.room_of has_ctl ctl.now) (outside.room_of has_dat dat.now) (option_copied first.entry) }
+    ensures { result ≡ lacks_room (room_of has_ctl ctl.now) (room_of has_dat dat.now) (option_copied first.entry) }
 {
     match first {
         Some(m) => {
@@ -47,7 +49,7 @@ fn stays(
     has_dat: bool,
     dat: &[u8],
 ) -> bool
-    ensures { result ≡ outside.stays_for_room stream.now (Some end) (outside.room_of has_ctl ctl.now) (outside.room_of has_dat dat.now) }
+    ensures { result ≡ stays_for_room stream.now (Some end) (room_of has_ctl ctl.now) (room_of has_dat dat.now) }
 {
     if stream.refusal(end, &Request::Take).is_some() {
         return false;
@@ -68,7 +70,8 @@ fn stays_for_room(
     requires { s.old.is_open ≡ true }
     ensures open { s.new.is_open ≡ true }
     ensures same { s.new.held ≡ s.old.held }
-    ensures stays { result ≡ outside.stays_for_room s.old.held.stream (end_of end) (outside.room_of has_ctl ctl.now) (outside.room_of has_dat dat.now) }
+    ensures stays { result ≡ stays_for_room s.old.held.stream (end_of end)
+        (room_of has_ctl ctl.now) (room_of has_dat dat.now) }
 {
     let Some(end) = end_of(end) else {
         return false;
@@ -92,7 +95,8 @@ pub fn take_whole(
 ) -> i32
     requires { s.old.is_open ≡ true }
     ensures open { s.new.is_open ≡ true }
-    ensures takes { outside.TakesWhole (outside.stays_for_room s.old.held.stream (end_of end) (outside.room_of has_ctl ctl.old) (outside.room_of has_dat dat.old)) s.old.held.stream end (HasTaken ctl.old dat.old got.old ctl.new dat.new got.new) result s.new.held.stream }
+    ensures takes { TakesWholeOn s.old end (room_of has_ctl ctl.old) (room_of has_dat dat.old)
+        (HasTaken ctl.old dat.old got.old ctl.new dat.new got.new) result s.new }
 {
     if stays_for_room(alloc, s, end, has_ctl, ctl, has_dat, dat) {
         return 34;
@@ -123,7 +127,7 @@ fn look_at_next(stream: &Stream<Plain>, end: End, got: &mut Returned) -> i32
 pub fn next(alloc: Global, s: &mut Handle, end: u8, got: &mut Returned) -> i32
     requires { s.old.is_open ≡ true }
     ensures open { s.new.is_open ≡ true }
-    ensures next { outside.TellsNext s.old.held.stream (end_of end) got.old got.new result s.new.held.stream }
+    ensures next { TellsNextOn s.old end got.old got.new result s.new }
 {
     let Some(end) = end_of(end) else {
         return 9;

@@ -2,7 +2,7 @@
 ghost use Rattle.std.specs.Prelude.{◌≡◌, pos, true};
 ghost use Rattle.strm_c_numbers.specs.Numbers.{end_of};
 ghost use Rattle.strm_head_ioctl.specs.Poll.{polled};
-ghost use Rattle.strm_c_calls.specs.Codes as codes;
+ghost use Rattle.strm_c_calls.specs.Codes.{returned_flags};
 ghost use Rattle.strm_c_calls.specs.Polls.{polled_at};
 
 use crate::calls::step;
@@ -56,7 +56,7 @@ pub fn poll(alloc: Global, s: &mut Handle, end: u8, events: u32, revents: &mut u
     ensures open { s.new.is_open ≡ true }
     ensures same { s.new.held.stream ≡ s.old.held.stream }
     ensures done { result ≡ pos 0 }
-    ensures told { revents.new ≡ codes.returned_flags events (polled_at s.old.held.stream (end_of end)) }
+    ensures told { revents.new ≡ returned_flags events (polled_at s.old.held.stream (end_of end)) }
 {
     let told = polled_at(alloc, s, end);
     *revents = returned_flags(events, told);

@@ -4,7 +4,11 @@ ghost use Rattle.strm_head_calls.specs.declared.answer.Reply.TheVariants as Repl
 ghost use Rattle.strm_c_numbers.specs.Numbers as numbers;
 ghost use Rattle.strm_c_numbers.specs.Bytes.{filled, filled_if};
 ghost use Rattle.strm_c_calls.specs.Codes as codes;
-ghost use Rattle.strm_c_calls.specs.Returned.{ctl_of, dat_of, got_whole, got_of, reply_next, received_flags, received_band, returned_value, returned_bytes, name_field, returned_name, returned_count, HasTaken, IsValue, AreValues, IsNamed};
+ghost use Rattle.strm_c_calls.specs.Returned.{AreValues, HasTaken, IsNamed, IsValue};
+ghost use Rattle.strm_c_calls.specs.Returned.{ctl_of, dat_of, got_lengths, got_of, got_whole};
+ghost use Rattle.strm_c_calls.specs.Returned.{name_field, received_band, received_flags, reply_next};
+ghost use Rattle.strm_c_calls.specs.Returned.{returned_bytes, returned_count, returned_name};
+ghost use Rattle.strm_c_calls.specs.Returned.{returned_value};
 
 use crate::codes::{more_number, priority_number};
 use strm_c_numbers::{fill, fill_part, int_of, kind_number, length_of, read_number};
@@ -33,7 +37,7 @@ pub struct Returned {
 
 /// The description of parts of these lengths.
 fn lengths(ctl_len: i32, dat_len: i32, flags: i32) -> Returned
-    ensures { result ≡ record { ctl_len = ctl_len; dat_len = dat_len; found = pos 1; flags = flags; band = pos 0; more = pos 0; rval = 0 } }
+    ensures { result ≡ got_lengths ctl_len dat_len (pos 1) flags }
 {
     Returned {
         ctl_len,
@@ -48,7 +52,7 @@ fn lengths(ctl_len: i32, dat_len: i32, flags: i32) -> Returned
 
 /// The description of a reply without parts.
 fn nothing(found: i32) -> Returned
-    ensures { result ≡ record { ctl_len = negsuc 0; dat_len = negsuc 0; found = found; flags = pos 0; band = pos 0; more = pos 0; rval = 0 } }
+    ensures { result ≡ got_lengths (negsuc 0) (negsuc 0) found (pos 0) }
 {
     Returned {
         found,

@@ -11,8 +11,7 @@ use Rattle.strm_chain_ends.specs.Image.{Image, end_of}
 use Rattle.strm_chain_ends.specs.Flow.{NoneMay}
 use Rattle.strm_chain.specs.Fault.{Breaks}
 use Rattle.strm_head_calls.specs.declared.request.Request.{Request}
-use Rattle.strm_head_calls.specs.declared.request.Request.TheVariants.{Putmsg, Putpmsg, Getmsg, Getpmsg, Read, Write, Push, Nread, Peek, SetRead, GetRead, Canput, Ckband, Getband, Pop, Look, Find, Str, Flush, FlushBand, Close, Take, Poll}
-use Rattle.strm_head_calls.specs.declared.request.Request.TheVariants as Requests
+use Rattle.strm_head_calls.specs.declared.request.Request.TheVariants.{Read, Push, Pop, Str, Close, Take, Poll}
 use Rattle.strm_head_calls.specs.declared.refusal.Refusal.{Refusal}
 use Rattle.strm_head_calls.specs.Refusal.{first_that_holds}
 use Rattle.strm_head_calls.specs.declared.answer.Reply.{Reply}
@@ -21,8 +20,9 @@ use Rattle.strm_head_calls.specs.declared.answer.Answer.TheVariants.{Done, Refus
 use Rattle.strm_msg.specs.declared.errno.Errno.{Errno}
 use Rattle.strm_msg.specs.Message.{Msg}
 use Rattle.strm_head_calls.specs.Effect.{Effect, effect, effect_ioctl, reply_after}
+use Rattle.strm_head_calls.specs.Calls.{changes_modules}
 use Rattle.strm_head_calls.specs.Request.{changes_no_queue}
-use Rattle.strm_head.specs.Effects.{effect_of, refusal_of, awaits_answer, takes_no_memory_at, can_lack_memory, pushed_of, errors_looked_at, error_refusals, closed_refusals, common_refusals, own_refusals, finds_whole, handed_out, back_of, out_of, serials_of, is_no_memory, wants_memory, BreaksNone}
+use Rattle.strm_head.specs.Effects.{effect_of, refusal_of, awaits_answer, takes_no_memory_at, can_lack_memory, pushed_of, errors_looked_at, error_refusals, closed_refusals, common_refusals, own_refusals, finds_whole, handed_out, back_of, out_of, serials_of, is_no_memory, wants_memory, BreaksNone, takes_no_memory}
 use Rattle.strm_head.specs.TakesEffect.{needs_no_service}
 use Rattle.strm_head_ioctl.specs.Outside.{take_refusals}
 use Rattle.strm_head_ioctl.proofs.OutsideLemmas.{taken_none, taken_plain}
@@ -32,117 +32,45 @@ use Rattle.strm_head.proofs.RefusalLemmas.{first_of_all}
 use Rattle.strm_head.proofs.KeptLemmas.{whole_of, effect_opens}
 use Rattle.strm_head.proofs.NothingLemmas.{served_takes, ioctl_sends, unserved_effect}
 
+-- ---- what a call takes out and awaits
+
+not_true : (b : Bool) → not b ≡ true → b ≡ false
+not_true false h = refl
+not_true true h = absurd cc
+
+-- a call that want of memory can refuse changes no modules
+lacks_plain : {P : Type 0} (request : Request P) → can_lack_memory request ≡ true → changes_modules request ≡ false
+lacks_plain request can =
+    not_true (changes_modules request) ((and_parts (not (takes_no_memory request)) (not (changes_modules request)) can).1)
+
 -- for kinds of any meaning
 module _ {K : Type 0} (means : Meaning K) where
+  -- a call that changes no modules takes none out
+  pub plain_out : (image : Image K) (e : End) (request : Request (Shape K)) → changes_modules request ≡ false → (effect_of means image e request).out ≡ []
+  plain_out image e (Read zero) plain = refl
+  plain_out image e Pop plain = cc
+  plain_out image e Close plain = cc
+  plain_out image e Take plain = taken_none image e (end_of image e).drv
+  plain_out image e request plain = refl
+
   -- a call that want of memory can refuse has taken no module out, and was handed none
   none_out : (image : Image K) (e : End) (request : Request (Shape K)) → can_lack_memory request ≡ true → (effect_of means image e request).out ≡ []
-  none_out image e (Putmsg flag parts) can = refl
-  none_out image e (Putpmsg band flag parts) can = refl
-  none_out image e (Getmsg maxctl maxdat flag) can = refl
-  none_out image e (Getpmsg maxctl maxdat band flag) can = refl
-  none_out image e (Read zero) can = refl
-  none_out image e (Read (suc n)) can = refl
-  none_out image e (Write dat) can = refl
-  none_out image e (Push shape) can = cc
-  none_out image e Nread can = cc
-  none_out image e (Peek maxctl maxdat flag) can = refl
-  none_out image e (SetRead mode prot) can = cc
-  none_out image e GetRead can = cc
-  none_out image e (Canput band) can = cc
-  none_out image e (Ckband band) can = cc
-  none_out image e Getband can = cc
-  none_out image e Pop can = cc
-  none_out image e Look can = cc
-  none_out image e Requests.List can = cc
-  none_out image e (Find name) can = cc
-  none_out image e (Str cmd dat) can = refl
-  none_out image e (Flush r w) can = refl
-  none_out image e (FlushBand band r w) can = refl
-  none_out image e Close can = cc
-  none_out image e Take can = taken_none image e (end_of image e).drv
-  none_out image e Poll can = cc
+  none_out image e request can = plain_out image e request (lacks_plain request can)
 
-  none_pushed : (image : Image K) (e : End) (request : Request (Shape K)) → can_lack_memory request ≡ true → pushed_of request ≡ []
-  none_pushed image e (Putmsg flag parts) can = refl
-  none_pushed image e (Putpmsg band flag parts) can = refl
-  none_pushed image e (Getmsg maxctl maxdat flag) can = refl
-  none_pushed image e (Getpmsg maxctl maxdat band flag) can = refl
-  none_pushed image e (Read zero) can = refl
-  none_pushed image e (Read (suc n)) can = refl
-  none_pushed image e (Write dat) can = refl
-  none_pushed image e (Push shape) can = cc
-  none_pushed image e Nread can = refl
-  none_pushed image e (Peek maxctl maxdat flag) can = refl
-  none_pushed image e (SetRead mode prot) can = refl
-  none_pushed image e GetRead can = refl
-  none_pushed image e (Canput band) can = refl
-  none_pushed image e (Ckband band) can = refl
-  none_pushed image e Getband can = refl
-  none_pushed image e Pop can = refl
-  none_pushed image e Look can = refl
-  none_pushed image e Requests.List can = refl
-  none_pushed image e (Find name) can = refl
-  none_pushed image e (Str cmd dat) can = refl
-  none_pushed image e (Flush r w) can = refl
-  none_pushed image e (FlushBand band r w) can = refl
-  none_pushed image e Close can = refl
-  none_pushed image e Take can = refl
-  none_pushed image e Poll can = refl
+  none_pushed : (request : Request (Shape K)) → can_lack_memory request ≡ true → pushed_of request ≡ []
+  none_pushed (Push shape) can = cc
+  none_pushed request can = refl
 
   -- the calls that await an answer are those that say so
   awaits_of : (image : Image K) (e : End) (request : Request (Shape K)) → (effect_of means image e request).awaits ≡ awaits_answer request
-  awaits_of image e (Putmsg flag parts) = refl
-  awaits_of image e (Putpmsg band flag parts) = refl
-  awaits_of image e (Getmsg maxctl maxdat flag) = refl
-  awaits_of image e (Getpmsg maxctl maxdat band flag) = refl
   awaits_of image e (Read zero) = refl
-  awaits_of image e (Read (suc n)) = refl
-  awaits_of image e (Write dat) = refl
-  awaits_of image e (Push shape) = refl
-  awaits_of image e Nread = refl
-  awaits_of image e (Peek maxctl maxdat flag) = refl
-  awaits_of image e (SetRead mode prot) = refl
-  awaits_of image e GetRead = refl
-  awaits_of image e (Canput band) = refl
-  awaits_of image e (Ckband band) = refl
-  awaits_of image e Getband = refl
-  awaits_of image e Pop = refl
-  awaits_of image e Look = refl
-  awaits_of image e Requests.List = refl
-  awaits_of image e (Find name) = refl
   awaits_of image e (Str cmd dat) = refl
-  awaits_of image e (Flush r w) = refl
-  awaits_of image e (FlushBand band r w) = refl
-  awaits_of image e Close = refl
   awaits_of image e Take = taken_plain image e (end_of image e).drv
-  awaits_of image e Poll = refl
+  awaits_of image e request = refl
 
   ioctl_of : (image : Image K) (e : End) (request : Request (Shape K)) → awaits_answer request ≡ true → effect_of means image e request ≡ effect_ioctl (effect_of means image e request).image
-  ioctl_of image e (Putmsg flag parts) awaits = cc
-  ioctl_of image e (Putpmsg band flag parts) awaits = cc
-  ioctl_of image e (Getmsg maxctl maxdat flag) awaits = cc
-  ioctl_of image e (Getpmsg maxctl maxdat band flag) awaits = cc
-  ioctl_of image e (Read zero) awaits = cc
-  ioctl_of image e (Read (suc n)) awaits = cc
-  ioctl_of image e (Write dat) awaits = cc
-  ioctl_of image e (Push shape) awaits = cc
-  ioctl_of image e Nread awaits = cc
-  ioctl_of image e (Peek maxctl maxdat flag) awaits = cc
-  ioctl_of image e (SetRead mode prot) awaits = cc
-  ioctl_of image e GetRead awaits = cc
-  ioctl_of image e (Canput band) awaits = cc
-  ioctl_of image e (Ckband band) awaits = cc
-  ioctl_of image e Getband awaits = cc
-  ioctl_of image e Pop awaits = cc
-  ioctl_of image e Look awaits = cc
-  ioctl_of image e Requests.List awaits = cc
-  ioctl_of image e (Find name) awaits = cc
   ioctl_of image e (Str cmd dat) awaits = refl
-  ioctl_of image e (Flush r w) awaits = cc
-  ioctl_of image e (FlushBand band r w) awaits = cc
-  ioctl_of image e Close awaits = cc
-  ioctl_of image e Take awaits = cc
-  ioctl_of image e Poll awaits = cc
+  ioctl_of image e request awaits = cc
 
   -- a call that awaits an answer finds a stream that is not broken
   awaits_finds : (request : Request (Shape K)) → awaits_answer request ≡ true → finds_whole request ≡ true
@@ -152,6 +80,8 @@ module _ {K : Type 0} (means : Meaning K) where
   pub ioctl_whole : (image : Image K) (e : End) (request : Request (Shape K)) (new : Image K) → refusal_of means image e request ≡ None → awaits_answer request ≡ true → new ≡ (effect_of means image e request).image → new.broken ≡ false
   ioctl_whole image e request new unrefused awaits is =
       ap (λ (i : Image K). i.broken) is ∙ (effect_opens means image e request).broken ∙ whole_of means image e request unrefused (awaits_finds request awaits)
+
+  -- ---- the answer of a call
 
   plain_reply : (b : Effect (Image K) K) (kept : Option Msg) → b.awaits ≡ false → reply_after b kept ≡ b.reply
   plain_reply b kept h = rw h refl
@@ -218,6 +148,8 @@ module _ {K : Type 0} (means : Meaning K) where
       rw (a, m, i)
       (unrefused, (λ quiet. refl), record { settled = b.image; settles = settles; replies = r ∙ sym (plain_reply b (end_of b.image e).state.kept quiet.awaits); leaves = ap (λ x. answered_if x e b.image) (sym quiet.awaits); takes = refl })
 
+  -- ---- what comes back, and what does not fail
+
   -- what comes back of a call that was finished
   pub finished_back : (image : Image K) (e : End) (request : Request (Shape K)) (back : List (Option (Shape K))) (b : Effect (Image K) K) (answer : Answer) (moves : List Place) (out : List ℕ) (after : Image K) → back ≡ handed_out (effect_of means image e request).out → Finishes means e b answer moves out after → back ≡ back_of means image e request answer
   finished_back image e request back b (Refused refusal) moves out after is finishes = absurd finishes
@@ -227,7 +159,7 @@ module _ {K : Type 0} (means : Meaning K) where
   -- and of one that want of memory refuses
   pub refused_back : (image : Image K) (e : End) (request : Request (Shape K)) (back : List (Option (Shape K))) (answer : Answer) (refusal : Refusal) → can_lack_memory request ≡ true → back ≡ handed_out (effect_of means image e request).out → answer ≡ Refused refusal → back ≡ back_of means image e request answer
   refused_back image e request back answer refusal can is a =
-      rw (a, is, none_out image e request can, none_pushed image e request can) refl
+      rw (a, is, none_out image e request can, none_pushed request can) refl
 
   -- a call that a service follows takes memory
   pub served_memory : (image : Image K) (e : End) (request : Request (Shape K)) (answer : Answer) → needs_no_service image e request ≡ false → takes_no_memory_at image e request ≡ true → wants_memory answer ≡ false
@@ -244,6 +176,8 @@ module _ {K : Type 0} (means : Meaning K) where
   finished_still image e request new answer is still sends none =
       still (subst (λ (i : Image K). NoneMay means i) (sym is) none)
 
+-- ---- refusals that are not for want of memory
+
 -- a refusal that is not for want of memory, if it is one
 abbrev IsNotMemory : Option Refusal → Type 0
 IsNotMemory found = (refusal : Refusal) → found ≡ Some refusal → wants_memory (Refused refusal) ≡ false
@@ -251,10 +185,6 @@ IsNotMemory found = (refusal : Refusal) → found ≡ Some refusal → wants_mem
 -- no refusal of a list is want of memory
 abbrev are_other : List (Bool × Refusal) → Bool
 are_other rows = list_all (λ row. not (is_no_memory row.1)) rows
-
-not_true : (b : Bool) → not b ≡ true → b ≡ false
-not_true false h = refl
-not_true true h = absurd cc
 
 rows_not_memory : (rows : List (Bool × Refusal)) → are_other rows ≡ true → IsNotMemory (first_that_holds rows)
 rows_not_memory [] others refusal is = absurd cc

@@ -43,13 +43,15 @@ use Rattle.strm_head_calls.specs.Refusal.{first_that_holds}
 use Rattle.strm_head_calls.specs.Effect.{Effect}
 use Rattle.strm_head_msg.specs.Send.{sent_of, putmsg_message, putpmsg_message, ordinary_message}
 use Rattle.strm_head_ioctl.specs.Ioctl.{asked_of}
-use Rattle.strm_head_ioctl.specs.Close.{closed_image, hung_up_if, after_close}
+use Rattle.strm_head_ioctl.specs.Close.{closed_image, hung_up_if, after_close, HasItsEnds}
 use Rattle.strm_head_ioctl.proofs.CloseLemmas.{hung_up_keeps}
 use Rattle.strm_head_calls.specs.Request.{changes_no_queue}
 use Rattle.strm_head.specs.Effects.{effect_of, refusal_of, errors_at, finds_whole, common_refusals, own_refusals}
 use Rattle.strm_head.proofs.RefusalLemmas.{first_of_all, own_none}
-use Rattle.strm_head.specs.Inside.{HasItsEnds, IsIdle, AreIdle, IsWholeStream, OpensNone}
+use Rattle.strm_head.specs.Inside.{IsIdle, AreIdle, IsWholeStream, OpensNone}
 use Rattle.strm_head.specs.Step.{Answers, IsDone, IsBroken, SettlesUnless, Lands, arrival, arrived_of, answered_if}
+
+-- ---- ends that are open
 
 -- what a message leaves opens no end
 opened_in : {K : Type 0} (old new : Image K) → SameModules old new → (e : End) → (end_of new e).is_open ≡ true → (end_of old e).is_open ≡ true
@@ -80,6 +82,8 @@ none_opens image = record { driver = refl; broken = refl; ends = λ e h. h }
 pub ends_stay : {K : Type 0} (old new : Image K) → OpensNone old new → HasItsEnds old → HasItsEnds new
 ends_stay old new opens ends e h = ap (λ d. has_end d e) opens.driver ∙ ends e (opens.ends e h)
 
+-- ---- a call that is not refused
+
 -- a call that is not refused, and is no close, finds a stream that is not broken
 whole_if : (opened broken : Bool) (errors : List (Bool × Refusal)) → first_that_holds ((not opened, Closed) ∷ (broken, Broken) ∷ errors) ≡ None → broken ≡ false
 whole_if true false errors h = refl
@@ -108,6 +112,8 @@ whole_of means image e Take h finds = take_whole image e h
 whole_of means image e request h finds =
     whole_if (end_of image e).is_open image.broken (errors_at image e request)
     (none_before (first_that_holds (common_refusals image e request)) (first_that_holds (own_refusals means image e request)) (sym (first_of_all means image e request refl) ∙ h))
+
+-- ---- the record of a head
 
 -- the record of a head is no part of what moves
 same_above : {K : Type 0} (image : Image K) (e : End) (r : Record) (p : End) → above (end_of (with_state image e r) p) (count_of (with_state image e r) p + 1) ≡ above (end_of image p) (count_of image p + 1)
@@ -153,6 +159,8 @@ same_due means image e r place =
 state_quiet : {K : Type 0} (means : Meaning K) (image : Image K) (e : End) (r : Record) → IsQuiet means image → IsQuiet means (with_state image e r)
 state_quiet means image e r quiet place = same_due means image e r place ∙ quiet place
 
+-- ---- an end that is closed
+
 opens_trans : {K : Type 0} (old mid new : Image K) → OpensNone old mid → OpensNone mid new → OpensNone old new
 opens_trans old mid new p q =
     record { driver = q.driver ∙ p.driver; broken = q.broken ∙ p.broken; ends = λ e h. p.ends e (q.ends e h) }
@@ -170,6 +178,8 @@ closed_opens image B = record { driver = refl; broken = refl; ends = shut image 
 
 state_opens : {K : Type 0} (image : Image K) (e : End) (r : Record) → OpensNone image (with_state image e r)
 state_opens image e r = end_opens image e (record (end_of image e) { state = r }) refl
+
+-- ---- heads that await no answer
 
 -- what a message leaves awaits no answer where none was awaited
 idle_end : {K : Type 0} (old new : EndState K) → SameEnd old new → IsIdle old.state → IsIdle new.state
@@ -221,6 +231,8 @@ same_but_drv e q =
       modules = refl;
       ids = record { next = refl; pending = refl; kept = λ none. refl };
     }
+
+-- ---- calls, by kinds of any meaning
 
 -- what a call that changes no queue has done
 pub record IsQuietly {K : Type 0} (means : Meaning K) (image : Image K) (effect : Effect (Image K) K) : Type 0 where
@@ -307,6 +319,8 @@ module _ {K : Type 0} (means : Meaning K) where
   quiet_effect image e Take is quiet = cc
   quiet_effect image e Poll is quiet = record { quiet = quiet; broken = refl; awaits = refl }
 
+  -- ---- calls leave heads that await no answer
+
   sent_idle : (image : Image K) (e : End) (m : Option Msg) → AreIdle image → AreIdle (sent_of means image e m)
   sent_idle image e None idle = idle
   sent_idle image e (Some m) idle = idle_same image _ (deliver_keeps means image (Down e 1) m) idle
@@ -351,6 +365,8 @@ module _ {K : Type 0} (means : Meaning K) where
   effect_idle image e Poll idle = idle
   effect_idle image e Close idle =
       idle_same (closed_image image e) _ (after_keeps image.broken (closed_image image e) e) (idle_with image e (closed (end_of image e)) (idle e) idle)
+
+  -- ---- calls keep messages from going round
 
   -- what changes no module keeps messages from going round
   head_ordered : (image : Image K) (e : End) (q : List Msg) → IsOrdered means image → IsOrdered means (with_head image e q)
@@ -430,6 +446,8 @@ module _ {K : Type 0} (means : Meaning K) where
 
     arrived_ordered : (image : Image K) (e : End) (m : Msg) → IsOrdered means image → IsOrdered means (arrived_of means image e m)
     arrived_ordered image e m = arrived_ordered_if (is_high m.kind) image e (input_end image.driver) m
+
+  -- ---- what a stream keeps
 
   broken_opens : (old new : Image K) → Breaks old new → (e : End) → (end_of new e).is_open ≡ true → (end_of old e).is_open ≡ true
   broken_opens old new breaks A h = sym breaks.on_a.is_open ∙ h

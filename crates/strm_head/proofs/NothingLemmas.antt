@@ -33,6 +33,8 @@ use Rattle.strm_head.specs.Effects.{effect_of, has_nothing_to_do, takes_no_memor
 use Rattle.strm_head.specs.TakesEffect.{needs_no_service}
 use Rattle.strm_head.proofs.KeptLemmas.{IsQuietly, quiet_effect}
 
+-- ---- where nothing is to be done, no memory is taken
+
 -- no message waits
 empty_of : {X : Type 0} (q : List X) → is_empty q ≡ true → q ≡ []
 empty_of [] none = refl
@@ -88,6 +90,8 @@ pub peek_ok : {K A X : Type 0} (image : Image K) (e : End) (maxctl maxdat : Opti
 peek_ok image e maxctl maxdat flag says shown r ok is plain none =
     unseen_ok (peeked_of (slice_get (end_of image e).head 0) maxctl maxdat flag) says shown r (ok none) is plain none
 
+-- ---- the stream stays as it was
+
 -- a list that is put back as it was
 stayed : {K : Type 0} (image : Image K) (e : End) (stays : List Msg) → stays ≡ (end_of image e).head → with_head image e stays ≡ image
 stayed image A stays same = ap (λ q. with_head image A q) same
@@ -110,6 +114,8 @@ left_quiet {K} means image after reply same quiet =
       awaits = refl;
     }
 
+-- ---- calls that a service follows
+
 -- what takes no memory is followed by no service
 pub served_takes : {K : Type 0} (image : Image K) (e : End) (request : Request (Shape K)) → needs_no_service image e request ≡ false → takes_no_memory_at image e request ≡ false
 served_takes image e (Peek maxctl maxdat flag) needs = absurd cc
@@ -123,6 +129,8 @@ served_changes image e request needs =
 pub ioctl_sends : {K : Type 0} (image : Image K) (e : End) (request : Request (Shape K)) → awaits_answer request ≡ true → sends_no_message image e request ≡ false
 ioctl_sends image e (Str cmd dat) awaits = refl
 ioctl_sends image e request awaits = absurd cc
+
+-- ---- calls that none follows
 
 -- for kinds of any meaning
 module _ {K : Type 0} (means : Meaning K) where

@@ -18,6 +18,8 @@ use Rattle.strm_head_calls.specs.declared.request.Request.TheVariants.{Putmsg, P
 use Rattle.strm_head_calls.specs.declared.refusal.Refusal.TheVariants.{Closed, Broken, ReadError, WriteError, Invalid, TooLong, HungUp, BadMessage, NoMessage, WouldWait}
 use Rattle.strm_head.specs.Effects.{refusal_of}
 
+-- ---- streams
+
 -- kinds that send everything on
 abbrev plain : Meaning ℕ
 plain = serving (λ kind side m. passed_on kind side m) (λ kind side. false)
@@ -43,6 +45,8 @@ data_of n = data_msg 0 (replicate n 97)
 
 abbrev parts : Part → Part → Parts
 parts ctl dat = record { ctl = ctl; dat = dat }
+
+-- ---- closed ends, broken streams and errors
 
 far_end_is_closed : refusal_of plain with_error B Nread ≡ Some Closed
 far_end_is_closed = refl
@@ -76,6 +80,8 @@ write_error_before_an_argument = refl
 reading_goes_on_after_a_write_error : refusal_of plain unwritable A Nread ≡ None
 reading_goes_on_after_a_write_error = refl
 
+-- ---- calls that send
+
 high_message_lacks_control : refusal_of plain hung_up A (Putmsg Hipri (parts None (Some (replicate 5000 97)))) ≡ Some Invalid
 high_message_lacks_control = refl
 
@@ -106,6 +112,8 @@ full_driver_takes_another_band = refl
 nothing_to_send_does_not_wait : refusal_of plain (holding [] (data_of 16 ∷ [])) A (Putmsg Norm (parts None None)) ≡ None
 nothing_to_send_does_not_wait = refl
 
+-- ---- calls that take
+
 no_message_to_get : refusal_of plain start A (Getmsg (Some 64) (Some 64) Wanted.Any) ≡ Some WouldWait
 no_message_to_get = refl
 
@@ -133,6 +141,8 @@ read_of_no_bytes_looks_at_nothing = refl
 no_band_of_no_message : refusal_of plain start A Getband ≡ Some NoMessage
 no_band_of_no_message = refl
 
+-- ---- modules and names
+
 no_module_before_hung_up : refusal_of plain hung_up A Pop ≡ Some Invalid
 no_module_before_hung_up = refl
 
@@ -144,6 +154,8 @@ name_of_nine_bytes = refl
 
 name_of_eight_bytes : refusal_of plain start A (Find (replicate 8 97)) ≡ None
 name_of_eight_bytes = refl
+
+-- ---- ioctls, flushes and closes
 
 ioctl_data_too_long_before_hung_up : refusal_of plain hung_up A (Str 1 (Some (replicate 4097 97))) ≡ Some Invalid
 ioctl_data_too_long_before_hung_up = refl
@@ -165,6 +177,8 @@ broken_stream_with_an_error_is_closed = refl
 
 closed_end_is_not_closed_again : refusal_of plain with_error B Close ≡ Some Closed
 closed_end_is_not_closed_again = refl
+
+-- ---- how many modules, and how many places
 
 -- so many modules stand on an end
 abbrev stands : ℕ → Image ℕ

@@ -1,5 +1,5 @@
 -- The outcome of a message that comes in from a line.
-use Rattle.std.specs.Prelude.{◌≡◌, ◌≤◌, ℕ, true, false, [], ⊤}
+use Rattle.std.specs.Prelude.{◌≡◌, ◌≤◌, ℕ, true, false, [], ⊤, Result, OnOk, IfErr}
 use Rattle.strm_msg.specs.Message.{Msg}
 use Rattle.strm_msg.specs.declared.words.End.TheVariants.{A}
 use Rattle.strm_module.specs.Kinds.{Meaning}
@@ -7,6 +7,7 @@ use Rattle.strm_chain_ends.specs.Image.{Image}
 use Rattle.strm_module.specs.Calm.{IsCalm}
 use Rattle.strm_chain.specs.Fault.{Breaks}
 use Rattle.strm_chain.specs.Count.{AreLooks, most_looks}
+use Rattle.strm_chain.specs.Enabled.{ChainValue}
 use Rattle.strm_head_calls.specs.declared.answer.Reply.TheVariants.{Line}
 use Rattle.strm_head_calls.specs.declared.answer.Answer.TheVariants as Answer
 use Rattle.strm_head.specs.declared.outcome.Arrived.{Arrived}
@@ -31,6 +32,13 @@ module _ {K : Type 0} (means : Meaning K) where
   NotIn image m (Full same) after = ⊥
   NotIn image m (NoMem same) after = (same ≡ m) × (after ≡ image)
   NotIn image m Broke after = Breaks (arrived_of means image A m) after
+
+  -- a message that can come in did, unless memory ran out; or it did not (no public clause cites them)
+  abbrev pub IsTakenIn : {X : Type 0} → ChainValue K → Msg → Result X Arrived → ChainValue K → Type 0
+  IsTakenIn old m result new = OnOk result (new.image ≡ arrived_of means old.image A m)
+
+  abbrev pub StaysOut : {X : Type 0} → ChainValue K → Msg → Result X Arrived → ChainValue K → Type 0
+  StaysOut old m result new = IfErr result (λ arrived. NotIn old.image m arrived new.image)
 
 -- a message that was taken has the looks of its own service, as the run queue has given them (no public
 -- clause cites it)

@@ -212,12 +212,24 @@ pushed_of request = []
 abbrev pub handed_out : {P : Type 0} → List P → List (Option P)
 handed_out modules = map (λ s. Some s) modules
 
+-- the image of a stream on which a call has begun
+abbrev pub begun_of : {K : Type 0} → Meaning K → Image K → End → Request (Shape K) → Image K
+begun_of means image e request = (effect_of means image e request).image
+
+-- none of a call's own refusals holds
+abbrev pub HasNoOwnRefusal : {K : Type 0} → Meaning K → Image K → End → Request (Shape K) → Type 0
+HasNoOwnRefusal means image e request = first_that_holds (own_refusals means image e request) ≡ None
+
+-- the modules that a call hands out, topmost first
+abbrev pub handed_by : {K : Type 0} → Meaning K → Image K → End → Request (Shape K) → List (Option (Shape K))
+handed_by means image e request = handed_out (effect_of means image e request).out
+
 -- the modules that come back of a call: that of a refused push, or those that the call has taken out, topmost
 -- first
 abbrev pub back_of : {K : Type 0} → Meaning K → Image K → End → Request (Shape K) → Answer → List (Option (Shape K))
 back_of means image e request (Refused refusal) = pushed_of request
-back_of means image e request (Done reply) = handed_out (effect_of means image e request).out
-back_of means image e request Broke = handed_out (effect_of means image e request).out
+back_of means image e request (Done reply) = handed_by means image e request
+back_of means image e request Broke = handed_by means image e request
 
 -- the modules of a list, by their serials
 abbrev pub serials_of : {K : Type 0} → List (Shape K) → List ℕ
@@ -239,10 +251,14 @@ wants_memory (Done reply) = false
 wants_memory (Refused refusal) = is_no_memory refusal
 wants_memory Broke = true
 
+-- a call that never runs out of memory does not
+abbrev pub HasItsMemory : {K : Type 0} → Image K → End → Request (Shape K) → Answer → Type 0
+HasItsMemory image e request answer = takes_no_memory_at image e request ≡ true → wants_memory answer ≡ false
+
 -- a call that sends no message breaks no stream on which no place may move once it has begun
 abbrev pub BreaksNone : {K : Type 0} → Meaning K → Image K → End → Request (Shape K) → Answer → Type 0
 BreaksNone means image e request answer =
-    sends_no_message image e request ≡ true → NoneMay means (effect_of means image e request).image → answer ≢ Broke
+    sends_no_message image e request ≡ true → NoneMay means (begun_of means image e request) → answer ≢ Broke
 
 -- the refusals of a call are looked for in the one order of all refusals (`looking_order`)
 abbrev pub AreRefusalsInOrder : {K : Type 0} → Meaning K → Type 0

@@ -1,16 +1,12 @@
 -- The state of a stream between calls.
 use Rattle.std.specs.Prelude.{◌≡◌, true, false, None}
 use Rattle.strm_msg.specs.declared.words.End.{End}
-use Rattle.strm_module.specs.Driver.{has_end}
 use Rattle.strm_chain_end.specs.declared.record.Record.{Record}
 use Rattle.strm_module.specs.Kinds.{Meaning, AnswersStay}
 use Rattle.strm_chain_ends.specs.Flow.{IsQuiet}
 use Rattle.strm_chain_ends.specs.Image.{Image, end_of}
 use Rattle.strm_chain_ends.specs.Order.{IsOrdered}
-
--- the ends that are open are the driver's
-abbrev pub HasItsEnds : {K : Type 0} → Image K → Type 0
-HasItsEnds image = (e : End) → (end_of image e).is_open ≡ true → has_end image.driver e ≡ true
+use Rattle.strm_head_ioctl.specs.Close.{HasItsEnds}
 
 -- no answer to an ioctl is awaited, and none is kept
 pub record IsIdle (state : Record) : Type 0 where

@@ -1,9 +1,9 @@
 //! A message that comes in from a line.
-ghost use Rattle.std.specs.Prelude.{◌≡◌, true, false, OnOk, IfErr};
+ghost use Rattle.std.specs.Prelude.{◌≡◌, true, false};
 ghost use Rattle.strm_msg.specs.Kind.{is_high, is_from_line};
 ghost use Rattle.strm_msg.specs.declared.words.End.TheVariants as Ends;
-ghost use Rattle.strm_head.specs.Step.{can_arrive, arrived_of};
-ghost use Rattle.strm_head.specs.Arrive.{Arrives, HasGiven, NotIn};
+ghost use Rattle.strm_head.specs.Step.{can_arrive};
+ghost use Rattle.strm_head.specs.Arrive.{Arrives, HasGiven, IsTakenIn, StaysOut};
 ghost use Rattle.strm_head.specs.Inside.{IsWholeStream};
 
 use crate::outcome::Arrived;
@@ -28,8 +28,8 @@ pub(crate) fn can_arrive<M: ModuleOf>(chain: &Chain<M>, m: &Message) -> bool
 fn send_up<M: ModuleOf>(chain: &mut Chain<M>, m: Message) -> Result<(), Arrived>
     requires can { can_arrive chain.old.image Ends.A m ≡ true }
     requires high { is_high m.kind ≡ true }
-    ensures image { OnOk result (chain.new.image ≡ arrived_of M.Kind.means chain.old.image Ends.A m) }
-    ensures err { IfErr result (λ arrived. NotIn M.Kind.means chain.old.image m arrived chain.new.image) }
+    ensures image { IsTakenIn M.Kind.means chain.old m result chain.new }
+    ensures err { StaysOut M.Kind.means chain.old m result chain.new }
 {
     let i = chain.count(End::A) as u8;
     let copy = match m.copy(chain.alloc()) {
@@ -53,8 +53,8 @@ fn send_up<M: ModuleOf>(chain: &mut Chain<M>, m: Message) -> Result<(), Arrived>
 fn wait_below<M: ModuleOf>(chain: &mut Chain<M>, m: Message) -> Result<(), Arrived>
     requires can { can_arrive chain.old.image Ends.A m ≡ true }
     requires ordinary { is_high m.kind ≡ false }
-    ensures image { OnOk result (chain.new.image ≡ arrived_of M.Kind.means chain.old.image Ends.A m) }
-    ensures err { IfErr result (λ arrived. NotIn M.Kind.means chain.old.image m arrived chain.new.image) }
+    ensures image { IsTakenIn M.Kind.means chain.old m result chain.new }
+    ensures err { StaysOut M.Kind.means chain.old m result chain.new }
 {
     let m = match BoxedMessage::try_new(chain.alloc(), m) {
         Ok(m) => m,
@@ -70,8 +70,8 @@ fn wait_below<M: ModuleOf>(chain: &mut Chain<M>, m: Message) -> Result<(), Arriv
 /// goes up.
 fn take_in<M: ModuleOf>(chain: &mut Chain<M>, m: Message) -> Result<(), Arrived>
     requires can { can_arrive chain.old.image Ends.A m ≡ true }
-    ensures image { OnOk result (chain.new.image ≡ arrived_of M.Kind.means chain.old.image Ends.A m) }
-    ensures err { IfErr result (λ arrived. NotIn M.Kind.means chain.old.image m arrived chain.new.image) }
+    ensures image { IsTakenIn M.Kind.means chain.old m result chain.new }
+    ensures err { StaysOut M.Kind.means chain.old m result chain.new }
 {
     if m.is_high() {
         return send_up(chain, m);

@@ -3,16 +3,13 @@ ghost use Rattle.std.specs.Prelude.{◌≡◌, ◌≢◌, ◌||◌, true, false,
 ghost use Rattle.strm_head_calls.specs.declared.answer.Answer.TheVariants as Answer;
 ghost use Rattle.strm_head_calls.specs.Refusal.{first_that_holds};
 ghost use Rattle.strm_head_calls.specs.Reply.{acknowledged};
-ghost use Rattle.strm_head_calls.specs.Effect.{effect, effect_ioctl};
 ghost use Rattle.strm_head_calls.specs.Request.{changes_no_queue};
 ghost use Rattle.strm_chain_ends.specs.Flow.{NoneMay};
-ghost use Rattle.strm_head.specs.Effects.{AreRefusalsInOrder, own_refusals, closed_refusals, errors_looked_at, error_refusals, common_refusals, refusal_of, effect_of, awaits_answer, has_nothing_to_do, takes_no_memory_at, back_of, out_of, wants_memory, BreaksNone};
-ghost use Rattle.strm_head.specs.TakesEffect.{needs_no_service};
+ghost use Rattle.strm_head.specs.Effects.{AreRefusalsInOrder, own_refusals, closed_refusals, errors_looked_at, error_refusals, common_refusals, refusal_of, awaits_answer, has_nothing_to_do, back_of, BreaksNone, HasItsMemory};
+ghost use Rattle.strm_head.specs.TakesEffect.{needs_no_service, FinishesWith, FinishesIoctl, HasLooks};
 ghost use Rattle.strm_head.specs.Polls.{PollTells};
-ghost use Rattle.strm_module.specs.Calm.{IsCalm};
-ghost use Rattle.strm_head.specs.StepResult.{AreGiven, IsLooked, IsBounded};
+ghost use Rattle.strm_head.specs.StepResult.{AreGiven, IsLooked, IsCallStep, LooksAtFew, CallLooksAtFew};
 ghost use Rattle.strm_head.specs.Inside.{IsWholeStream};
-ghost use Rattle.strm_head.specs.Step.{Finishes, Answers};
 
 use crate::effects::begin;
 use crate::outcome::pushed;
@@ -32,12 +29,12 @@ use strm_head_read::read_refusal;
 use strm_module::{BoxedModule, ModuleOf};
 use strm_msg::{BoxedMessage, End, Errno, Message, NoMem};
 
-/// A law, for which nothing is done: refusals are looked for in their order, whatever the call.
+/// States a law, and does nothing: refusals are looked for in their order, whatever the call.
 pub fn refusals_are_in_order<M: ModuleOf>()
     ensures { AreRefusalsInOrder M.Kind.means }
 {}
 
-/// A law, for which nothing is done: if a poll of an end reports neither a closed end nor an error, its
+/// States a law, and does nothing: if a poll of an end reports neither a closed end nor an error, its
 /// report agrees with the refusals that calls there would have.
 pub fn poll_tells<M: ModuleOf>()
     ensures { PollTells M.Kind.means }
@@ -230,12 +227,12 @@ fn broken<M: ModuleOf, A: ReplyForm>(chain: &mut Chain<M>) -> StepResult<A>
 
 /// Runs services after a call was begun, until no queue must move. On a broken chain there are none.
 fn finish<M: ModuleOf, A: ReplyForm>(chain: &mut Chain<M>, end: End, reply: A) -> StepResult<A>
-    ensures finishes { Finishes M.Kind.means end (effect chain.old.image (A.says reply)) result.answer result.moves [] chain.new.image }
+    ensures finishes { FinishesWith M.Kind.means end chain.old (A.says reply) result chain.new }
     ensures broken { result.answer ≡ Answer.Broke → chain.old.image.broken ≡ false }
     ensures still { NoneMay M.Kind.means chain.old.image → result.answer ≢ Answer.Broke }
     ensures looks { IsLooked result.answer result.moves result.looks }
     ensures given { AreGiven chain.old.image.broken result.answer result.looks chain.new.run.given }
-    ensures bound { IsCalm M.Kind.means → IsBounded chain.old.image result.answer result.moves result.looks chain.new.image }
+    ensures bound { LooksAtFew M.Kind.means chain.old.image result chain.new.image }
 {
     if chain.is_broken() {
         return StepResult::done(reply, Settled::none());
@@ -263,10 +260,10 @@ fn answer_of(alloc: Global, kept: &Option<BoxedMessage>) -> Result<Acknowledged,
 #[inline(never)]
 fn finish_ioctl<M: ModuleOf, A: ReplyForm>(chain: &mut Chain<M>, end: End) -> StepResult<A>
     requires { chain.old.image.broken ≡ false }
-    ensures finishes { Finishes M.Kind.means end (effect_ioctl chain.old.image) result.answer result.moves [] chain.new.image }
+    ensures finishes { FinishesIoctl M.Kind.means end chain.old result chain.new }
     ensures looks { IsLooked result.answer result.moves result.looks }
     ensures given { AreGiven false result.answer result.looks chain.new.run.given }
-    ensures bound { IsCalm M.Kind.means → IsBounded chain.old.image result.answer result.moves result.looks chain.new.image }
+    ensures bound { LooksAtFew M.Kind.means chain.old.image result chain.new.image }
 {
     let settled = match chain.settle() {
         Ok(settled) => settled,
@@ -293,13 +290,13 @@ pub(crate) fn perform<M: ModuleOf, A: ReplyForm>(
     requires kept { IsWholeStream M.Kind.means chain.old.image }
     requires unrefused { refusal_of M.Kind.means chain.old.image end request ≡ None }
     requires empty { back.old.items ≡ [] }
-    ensures answers { Answers M.Kind.means chain.old.image end request result.answer result.moves (out_of M.Kind.means chain.old.image end request result.answer) chain.new.image }
+    ensures answers { IsCallStep M.Kind.means chain.old.image end request result chain.new.image }
     ensures back { back.new.items ≡ back_of M.Kind.means chain.old.image end request result.answer }
-    ensures memory { takes_no_memory_at chain.old.image end request ≡ true → wants_memory result.answer ≡ false }
+    ensures memory { HasItsMemory chain.old.image end request result.answer }
     ensures still { BreaksNone M.Kind.means chain.old.image end request result.answer }
     ensures looks { IsLooked result.answer result.moves result.looks }
-    ensures given { AreGiven (needs_no_service chain.old.image end request || (effect_of M.Kind.means chain.old.image end request).image.broken) result.answer result.looks chain.new.run.given }
-    ensures bound { IsCalm M.Kind.means → IsBounded (effect_of M.Kind.means chain.old.image end request).image result.answer result.moves result.looks chain.new.image }
+    ensures given { HasLooks M.Kind.means chain.old.image end request result chain.new.run.given }
+    ensures bound { CallLooksAtFew M.Kind.means chain.old.image end request result chain.new.image }
 {
     let is_quiet = needs_no_service(chain, end, &request);
     let awaits = awaits_answer(&request);
@@ -324,13 +321,13 @@ pub(crate) fn answer<M: ModuleOf, A: ReplyForm>(
 ) -> StepResult<A>
     requires kept { IsWholeStream M.Kind.means chain.old.image }
     requires empty { back.old.items ≡ [] }
-    ensures answers { Answers M.Kind.means chain.old.image end request result.answer result.moves (out_of M.Kind.means chain.old.image end request result.answer) chain.new.image }
+    ensures answers { IsCallStep M.Kind.means chain.old.image end request result chain.new.image }
     ensures back { back.new.items ≡ back_of M.Kind.means chain.old.image end request result.answer }
-    ensures memory { takes_no_memory_at chain.old.image end request ≡ true → wants_memory result.answer ≡ false }
+    ensures memory { HasItsMemory chain.old.image end request result.answer }
     ensures still { BreaksNone M.Kind.means chain.old.image end request result.answer }
     ensures looks { IsLooked result.answer result.moves result.looks }
-    ensures given { AreGiven (needs_no_service chain.old.image end request || (effect_of M.Kind.means chain.old.image end request).image.broken) result.answer result.looks chain.new.run.given }
-    ensures bound { IsCalm M.Kind.means → IsBounded (effect_of M.Kind.means chain.old.image end request).image result.answer result.moves result.looks chain.new.image }
+    ensures given { HasLooks M.Kind.means chain.old.image end request result chain.new.run.given }
+    ensures bound { CallLooksAtFew M.Kind.means chain.old.image end request result chain.new.image }
 {
     match first_refusal(chain, end, &request) {
         Some(refusal) => {

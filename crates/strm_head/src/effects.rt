@@ -7,12 +7,11 @@ ghost use Rattle.strm_head_calls.specs.declared.answer.Reply.{Reply};
 ghost use Rattle.strm_head_calls.specs.declared.answer.Reply.TheVariants as Replies;
 ghost use Rattle.strm_head_calls.specs.declared.answer.Acknowledged.TheVariants as Acknowledged;
 ghost use Rattle.strm_head_calls.specs.declared.request.Request.TheVariants as Requests;
-ghost use Rattle.strm_head_calls.specs.Refusal.{first_that_holds};
 ghost use Rattle.strm_head_calls.specs.Reply.{has_bytes};
 ghost use Rattle.strm_head_calls.specs.ReplyForm.{said};
-ghost use Rattle.strm_head.specs.Effects.{own_refusals, effect_of, handed_out, takes_no_memory};
-ghost use Rattle.strm_head.specs.TakesEffect.{CanSend, MayBegin, TakesEffect, taken_or, done_or};
-ghost use Rattle.strm_head.specs.Inside.{HasItsEnds};
+ghost use Rattle.strm_head.specs.Effects.{effect_of, takes_no_memory, begun_of, HasNoOwnRefusal, handed_by};
+ghost use Rattle.strm_head.specs.TakesEffect.{CanSend, MayBegin, taken_or, done_or, Begins};
+ghost use Rattle.strm_head_ioctl.specs.Close.{HasItsEnds};
 
 use crate::call::Back;
 use std::alloc::Global;
@@ -76,7 +75,10 @@ fn peeked_reply<A: ReplyForm>(alloc: Global, reply: Result<Reply, NoMem>) -> Res
 }
 
 /// The reply of a call that only sends a message down, unless memory ran out.
-fn flushed_reply<A: ReplyForm>(sending: Result<(), ChainFault>, reply: A) -> Result<A, ChainFault>
+fn reply_of_sending<A: ReplyForm>(
+    sending: Result<(), ChainFault>,
+    reply: A,
+) -> Result<A, ChainFault>
     ensures { said A.says result ≡ done_or sending (A.says reply) }
 {
     match sending {
@@ -95,10 +97,10 @@ fn begin_pop<M: ModuleOf, A: ReplyForm>(
     end: End,
     back: &mut Back<M>,
 ) -> Result<A, ChainFault>
-    requires own { first_that_holds (own_refusals M.Kind.means chain.old.image end Requests.Pop) ≡ None }
+    requires own { HasNoOwnRefusal M.Kind.means chain.old.image end Requests.Pop }
     requires empty { back.old.items ≡ [] }
-    ensures begins { TakesEffect M.Kind.means chain.old.image end Requests.Pop (said A.says result) chain.new.image }
-    ensures back { back.new.items ≡ handed_out (effect_of M.Kind.means chain.old.image end Requests.Pop).out }
+    ensures begins { Begins M.Kind.means A.says chain.old end Requests.Pop result chain.new }
+    ensures back { back.new.items ≡ handed_by M.Kind.means chain.old.image end Requests.Pop }
 {
     let (reply, instance) = pop(chain, end);
     back.push(Some(instance));
@@ -114,8 +116,8 @@ fn begin_close<M: ModuleOf, A: ReplyForm>(
 ) -> Result<A, ChainFault>
     requires ends { HasItsEnds chain.old.image }
     requires empty { back.old.items ≡ [] }
-    ensures begins { TakesEffect M.Kind.means chain.old.image end Requests.Close (said A.says result) chain.new.image }
-    ensures back { back.new.items ≡ handed_out (effect_of M.Kind.means chain.old.image end Requests.Close).out }
+    ensures begins { Begins M.Kind.means A.says chain.old end Requests.Close result chain.new }
+    ensures back { back.new.items ≡ handed_by M.Kind.means chain.old.image end Requests.Close }
 {
     let reply = close(chain, end, back)?;
     Ok(A::plain(reply))
@@ -130,7 +132,7 @@ fn begin_putmsg<M: ModuleOf, A: ReplyForm>(
     flag: Priority,
 ) -> Result<A, ChainFault>
     requires { CanSend chain.old.image end }
-    ensures { TakesEffect M.Kind.means chain.old.image end (Requests.Putmsg flag parts) (said A.says result) chain.new.image }
+    ensures { Begins M.Kind.means A.says chain.old end (Requests.Putmsg flag parts) result chain.new }
 {
     sent_reply(putmsg(chain, end, parts.into_parts(), flag))
 }
@@ -145,7 +147,7 @@ fn begin_putpmsg<M: ModuleOf, A: ReplyForm>(
     flag: PutFlag,
 ) -> Result<A, ChainFault>
     requires { CanSend chain.old.image end }
-    ensures { TakesEffect M.Kind.means chain.old.image end (Requests.Putpmsg band flag parts) (said A.says result) chain.new.image }
+    ensures { Begins M.Kind.means A.says chain.old end (Requests.Putpmsg band flag parts) result chain.new }
 {
     sent_reply(putpmsg(chain, end, parts.into_parts(), band, flag))
 }
@@ -158,7 +160,7 @@ fn begin_write<M: ModuleOf, A: ReplyForm>(
     dat: Bytes,
 ) -> Result<A, ChainFault>
     requires { CanSend chain.old.image end }
-    ensures { TakesEffect M.Kind.means chain.old.image end (Requests.Write dat) (said A.says result) chain.new.image }
+    ensures { Begins M.Kind.means A.says chain.old end (Requests.Write dat) result chain.new }
 {
     sent_reply(write(chain, end, dat))
 }
@@ -173,7 +175,7 @@ fn begin_getmsg<M: ModuleOf, A: ReplyForm>(
     flag: Wanted,
 ) -> Result<A, ChainFault>
     requires { CanSend chain.old.image end }
-    ensures { TakesEffect M.Kind.means chain.old.image end (Requests.Getmsg maxctl maxdat flag) (said A.says result) chain.new.image }
+    ensures { Begins M.Kind.means A.says chain.old end (Requests.Getmsg maxctl maxdat flag) result chain.new }
 {
     taken_reply(getmsg(chain, end, maxctl, maxdat))
 }
@@ -189,7 +191,7 @@ fn begin_getpmsg<M: ModuleOf, A: ReplyForm>(
     flag: GetFlag,
 ) -> Result<A, ChainFault>
     requires { CanSend chain.old.image end }
-    ensures { TakesEffect M.Kind.means chain.old.image end (Requests.Getpmsg maxctl maxdat band flag) (said A.says result) chain.new.image }
+    ensures { Begins M.Kind.means A.says chain.old end (Requests.Getpmsg maxctl maxdat band flag) result chain.new }
 {
     taken_reply(getpmsg(chain, end, maxctl, maxdat))
 }
@@ -202,7 +204,7 @@ fn begin_read<M: ModuleOf, A: ReplyForm>(
     max: u16,
 ) -> Result<A, ChainFault>
     requires { CanSend chain.old.image end }
-    ensures { TakesEffect M.Kind.means chain.old.image end (Requests.Read max) (said A.says result) chain.new.image }
+    ensures { Begins M.Kind.means A.says chain.old end (Requests.Read max) result chain.new }
 {
     taken_reply(read(chain, end, max))
 }
@@ -217,7 +219,7 @@ fn begin_peek<M: ModuleOf, A: ReplyForm>(
     flag: Wanted,
 ) -> Result<A, ChainFault>
     requires { CanSend chain.old.image end }
-    ensures { TakesEffect M.Kind.means chain.old.image end (Requests.Peek maxctl maxdat flag) (said A.says result) chain.new.image }
+    ensures { Begins M.Kind.means A.says chain.old end (Requests.Peek maxctl maxdat flag) result chain.new }
 {
     let alloc = chain.alloc();
     taken_reply(peeked_reply(alloc, peek(chain, end, maxctl, maxdat, flag)))
@@ -226,8 +228,8 @@ fn begin_peek<M: ModuleOf, A: ReplyForm>(
 /// Begins a take.
 #[inline(never)]
 fn begin_take<M: ModuleOf, A: ReplyForm>(chain: &mut Chain<M>, end: End) -> Result<A, ChainFault>
-    requires { first_that_holds (own_refusals M.Kind.means chain.old.image end Requests.Take) ≡ None }
-    ensures { TakesEffect M.Kind.means chain.old.image end Requests.Take (said A.says result) chain.new.image }
+    requires { HasNoOwnRefusal M.Kind.means chain.old.image end Requests.Take }
+    ensures { Begins M.Kind.means A.says chain.old end Requests.Take result chain.new }
 {
     taken_reply(take(chain, end))
 }
@@ -241,10 +243,10 @@ fn begin_str<M: ModuleOf, A: ReplyForm>(
     dat: Option<Bytes>,
 ) -> Result<A, ChainFault>
     requires ready { CanSend chain.old.image end }
-    requires own { first_that_holds (own_refusals M.Kind.means chain.old.image end (Requests.Str cmd dat)) ≡ None }
-    ensures { TakesEffect M.Kind.means chain.old.image end (Requests.Str cmd dat) (said A.says result) chain.new.image }
+    requires own { HasNoOwnRefusal M.Kind.means chain.old.image end (Requests.Str cmd dat) }
+    ensures { Begins M.Kind.means A.says chain.old end (Requests.Str cmd dat) result chain.new }
 {
-    flushed_reply(send_ioctl(chain, end, cmd, dat), no_answer())
+    reply_of_sending(send_ioctl(chain, end, cmd, dat), no_answer())
 }
 
 /// Begins a flush.
@@ -256,9 +258,9 @@ fn begin_flush<M: ModuleOf, A: ReplyForm>(
     w: bool,
 ) -> Result<A, ChainFault>
     requires { CanSend chain.old.image end }
-    ensures { TakesEffect M.Kind.means chain.old.image end (Requests.Flush r w) (said A.says result) chain.new.image }
+    ensures { Begins M.Kind.means A.says chain.old end (Requests.Flush r w) result chain.new }
 {
-    flushed_reply(flush(chain, end, r, w, None), A::plain(Reply::Flush))
+    reply_of_sending(flush(chain, end, r, w, None), A::plain(Reply::Flush))
 }
 
 /// Begins a flush of one band.
@@ -271,9 +273,9 @@ fn begin_flush_band<M: ModuleOf, A: ReplyForm>(
     w: bool,
 ) -> Result<A, ChainFault>
     requires { CanSend chain.old.image end }
-    ensures { TakesEffect M.Kind.means chain.old.image end (Requests.FlushBand band r w) (said A.says result) chain.new.image }
+    ensures { Begins M.Kind.means A.says chain.old end (Requests.FlushBand band r w) result chain.new }
 {
-    flushed_reply(
+    reply_of_sending(
         flush(chain, end, r, w, Some(band)),
         A::plain(Reply::FlushBand),
     )
@@ -287,9 +289,9 @@ fn query_reply<M: ModuleOf>(
     request: &Request<BoxedModule<M>>,
 ) -> Reply
     requires tells { takes_no_memory request.now ≡ true }
-    requires own { first_that_holds (own_refusals M.Kind.means chain.old.image end request.now) ≡ None }
+    requires own { HasNoOwnRefusal M.Kind.means chain.old.image end request.now }
     ensures reply { result ≡ (effect_of M.Kind.means chain.old.image end request.now).reply }
-    ensures image { chain.new.image ≡ (effect_of M.Kind.means chain.old.image end request.now).image }
+    ensures image { chain.new.image ≡ begun_of M.Kind.means chain.old.image end request.now }
     ensures bare { has_bytes result ≡ false }
 {
     match request {
@@ -315,8 +317,8 @@ fn begin_query<M: ModuleOf, A: ReplyForm>(
     request: Request<BoxedModule<M>>,
 ) -> Result<A, ChainFault>
     requires tells { takes_no_memory request ≡ true }
-    requires own { first_that_holds (own_refusals M.Kind.means chain.old.image end request) ≡ None }
-    ensures begins { TakesEffect M.Kind.means chain.old.image end request (said A.says result) chain.new.image }
+    requires own { HasNoOwnRefusal M.Kind.means chain.old.image end request }
+    ensures begins { Begins M.Kind.means A.says chain.old end request result chain.new }
 {
     let reply = query_reply(chain, end, &request);
     drop(request);
@@ -332,10 +334,10 @@ pub(crate) fn begin<M: ModuleOf, A: ReplyForm>(
     back: &mut Back<M>,
 ) -> Result<A, ChainFault>
     requires may { MayBegin chain.old.image end request }
-    requires own { first_that_holds (own_refusals M.Kind.means chain.old.image end request) ≡ None }
+    requires own { HasNoOwnRefusal M.Kind.means chain.old.image end request }
     requires empty { back.old.items ≡ [] }
-    ensures begins { TakesEffect M.Kind.means chain.old.image end request (said A.says result) chain.new.image }
-    ensures back { back.new.items ≡ handed_out (effect_of M.Kind.means chain.old.image end request).out }
+    ensures begins { Begins M.Kind.means A.says chain.old end request result chain.new }
+    ensures back { back.new.items ≡ handed_by M.Kind.means chain.old.image end request }
 {
     match request {
         Request::Putmsg { flag, parts } => begin_putmsg(chain, end, parts, flag),

@@ -9,12 +9,11 @@ ghost use Rattle.strm_head_calls.specs.Setup.{are_marks};
 ghost use Rattle.strm_head_ioctl.specs.Names.{names_of};
 ghost use Rattle.strm_head_ioctl.specs.Outside.{first_output};
 ghost use Rattle.strm_head_calls.specs.declared.request.Request.TheVariants as Requests;
-ghost use Rattle.strm_head_calls.specs.declared.event.Event.TheVariants as Events;
-ghost use Rattle.strm_head.specs.Effects.{refusal_of, effect_of, takes_no_memory_at, back_of, out_of, wants_memory, BreaksNone};
+ghost use Rattle.strm_head.specs.Effects.{refusal_of, back_of, BreaksNone, begun_of, HasItsMemory};
 ghost use Rattle.strm_module.specs.Calm.{IsCalm};
 ghost use Rattle.strm_module.specs.Kinds.{AnswersStay};
-ghost use Rattle.strm_head.specs.StepResult.{IsLooked, IsBounded};
-ghost use Rattle.strm_head.specs.Step.{can_arrive, Step};
+ghost use Rattle.strm_head.specs.StepResult.{IsLooked, IsBounded, IsAnswered, IsCallStep, CallLooksAtFew};
+ghost use Rattle.strm_head.specs.Step.{can_arrive};
 ghost use Rattle.strm_head.specs.Arrive.{Arrives};
 
 use crate::arriving::{arrive, can_arrive};
@@ -77,7 +76,7 @@ impl<M: ModuleOf> Stream<M> {
         head: (u32, u32),
         drv: (u32, u32),
     ) -> Result<Stream<M>, NewFault>
-        ensures ok { IfOk result (λ stream. stream ≡ fresh driver (record { hi = head.0; lo = head.1 }) (record { hi = drv.0; lo = drv.1 })) }
+        ensures ok { IfOk result (λ it. it ≡ fresh driver (record { hi = head.0; lo = head.1 }) (record { hi = drv.0; lo = drv.1 })) }
         ensures marks { IsErrOf result NewFault.Marks ↔ (are_marks head drv ≡ false) }
     {
         let head = marks_of(head)?;
@@ -187,11 +186,12 @@ impl<M: ModuleOf> Stream<M> {
     /// message breaks nothing. A push, a pop and a close put in or take out their modules before memory can
     /// run out.
     pub fn apply(&mut self, end: End, request: Request<BoxedModule<M>>) -> Outcome<M>
-        ensures step { Step M.Kind.means self.old end (Events.Asked request) result.answer result.moves (out_of M.Kind.means self.old end request result.answer) self.new }
+        ensures step { IsAnswered M.Kind.means self.old end request result.answer result.moves self.new }
         ensures back { result.back.items ≡ back_of M.Kind.means self.old end request result.answer }
         ensures looks { IsLooked result.answer result.moves result.looks }
-        ensures bound { IsCalm M.Kind.means → IsBounded (effect_of M.Kind.means self.old end request).image result.answer result.moves result.looks self.new }
-        ensures memory { takes_no_memory_at self.old end request ≡ true → wants_memory result.answer ≡ false }
+        ensures bound { IsCalm M.Kind.means
+            → IsBounded (begun_of M.Kind.means self.old end request) result.answer result.moves result.looks self.new }
+        ensures memory { HasItsMemory self.old end request result.answer }
         ensures still { BreaksNone M.Kind.means self.old end request result.answer }
     {
         let mut back = ArrayVec::new();
@@ -209,11 +209,11 @@ impl<M: ModuleOf> Stream<M> {
         back: &mut ArrayVec<Option<BoxedModule<M>>, MOST_MODULES>,
     ) -> StepResult<A>
         requires { back.old.items ≡ [] }
-        ensures step { Step M.Kind.means self.old end (Events.Asked request) result.answer result.moves (out_of M.Kind.means self.old end request result.answer) self.new }
+        ensures step { IsCallStep M.Kind.means self.old end request result self.new }
         ensures back { back.new.items ≡ back_of M.Kind.means self.old end request result.answer }
         ensures looks { IsLooked result.answer result.moves result.looks }
-        ensures bound { IsCalm M.Kind.means → IsBounded (effect_of M.Kind.means self.old end request).image result.answer result.moves result.looks self.new }
-        ensures memory { takes_no_memory_at self.old end request ≡ true → wants_memory result.answer ≡ false }
+        ensures bound { CallLooksAtFew M.Kind.means self.old end request result self.new }
+        ensures memory { HasItsMemory self.old end request result.answer }
         ensures still { BreaksNone M.Kind.means self.old end request result.answer }
     {
         answer(&mut self.chain, end, request, back)

@@ -1,10 +1,10 @@
 -- An end is closed (close(2); Programmer's Guide: STREAMS, "Loop-Around Driver").
-use Rattle.std.specs.Prelude.{Bool, true, false}
+use Rattle.std.specs.Prelude.{◌≡◌, Bool, true, false}
 use Rattle.strm_msg.specs.Message.{bare}
 use Rattle.strm_msg.specs.declared.kind.MsgKind.TheVariants.{MHangup}
 use Rattle.strm_msg.specs.declared.words.End.{End}
 use Rattle.strm_module.specs.Kinds.{Meaning}
-use Rattle.strm_module.specs.Driver.{partner}
+use Rattle.strm_module.specs.Driver.{has_end, partner}
 use Rattle.strm_chain_end.specs.End.{shapes_of}
 use Rattle.strm_chain_end.specs.Change.{closed}
 use Rattle.strm_chain_ends.specs.Image.{Image, end_of, with_end, count_of}
@@ -13,6 +13,14 @@ use Rattle.strm_chain.specs.Deliver.{deliver}
 use Rattle.strm_head_calls.specs.declared.answer.Reply.TheVariants as Reply
 use Rattle.strm_head_calls.specs.Effect.{Effect, effect_taking}
 use Rattle.strm_head_ioctl.specs.Names.{names_of}
+
+-- an end, if it is open, is the driver's
+abbrev pub HasItsEnd : {K : Type 0} → Image K → End → Type 0
+HasItsEnd image e = (end_of image e).is_open ≡ true → has_end image.driver e ≡ true
+
+-- the ends that are open are the driver's
+abbrev pub HasItsEnds : {K : Type 0} → Image K → Type 0
+HasItsEnds image = (e : End) → HasItsEnd image e
 
 -- the image of a closed end: the modules are gone, with the messages in their queues and in the head's list;
 -- the driver's list stays
@@ -39,6 +47,10 @@ module _ {K : Type 0} (means : Meaning K) where
   abbrev pub after_close : Bool → Image K → End → Image K
   after_close true image e = image
   after_close false image e = hung_up image (partner image.driver e)
+
+  -- the same, by the image alone
+  abbrev pub other_hung_up : Image K → End → Image K
+  other_hung_up image e = after_close image.broken image e
 
   abbrev pub close_effect : Image K → End → Effect (Image K) K
   close_effect image e =

@@ -1,11 +1,11 @@
 //! An end is closed.
-ghost use Rattle.std.specs.Prelude.{◌≡◌, true, false, map, Some, IsOk, OnOk, OnErr, IfOk, IfErr};
+ghost use Rattle.std.specs.Prelude.{◌≡◌, false, map, Some, IsOk, OnErr, IfOk, IfErr};
 ghost use Rattle.strm_msg.specs.declared.words.End.{End};
-ghost use Rattle.strm_module.specs.Driver.{has_end, partner};
+ghost use Rattle.strm_module.specs.Driver.{partner};
 ghost use Rattle.strm_chain_ends.specs.Image.{end_of};
 ghost use Rattle.strm_chain.specs.declared.fault.ChainFault.TheVariants as ChainFaults;
-ghost use Rattle.strm_chain.specs.Fault.{Breaks, Fails};
-ghost use Rattle.strm_head_ioctl.specs.Close.{hangs_up, hung_up, after_close, close_effect};
+ghost use Rattle.strm_head_ioctl.specs.Close.{hangs_up, hung_up, close_effect, other_hung_up, HasItsEnd, HasItsEnds};
+ghost use Rattle.strm_head_ioctl.specs.Outcome.{FailsIn, EndsIn, BreaksIn};
 
 use crate::names::names_of;
 use arrayvec::ArrayVec;
@@ -16,10 +16,10 @@ use strm_msg::{End, Message};
 
 /// Sends a hangup up from the driver, to the head of an end, unless that is closed.
 fn hang_up<M: ModuleOf>(chain: &mut Chain<M>, end: End) -> Result<(), ChainFault>
-    requires there { (end_of chain.old.image end).is_open ≡ true → has_end chain.old.image.driver end ≡ true }
+    requires there { HasItsEnd chain.old.image end }
     requires whole { chain.old.image.broken ≡ false }
-    ensures image { OnOk result (chain.new.image ≡ hung_up M.Kind.means chain.old.image end) }
-    ensures failed { IfErr result (λ fault. Fails fault chain.old.image (hung_up M.Kind.means chain.old.image end) chain.new.image) }
+    ensures image { EndsIn result (hung_up M.Kind.means chain.old.image end) chain.new }
+    ensures failed { FailsIn result chain.old (hung_up M.Kind.means chain.old.image end) chain.new }
     ensures nothing { (end_of chain.old.image end).is_open ≡ false → IsOk result }
 {
     if !chain.is_open(end) {
@@ -31,10 +31,10 @@ fn hang_up<M: ModuleOf>(chain: &mut Chain<M>, end: End) -> Result<(), ChainFault
 
 /// Hangs the other end of a loop up after an end was closed, on a chain that is not broken.
 fn after_close<M: ModuleOf>(chain: &mut Chain<M>, end: End) -> Result<(), ChainFault>
-    requires there { (end_of chain.old.image (partner chain.old.image.driver end)).is_open ≡ true → has_end chain.old.image.driver (partner chain.old.image.driver end) ≡ true }
-    ensures image { OnOk result (chain.new.image ≡ after_close M.Kind.means chain.old.image.broken chain.old.image end) }
+    requires there { HasItsEnd chain.old.image (partner chain.old.image.driver end) }
+    ensures image { EndsIn result (other_hung_up M.Kind.means chain.old.image end) chain.new }
     ensures fault { IfErr result (λ fault. fault ≡ ChainFaults.Broken) }
-    ensures broken { OnErr result (Breaks (after_close M.Kind.means chain.old.image.broken chain.old.image end) chain.new.image) }
+    ensures broken { BreaksIn result (other_hung_up M.Kind.means chain.old.image end) chain.new }
     ensures whole { OnErr result (chain.old.image.broken ≡ false) }
     ensures nothing { (end_of chain.old.image (partner chain.old.image.driver end)).is_open ≡ false → IsOk result }
 {
@@ -61,12 +61,12 @@ pub fn close<M: ModuleOf>(
     end: End,
     back: &mut ArrayVec<Option<BoxedModule<M>>, MOST_MODULES>,
 ) -> Result<Reply, ChainFault>
-    requires ends { (e : End) → (end_of chain.old.image e).is_open ≡ true → has_end chain.old.image.driver e ≡ true }
+    requires ends { HasItsEnds chain.old.image }
     ensures back { back.new.items ≡ map (λ s. Some s) (close_effect M.Kind.means chain.old.image end).out }
-    ensures reply { IfOk result (λ reply. reply ≡ (close_effect M.Kind.means chain.old.image end).reply) }
-    ensures image { OnOk result (chain.new.image ≡ (close_effect M.Kind.means chain.old.image end).image) }
+    ensures reply { IfOk result (λ it. it ≡ (close_effect M.Kind.means chain.old.image end).reply) }
+    ensures image { EndsIn result (close_effect M.Kind.means chain.old.image end).image chain.new }
     ensures fault { IfErr result (λ fault. fault ≡ ChainFaults.Broken) }
-    ensures broken { OnErr result (Breaks (close_effect M.Kind.means chain.old.image end).image chain.new.image) }
+    ensures broken { BreaksIn result (close_effect M.Kind.means chain.old.image end).image chain.new }
     ensures whole { OnErr result (chain.old.image.broken ≡ false) }
     ensures nothing { hangs_up chain.old.image end ≡ false → IsOk result }
 {

@@ -1,10 +1,11 @@
 //! Flushes are sent down, of all bands and of one.
-ghost use Rattle.std.specs.Prelude.{◌≡◌, true, false, None, OnOk, IfErr};
+ghost use Rattle.std.specs.Prelude.{◌≡◌, true, false, None};
 ghost use Rattle.strm_chain.specs.Deliver.{is_there};
 ghost use Rattle.strm_chain.specs.declared.spot.Spot.TheVariants as Spots;
 ghost use Rattle.strm_chain.specs.Fault.{Fails};
 ghost use Rattle.strm_head_calls.specs.Refusal.{first_that_holds};
 ghost use Rattle.strm_head_ioctl.specs.Flush.{flush_refusals, flushed_of};
+ghost use Rattle.strm_head_ioctl.specs.Outcome.{FailsIn, EndsIn};
 
 use strm_chain::{Chain, ChainFault, Spot, deliver};
 use strm_head_calls::Refusal;
@@ -38,8 +39,8 @@ pub fn flush<M: ModuleOf>(
 ) -> Result<(), ChainFault>
     requires there { is_there chain.old.image (Spots.Down end 1) ≡ true }
     requires whole { chain.old.image.broken ≡ false }
-    ensures image { OnOk result (chain.new.image ≡ flushed_of M.Kind.means chain.old.image end r w band) }
-    ensures failed { IfErr result (λ fault. Fails fault chain.old.image (flushed_of M.Kind.means chain.old.image end r w band) chain.new.image) }
+    ensures image { EndsIn result (flushed_of M.Kind.means chain.old.image end r w band) chain.new }
+    ensures failed { FailsIn result chain.old (flushed_of M.Kind.means chain.old.image end r w band) chain.new }
 {
     deliver(chain, Spot::top(end), Message::of_flush(r, w, band))
 }

@@ -1,12 +1,13 @@
 //! An ioctl of a program's own: it is sent down, and its answer comes up.
-ghost use Rattle.std.specs.Prelude.{◌≡◌, true, false, IsNone, IsSome, OnOk, IfErr};
+ghost use Rattle.std.specs.Prelude.{◌≡◌, true, false, IsNone, IsSome};
 ghost use Rattle.strm_chain.specs.Deliver.{is_there};
 ghost use Rattle.strm_chain_ends.specs.Image.{end_of};
 ghost use Rattle.strm_chain.specs.declared.spot.Spot.TheVariants as Spots;
 ghost use Rattle.strm_chain.specs.Fault.{Fails};
 ghost use Rattle.strm_head_calls.specs.Reply.{acknowledged};
 ghost use Rattle.strm_head_calls.specs.Refusal.{first_that_holds};
-ghost use Rattle.strm_head_ioctl.specs.Ioctl.{str_refusals, asked_of};
+ghost use Rattle.strm_head_ioctl.specs.Ioctl.{str_refusals, str_effect};
+ghost use Rattle.strm_head_ioctl.specs.Outcome.{FailsIn, EndsIn};
 
 use strm_chain::{Chain, ChainFault, Spot, deliver};
 use strm_head_calls::{Acknowledged, MAX_DATA, Part, Refusal};
@@ -43,8 +44,8 @@ pub fn send_ioctl<M: ModuleOf>(
     requires next { IsSome (end_of chain.old.image end).state.next }
     requires idle { IsNone (end_of chain.old.image end).state.pending }
     requires unanswered { IsNone (end_of chain.old.image end).state.kept }
-    ensures image { OnOk result (chain.new.image ≡ asked_of M.Kind.means chain.old.image end cmd dat (end_of chain.old.image end).state.next) }
-    ensures failed { IfErr result (λ fault. Fails fault chain.old.image (asked_of M.Kind.means chain.old.image end cmd dat (end_of chain.old.image end).state.next) chain.new.image) }
+    ensures image { EndsIn result (str_effect M.Kind.means chain.old.image end cmd dat).image chain.new }
+    ensures failed { FailsIn result chain.old (str_effect M.Kind.means chain.old.image end cmd dat).image chain.new }
 {
     let id = chain.begin_ioctl(end).unwrap();
     let m = Message {

@@ -1,5 +1,5 @@
 -- Calls that send a message down: putmsg, putpmsg and write (putmsg(2), write(2)).
-use Rattle.std.specs.Prelude.{ℕ, ◌==◌, ◌||◌, not, nat_lt, Bool, true, false, Option, Some, None, List, [], ◌∷◌, length, option_map, is_none, if◌then◌else◌}
+use Rattle.std.specs.Prelude.{◌≡◌, ℕ, ◌==◌, ◌||◌, not, nat_lt, Bool, true, false, Option, Some, None, List, [], ◌∷◌, length, option_map, is_none, if◌then◌else◌, Result, OnOk, IfErr}
 use Rattle.strm_msg.specs.Kind.{is_high}
 use Rattle.strm_msg.specs.Message.{Msg, Part, part_len, data_msg, proto_msg, pcproto_msg}
 use Rattle.strm_msg.specs.declared.words.End.{End}
@@ -8,6 +8,10 @@ use Rattle.strm_chain_end.specs.Canput.{below, full_in}
 use Rattle.strm_chain.specs.declared.spot.Spot.TheVariants.{Down}
 use Rattle.strm_chain_ends.specs.Image.{Image, end_of}
 use Rattle.strm_chain.specs.Deliver.{deliver}
+use Rattle.strm_chain.specs.Enabled.{ChainValue}
+use Rattle.strm_chain.specs.Fault.{Fails}
+use Rattle.strm_chain.specs.declared.fault.ChainFault.{ChainFault}
+use Rattle.strm_head_calls.specs.declared.parts.Parts.{Parts}
 use Rattle.strm_head_calls.specs.declared.request.TheConstants.{MAX_CONTROL, MAX_DATA}
 use Rattle.strm_head_calls.specs.declared.request.Priority.{Priority}
 use Rattle.strm_head_calls.specs.declared.request.Priority.TheVariants.{Norm, Hipri}
@@ -37,6 +41,13 @@ abbrev pub putpmsg_message : Part → Part → ℕ → PutFlag → Option Msg
 putpmsg_message ctl dat band PutFlag.Zero = None
 putpmsg_message ctl dat band PutFlag.Band = ordinary_message band ctl dat
 putpmsg_message ctl dat band PutFlag.Hipri = high_message ctl dat
+
+-- the same, by the parts together
+abbrev pub putmsg_sent : Parts → Priority → Option Msg
+putmsg_sent parts flag = putmsg_message parts.ctl parts.dat flag
+
+abbrev pub putpmsg_sent : Parts → ℕ → PutFlag → Option Msg
+putpmsg_sent parts band flag = putpmsg_message parts.ctl parts.dat band flag
 
 -- whether a part is longer than a call may send, in bytes
 abbrev pub is_too_long : Part → Part → Bool
@@ -89,6 +100,14 @@ module _ {K : Type 0} (means : Meaning K) where
   abbrev pub sent_of : Image K → End → Option Msg → Image K
   sent_of image e None = image
   sent_of image e (Some m) = deliver means image (Down e 1) m
+
+  -- a message was sent, unless memory ran out
+  abbrev pub IsSent : {X : Type 0} → ChainValue K → End → Option Msg → Result X ChainFault → ChainValue K → Type 0
+  IsSent old e m result new = OnOk result (new.image ≡ sent_of old.image e m)
+
+  -- memory ran out, before the message was sent or on its way
+  abbrev pub NotSent : {X : Type 0} → ChainValue K → End → Option Msg → Result X ChainFault → ChainValue K → Type 0
+  NotSent old e m result new = IfErr result (λ fault. Fails fault old.image (sent_of old.image e m) new.image)
 
   abbrev pub putmsg_effect : Image K → End → Part → Part → Priority → Effect (Image K) K
   putmsg_effect image e ctl dat flag = effect (sent_of image e (putmsg_message ctl dat flag)) Reply.Putmsg

@@ -1,6 +1,6 @@
 -- Calls that take the first message at the head, or look at it: getmsg, getpmsg and peek (getmsg(2);
 -- streamio(7), I_PEEK).
-use Rattle.std.specs.Prelude.{ℕ, ◌||◌, nat_le, Bool, true, false, Option, Some, None, is_none, List, [], ◌∷◌, if◌then◌else◌}
+use Rattle.std.specs.Prelude.{ℕ, ◌||◌, nat_le, Bool, true, false, Option, Some, None, is_none, List, [], ◌∷◌, if◌then◌else◌, drop}
 use Rattle.strm_msg.specs.Kind.{is_high}
 use Rattle.strm_msg.specs.Message.{Msg}
 use Rattle.strm_msg.specs.declared.words.End.{End}
@@ -49,6 +49,10 @@ getpmsg_refusals image e band flag =
 abbrev pub taken_from : List Msg → Most → Most → List Msg
 taken_from [] maxctl maxdat = []
 taken_from (m ∷ q) maxctl maxdat = put_back_if q (cut_of m maxctl maxdat).rest
+
+-- the first message of a head is gone, and this rest of it is put back
+abbrev pub with_first_cut : {K : Type 0} → Image K → End → Option Msg → Image K
+with_first_cut image e rest = with_head image e (put_back_if (drop 1 (end_of image e).head) rest)
 
 abbrev pub priority_of : Msg → Priority
 priority_of m = if is_high m.kind then Hipri else Norm

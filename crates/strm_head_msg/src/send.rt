@@ -1,11 +1,12 @@
 //! Putmsg, putpmsg and write: a message is made and sent down.
-ghost use Rattle.std.specs.Prelude.{◌≡◌, true, false, IfOk, OnOk, IfErr, IsOk, IsNone, nat_lt};
-ghost use Rattle.strm_msg.specs.Message.{part_len};
+ghost use Rattle.std.specs.Prelude.{◌≡◌, true, false, IfOk, IsOk, IsNone, nat_lt, Some, length};
+ghost use Rattle.strm_msg.specs.Message.{part_len, data_msg};
 ghost use Rattle.strm_chain.specs.Deliver.{is_there};
 ghost use Rattle.strm_chain.specs.declared.spot.Spot.TheVariants as Spots;
 ghost use Rattle.strm_chain.specs.Fault.{Fails};
+ghost use Rattle.strm_head_calls.specs.declared.answer.Reply.TheVariants as Replies;
 ghost use Rattle.strm_head_calls.specs.Refusal.{first_that_holds};
-ghost use Rattle.strm_head_msg.specs.Send.{putmsg_refusals, putpmsg_refusals, write_refusals, putmsg_effect, putpmsg_effect, write_effect, putmsg_message, putpmsg_message, ordinary_message, high_message, ordinary_band, waiting_refusals, sending_refusals, sent_of};
+ghost use Rattle.strm_head_msg.specs.Send.{putmsg_refusals, putpmsg_refusals, write_refusals, ordinary_message, high_message, ordinary_band, waiting_refusals, sending_refusals, IsSent, NotSent, putmsg_sent, putpmsg_sent};
 
 use strm_chain::{Chain, ChainFault, Spot, deliver};
 use strm_head_calls::{MAX_CONTROL, MAX_DATA, Parts, Priority, PutFlag, Refusal, Reply};
@@ -99,8 +100,8 @@ fn high_message(parts: Parts) -> Option<Message>
 fn send<M: ModuleOf>(chain: &mut Chain<M>, end: End, m: Option<Message>) -> Result<(), ChainFault>
     requires there { is_there chain.old.image (Spots.Down end 1) ≡ true }
     requires whole { chain.old.image.broken ≡ false }
-    ensures image { OnOk result (chain.new.image ≡ sent_of M.Kind.means chain.old.image end m) }
-    ensures refused { IfErr result (λ fault. Fails fault chain.old.image (sent_of M.Kind.means chain.old.image end m) chain.new.image) }
+    ensures image { IsSent M.Kind.means chain.old end m result chain.new }
+    ensures refused { NotSent M.Kind.means chain.old end m result chain.new }
     ensures nothing { IsNone m → IsOk result }
 {
     match m {
@@ -141,10 +142,10 @@ pub fn putmsg<M: ModuleOf>(
 ) -> Result<Reply, ChainFault>
     requires there { is_there chain.old.image (Spots.Down end 1) ≡ true }
     requires whole { chain.old.image.broken ≡ false }
-    ensures reply { IfOk result (λ reply. reply ≡ (putmsg_effect M.Kind.means chain.old.image end parts.ctl parts.dat flag).reply) }
-    ensures image { OnOk result (chain.new.image ≡ (putmsg_effect M.Kind.means chain.old.image end parts.ctl parts.dat flag).image) }
-    ensures refused { IfErr result (λ fault. Fails fault chain.old.image (putmsg_effect M.Kind.means chain.old.image end parts.ctl parts.dat flag).image chain.new.image) }
-    ensures nothing { IsNone (putmsg_message parts.ctl parts.dat flag) → IsOk result }
+    ensures reply { IfOk result (λ reply. reply ≡ Replies.Putmsg) }
+    ensures image { IsSent M.Kind.means chain.old end (putmsg_sent parts flag) result chain.new }
+    ensures refused { NotSent M.Kind.means chain.old end (putmsg_sent parts flag) result chain.new }
+    ensures nothing { IsNone (putmsg_sent parts flag) → IsOk result }
 {
     let m = match flag {
         Priority::Norm => ordinary_message(0, parts),
@@ -189,10 +190,10 @@ pub fn putpmsg<M: ModuleOf>(
 ) -> Result<Reply, ChainFault>
     requires there { is_there chain.old.image (Spots.Down end 1) ≡ true }
     requires whole { chain.old.image.broken ≡ false }
-    ensures reply { IfOk result (λ reply. reply ≡ (putpmsg_effect M.Kind.means chain.old.image end parts.ctl parts.dat band flag).reply) }
-    ensures image { OnOk result (chain.new.image ≡ (putpmsg_effect M.Kind.means chain.old.image end parts.ctl parts.dat band flag).image) }
-    ensures refused { IfErr result (λ fault. Fails fault chain.old.image (putpmsg_effect M.Kind.means chain.old.image end parts.ctl parts.dat band flag).image chain.new.image) }
-    ensures nothing { IsNone (putpmsg_message parts.ctl parts.dat band flag) → IsOk result }
+    ensures reply { IfOk result (λ reply. reply ≡ Replies.Putpmsg) }
+    ensures image { IsSent M.Kind.means chain.old end (putpmsg_sent parts band flag) result chain.new }
+    ensures refused { NotSent M.Kind.means chain.old end (putpmsg_sent parts band flag) result chain.new }
+    ensures nothing { IsNone (putpmsg_sent parts band flag) → IsOk result }
 {
     let m = match flag {
         PutFlag::Zero => None,
@@ -221,9 +222,9 @@ pub fn write_refusal<M: ModuleOf>(chain: &Chain<M>, end: End, dat: &Bytes) -> Op
 pub fn write<M: ModuleOf>(chain: &mut Chain<M>, end: End, dat: Bytes) -> Result<Reply, ChainFault>
     requires there { is_there chain.old.image (Spots.Down end 1) ≡ true }
     requires whole { chain.old.image.broken ≡ false }
-    ensures reply { IfOk result (λ reply. reply ≡ (write_effect M.Kind.means chain.old.image end dat).reply) }
-    ensures image { OnOk result (chain.new.image ≡ (write_effect M.Kind.means chain.old.image end dat).image) }
-    ensures refused { IfErr result (λ fault. Fails fault chain.old.image (write_effect M.Kind.means chain.old.image end dat).image chain.new.image) }
+    ensures reply { IfOk result (λ reply. reply ≡ Replies.Write (length dat)) }
+    ensures image { IsSent M.Kind.means chain.old end (Some (data_msg 0 dat)) result chain.new }
+    ensures refused { NotSent M.Kind.means chain.old end (Some (data_msg 0 dat)) result chain.new }
 {
     let len = dat.len() as u64;
     send(

@@ -1,14 +1,13 @@
 //! Getmsg, getpmsg and peek: the first message at the head is taken in part or whole, or looked at.
 ghost use Rattle.std.specs.Prelude.{◌≡◌, ◌<◌, true, [], OnOk, OnErr, IfOk, IsOk, Some, drop};
-ghost use Rattle.strm_chain_ends.specs.Image.{end_of, with_head};
+ghost use Rattle.strm_chain_ends.specs.Image.{end_of};
 ghost use Rattle.strm_head_calls.specs.declared.answer.Reply.TheVariants as Replies;
 ghost use Rattle.strm_head_calls.specs.declared.answer.Received.TheVariants as Receivers;
 ghost use Rattle.strm_head_calls.specs.declared.answer.More.TheVariants as Mores;
 ghost use Rattle.strm_head_calls.specs.declared.request.Priority.TheVariants as Priorities;
 ghost use Rattle.strm_head_calls.specs.Refusal.{first_that_holds};
 ghost use Rattle.strm_head_calls.specs.Cut.{cut_of};
-ghost use Rattle.strm_chain_end.specs.First.{put_back_if};
-ghost use Rattle.strm_head_msg.specs.Take.{shows_nothing, matches_getmsg, matches_getpmsg, getmsg_refusals, getpmsg_refusals, priority_of, getmsg_reply, getpmsg_reply, getmsg_effect, getpmsg_effect, peek_effect};
+ghost use Rattle.strm_head_msg.specs.Take.{shows_nothing, matches_getmsg, matches_getpmsg, getmsg_refusals, getpmsg_refusals, priority_of, getmsg_reply, getpmsg_reply, getmsg_effect, getpmsg_effect, peek_effect, with_first_cut};
 
 use std::alloc::Global;
 use strm_chain::Chain;
@@ -148,7 +147,7 @@ fn replace_first<M: ModuleOf>(
     end: End,
     rest: Option<Message>,
 ) -> Result<(), NoMem>
-    ensures ok { OnOk result (chain.new.image ≡ with_head chain.old.image end (put_back_if (drop 1 (end_of chain.old.image end).head) rest)) }
+    ensures ok { OnOk result (chain.new.image ≡ with_first_cut chain.old.image end rest) }
     ensures err { OnErr result (chain.new.image ≡ chain.old.image) }
 {
     let Some(rest) = rest else {
@@ -172,7 +171,7 @@ fn take_first<M: ModuleOf, A: ReplyForm>(
     taken: Taken<A>,
 ) -> Result<A, NoMem>
     ensures reply { IfOk result (λ reply. reply ≡ taken.reply) }
-    ensures image { OnOk result (chain.new.image ≡ with_head chain.old.image end (put_back_if (drop 1 (end_of chain.old.image end).head) taken.rest)) }
+    ensures image { OnOk result (chain.new.image ≡ with_first_cut chain.old.image end taken.rest) }
     ensures err { OnErr result (chain.new.image ≡ chain.old.image) }
 {
     let Taken { reply, rest } = taken;
@@ -236,7 +235,7 @@ pub fn getmsg<M: ModuleOf, A: ReplyForm>(
     maxctl: Option<u16>,
     maxdat: Option<u16>,
 ) -> Result<A, NoMem>
-    ensures reply { IfOk result (λ reply. A.says reply ≡ (getmsg_effect chain.old.image end maxctl maxdat).reply) }
+    ensures reply { IfOk result (λ it. A.says it ≡ (getmsg_effect chain.old.image end maxctl maxdat).reply) }
     ensures image { OnOk result (chain.new.image ≡ (getmsg_effect chain.old.image end maxctl maxdat).image) }
     ensures err { OnErr result (chain.new.image ≡ chain.old.image) }
     ensures empty { (end_of chain.old.image end).head ≡ [] → IsOk result }
@@ -259,7 +258,7 @@ pub fn getpmsg<M: ModuleOf, A: ReplyForm>(
     maxctl: Option<u16>,
     maxdat: Option<u16>,
 ) -> Result<A, NoMem>
-    ensures reply { IfOk result (λ reply. A.says reply ≡ (getpmsg_effect chain.old.image end maxctl maxdat).reply) }
+    ensures reply { IfOk result (λ it. A.says it ≡ (getpmsg_effect chain.old.image end maxctl maxdat).reply) }
     ensures image { OnOk result (chain.new.image ≡ (getpmsg_effect chain.old.image end maxctl maxdat).image) }
     ensures err { OnErr result (chain.new.image ≡ chain.old.image) }
     ensures empty { (end_of chain.old.image end).head ≡ [] → IsOk result }
@@ -283,7 +282,7 @@ pub fn peek<M: ModuleOf>(
     maxdat: Option<u16>,
     flag: Wanted,
 ) -> Result<Reply, NoMem>
-    ensures reply { IfOk result (λ reply. reply ≡ (peek_effect chain.now.image end maxctl maxdat flag).reply) }
+    ensures reply { IfOk result (λ it. it ≡ (peek_effect chain.now.image end maxctl maxdat flag).reply) }
     ensures unseen { shows_nothing chain.now.image end maxctl maxdat flag ≡ true → IsOk result }
 {
     let found = match chain.head(end).first() {

@@ -19,6 +19,8 @@ use Rattle.strm_head_calls.specs.declared.answer.Reply.TheVariants as Replies
 use Rattle.strm_chain_end.specs.First.{put_back_if}
 use Rattle.strm_head_read.specs.Read.{read_effect, bytes_of_first, IsAlone, Reading, bytes_in, bytes_read, bytes_of_all, goes_on_to, reached, whole_in, rest_of, cut_first, read_of}
 
+-- ---- bytes of one message
+
 -- the front of two lists one after the other
 take_of_two : {X : Type 0} (n : ℕ) (xs ys : List X) → take n (xs ++ ys) ≡ take n xs ++ take (n - length xs) ys
 take_of_two zero xs ys = let e : zero - length xs ≡ 0 = omega arith in rw e refl
@@ -34,6 +36,8 @@ length_of_part (Some bytes) = refl
 pub both_added : (n left : ℕ) (ctl : Part) (dat out mid new : List ℕ) → left ≡ n - part_len ctl → mid ≡ out ++ take n (bytes_in ctl) → new ≡ mid ++ take left dat → new ≡ out ++ take n (bytes_in ctl ++ dat)
 both_added n left ctl dat out mid new l m e =
     rw (take_of_two n (bytes_in ctl) dat, length_of_part ctl, ← l, ← append_assoc out (take n (bytes_in ctl)) (take left dat), ← m) e
+
+-- ---- the messages that a read may reach
 
 -- an element, if it passes a test
 abbrev pub if_passing : {X : Type 0} → (X → Bool) → Option X → Option X
@@ -76,6 +80,8 @@ reached_within Rnorm prot (m ∷ q) =
     ]
 reached_within Rmsgn prot (m ∷ q) = omega arith
 reached_within Rmsgd prot (m ∷ q) = omega arith
+
+-- ---- messages that are given whole
 
 module _ (prot : Prot) (n : ℕ) (reach : List Msg) (i : ℕ) (m : Msg) (at : slice_get reach i ≡ Some m) where
   first_left : drop i reach ≡ m ∷ drop (i + 1) reach
@@ -131,6 +137,8 @@ pub given_all : (prot : Prot) (n : ℕ) (reach : List Msg) (i : ℕ) (bytes : Li
 given_all prot n reach i bytes was none =
     let end : whole_in prot (n - length bytes) (drop i reach) ≡ 0 = rw (nothing_left reach i none) refl in
     omega (arith, was.count, end)
+
+-- ---- the next message, of which some bytes are given
 
 -- the bytes of a message, if there is one
 abbrev bytes_at : Prot → Option Msg → List ℕ
@@ -188,6 +196,8 @@ module _ (mode : ReadMode) (prot : Prot) (n : ℕ) (q : List Msg) (count : ℕ) 
   pub full_bytes : n - length bytes ≡ 0 → bytes ≡ (read_of mode prot n q).bytes
   full_bytes full = sym (read_bytes ∙ rw full (append-nil bytes))
 
+-- ---- messages that are taken from the head
+
 -- one more message is taken from the list of one end
 pub head_drops : {K : Type 0} (image now new : Image K) (e : End) (i : ℕ) → now ≡ with_head image e (drop i (end_of image e).head) → new ≡ with_head now e (drop 1 (end_of now e).head) → new ≡ with_head image e (drop (i + 1) (end_of image e).head)
 head_drops image now new A i was e = e ∙ rw was (ap (with_head image A) (drop-drop 1 i image.a.head))
@@ -196,6 +206,8 @@ head_drops image now new B i was e = e ∙ rw was (ap (with_head image B) (drop-
 pub no_part : (part : Part) → false ≡ is_some part → part ≡ None
 no_part None none = refl
 no_part (Some bytes) none = cc
+
+-- ---- the only message, which has data alone
 
 -- a message that is the only one, and has data alone
 pub is_alone : (n : ℕ) (q : List Msg) (m : Msg) → length q ≡ 1 → Some m ≡ slice_get q 0 → m.ctl ≡ None → is_some m.dat ≡ true → part_len m.dat ≤ n → IsAlone n q
@@ -259,6 +271,8 @@ alone_image image new e (suc n) messages some is alone made =
 -- it has data
 pub alone_data : (n : ℕ) (messages : List Msg) → IsAlone n messages → is_some (bytes_of_first messages) ≡ true
 alone_data n messages alone = rw alone.only alone.given
+
+-- ---- any read
 
 -- the reply of a read of some bytes
 pub read_reply : {K : Type 0} (image : Image K) (e : End) (n : ℕ) (bytes : List ℕ) (messages : List Msg) → (n ≡ 0 → ⊥) → messages ≡ (end_of image e).head → bytes ≡ (read_of (end_of image e).state.mode (end_of image e).state.prot n messages).bytes → Replies.Read bytes ≡ (read_effect image e n).reply

@@ -1,6 +1,6 @@
 -- The bytes that a read gives of the messages at the head, and the messages that stay (read(2); streamio(7),
 -- I_SRDOPT).
-use Rattle.std.specs.Prelude.{◌≡◌, ◌≤◌, ℕ, ◌-◌, ◌&&◌, not, nat_le, nat_lt, Bool, true, false, Option, Some, None, List, [], ◌∷◌, ◌++◌, length, take, drop, take_while, flat_map, slice_get, suc, zero, if◌then◌else◌, is_some}
+use Rattle.std.specs.Prelude.{◌≡◌, ◌≤◌, ℕ, ◌-◌, ◌&&◌, not, nat_le, nat_lt, Bool, true, false, Option, Some, None, List, [], ◌∷◌, ◌++◌, length, take, drop, take_while, flat_map, slice_get, suc, zero, if◌then◌else◌, is_some, Result, IfOk, IfSome}
 use Rattle.strm_msg.specs.Message.{Msg, Part, part_len}
 use Rattle.strm_msg.specs.declared.words.End.{End}
 use Rattle.strm_msg.specs.declared.words.Prot.{Prot}
@@ -9,7 +9,8 @@ use Rattle.strm_msg.specs.declared.words.ReadMode.TheVariants.{Rnorm, Rmsgn, Rms
 use Rattle.strm_chain_ends.specs.Image.{Image, end_of, with_head}
 use Rattle.strm_head_calls.specs.declared.refusal.Refusal.{Refusal}
 use Rattle.strm_head_calls.specs.declared.refusal.Refusal.TheVariants.{BadMessage, WouldWait}
-use Rattle.strm_head_calls.specs.declared.answer.Reply.TheVariants as Reply
+use Rattle.strm_head_calls.specs.declared.answer.Reply.{Reply}
+use Rattle.strm_head_calls.specs.declared.answer.Reply.TheVariants as Replies
 use Rattle.strm_head_calls.specs.Effect.{Effect, effect}
 use Rattle.strm_head_calls.specs.Cut.{cut_of}
 use Rattle.strm_chain_end.specs.First.{first_message, lacks_message, put_back_if}
@@ -46,6 +47,10 @@ reached Rmsgd prot (m ∷ q) = m ∷ []
 abbrev pub bytes_of_all : Prot → List Msg → List ℕ
 bytes_of_all prot q = flat_map (bytes_read prot) q
 
+-- the bytes of the first n messages that one read may reach
+abbrev pub bytes_reached : ReadMode → Prot → ℕ → List Msg → List ℕ
+bytes_reached mode prot n q = bytes_of_all prot (take n (reached mode prot q))
+
 -- the number of these messages that a read of at most n bytes gives whole
 abbrev pub whole_in : Prot → ℕ → List Msg → ℕ
 whole_in prot n [] = 0
@@ -60,6 +65,14 @@ rest_of mode Prot.Norm n m = (cut_of m None (Some n)).rest
 rest_of mode Prot.Dat n m = (cut_of m (Some n) (Some (n - length (bytes_in m.ctl)))).rest
 rest_of mode Prot.Dis n m = (cut_of m (Some (length (bytes_in m.ctl))) (Some n)).rest
 
+-- the first n messages of a head are gone
+abbrev pub without_first : {K : Type 0} → Image K → End → ℕ → Image K
+without_first image e n = with_head image e (drop n (end_of image e).head)
+
+-- and this rest of the last of them is put back
+abbrev pub with_rest : {K : Type 0} → Image K → End → ℕ → Option Msg → Image K
+with_rest image e n rest = with_head image e (put_back_if (drop n (end_of image e).head) rest)
+
 -- the rest of a list whose first message, where the read reaches it, has more bytes than are still to be read
 abbrev pub cut_first : ReadMode → Prot → ℕ → Option Msg → List Msg → List Msg
 cut_first mode prot n None q = q
@@ -70,6 +83,10 @@ cut_first mode prot (suc n) (Some m) q = put_back_if (drop 1 q) (rest_of mode pr
 abbrev pub bytes_of_first : List Msg → Option (List ℕ)
 bytes_of_first [] = None
 bytes_of_first (m ∷ q) = m.dat
+
+-- what was made says the bytes of the first message's data (no public clause cites it)
+abbrev pub SaysData : {A X : Type 0} → (A → Reply) → Result A X → List Msg → Type 0
+SaysData says result q = IfOk result (λ made. IfSome (bytes_of_first q) (λ bytes. says made ≡ Replies.Read bytes))
 
 -- one message waits, which has data alone, n bytes or fewer (no public clause cites it)
 pub record IsAlone (n : ℕ) (q : List Msg) : Type 0 where
@@ -96,6 +113,11 @@ read_of mode prot n q =
       stays = cut_first mode prot left (slice_get reach whole) (drop whole q);
     }
 
+-- where the first messages are gone, and this rest is put back, those stay that a read leaves (no public
+-- clause cites it)
+abbrev pub LeavesAsRead : ReadMode → Prot → ℕ → List Msg → ℕ → Option Msg → Type 0
+LeavesAsRead mode prot n q gone rest = put_back_if (drop gone q) rest ≡ (read_of mode prot n q).stays
+
 -- whether the first message is one that the mode does not read
 abbrev pub is_bad_message : Prot → List Msg → Bool
 is_bad_message prot [] = false
@@ -109,8 +131,8 @@ read_refusals image e (suc n) =
     (is_bad_message end.state.prot end.head, BadMessage) ∷ (lacks_message end (first_message end.head) (λ m. true), WouldWait) ∷ []
 
 abbrev pub read_effect : {K : Type 0} → Image K → End → ℕ → Effect (Image K) K
-read_effect image e zero = effect image (Reply.Read [])
+read_effect image e zero = effect image (Replies.Read [])
 read_effect image e (suc n) =
     let end = end_of image e in
     let reading = read_of end.state.mode end.state.prot (suc n) end.head in
-    effect (with_head image e reading.stays) (Reply.Read reading.bytes)
+    effect (with_head image e reading.stays) (Replies.Read reading.bytes)

@@ -1,11 +1,10 @@
 //! Read: takes the bytes of the messages at the head, and puts back the rest of them.
-ghost use Rattle.std.specs.Prelude.{◌≡◌, ◌↔◌, true, Some, [], IsOk, is_some, ◌≤◌, ◌++◌, OnOk, OnErr, IfOk, IfSome, length, take, drop, slice_get, option_copied};
+ghost use Rattle.std.specs.Prelude.{◌≡◌, ◌↔◌, true, Some, [], IsOk, is_some, ◌≤◌, ◌++◌, OnOk, OnErr, IfOk, length, take, drop, slice_get, option_copied};
 ghost use Rattle.strm_msg.specs.Message.{part_len};
-ghost use Rattle.strm_chain_ends.specs.Image.{end_of, with_head, KeepsHeadRoom};
+ghost use Rattle.strm_chain_ends.specs.Image.{end_of, KeepsHeadRoom};
 ghost use Rattle.strm_head_calls.specs.declared.answer.Reply.TheVariants as Replies;
 ghost use Rattle.strm_head_calls.specs.Refusal.{first_that_holds};
-ghost use Rattle.strm_chain_end.specs.First.{put_back_if};
-ghost use Rattle.strm_head_read.specs.Read.{bytes_of_first, IsAlone, bytes_in, bytes_read, bytes_of_all, is_unread, goes_on_to, reached, whole_in, rest_of, read_of, read_refusals, read_effect};
+ghost use Rattle.strm_head_read.specs.Read.{bytes_of_first, IsAlone, bytes_in, bytes_read, is_unread, goes_on_to, reached, whole_in, rest_of, read_of, read_refusals, read_effect, without_first, with_rest, bytes_reached, SaysData, LeavesAsRead};
 
 use std::alloc::Global;
 use strm_chain::Chain;
@@ -118,7 +117,7 @@ fn whole_of(
     max: u16,
 ) -> Result<WholeMessages, NoMem>
     ensures count { IfOk result (λ whole. whole.count ≡ whole_in prot max (reached mode prot queue.now.messages)) }
-    ensures bytes { IfOk result (λ whole. whole.bytes.items ≡ bytes_of_all prot (take whole.count (reached mode prot queue.now.messages))) }
+    ensures bytes { IfOk result (λ whole. whole.bytes.items ≡ bytes_reached mode prot whole.count queue.now.messages) }
     ensures within { IfOk result (λ whole. whole.count ≤ length (reached mode prot queue.now.messages)) }
     ensures most { IfOk result (λ whole. length whole.bytes.items ≤ max) }
     ensures few { IfOk result (λ whole. length queue.now.messages ≤ usize.MAX) }
@@ -181,7 +180,7 @@ fn found_in(
     max: u16,
 ) -> Result<ReadResult, NoMem>
     ensures bytes { IfOk result (λ found. found.bytes.items ≡ (read_of mode prot max queue.now.messages).bytes) }
-    ensures stays { IfOk result (λ found. put_back_if (drop found.gone queue.now.messages) found.rest ≡ (read_of mode prot max queue.now.messages).stays) }
+    ensures stays { IfOk result (λ found. LeavesAsRead mode prot max queue.now.messages found.gone found.rest) }
 {
     let WholeMessages { mut bytes, count } = whole_of(alloc, queue, mode, prot, max)?;
     let left = max - bytes.len() as u16;
@@ -205,7 +204,7 @@ fn found_in(
 
 /// Takes the first `count` messages of a head away.
 fn take_away<M: ModuleOf>(chain: &mut Chain<M>, end: End, count: usize)
-    ensures image { chain.new.image ≡ with_head chain.old.image end (drop count (end_of chain.old.image end).head) }
+    ensures image { chain.new.image ≡ without_first chain.old.image end count }
     ensures room { KeepsHeadRoom chain.old.rooms chain.new.rooms }
 {
     for _i in 0..count {
@@ -220,7 +219,7 @@ fn replace_front<M: ModuleOf>(
     gone: usize,
     rest: Option<Message>,
 ) -> Result<(), NoMem>
-    ensures ok { OnOk result (chain.new.image ≡ with_head chain.old.image end (put_back_if (drop gone (end_of chain.old.image end).head) rest)) }
+    ensures ok { OnOk result (chain.new.image ≡ with_rest chain.old.image end gone rest) }
     ensures err { OnErr result (chain.new.image ≡ chain.old.image) }
 {
     let Some(rest) = rest else {
@@ -282,7 +281,7 @@ fn is_data_of_first(queue: &BandQueue, bytes: &[u8]) -> bool
 fn take_data<M: ModuleOf>(chain: &mut Chain<M>, end: End) -> Bytes
     requires { is_some (bytes_of_first (end_of chain.old.image end).head) ≡ true }
     ensures data { bytes_of_first (end_of chain.old.image end).head ≡ Some result }
-    ensures image { chain.new.image ≡ with_head chain.old.image end (drop 1 (end_of chain.old.image end).head) }
+    ensures image { chain.new.image ≡ without_first chain.old.image end 1 }
 {
     let dat = match chain.take_head(end) {
         Some(m) => m.into_message().dat,
@@ -299,7 +298,7 @@ fn take_data<M: ModuleOf>(chain: &mut Chain<M>, end: End) -> Bytes
 fn move_first<M: ModuleOf, A: ReplyForm>(chain: &mut Chain<M>, end: End, bytes: Vec<u8>) -> A
     requires { bytes_of_first (end_of chain.old.image end).head ≡ Some bytes.items }
     ensures reply { A.says result ≡ Replies.Read bytes.items }
-    ensures image { chain.new.image ≡ with_head chain.old.image end (drop 1 (end_of chain.old.image end).head) }
+    ensures image { chain.new.image ≡ without_first chain.old.image end 1 }
 {
     let dat = take_data(chain, end);
     A::new(Reply::Read { dat }, reply_of(bytes))
@@ -326,8 +325,8 @@ fn is_single_data(queue: &BandQueue, max: u16) -> bool
 fn move_single<M: ModuleOf, A: ReplyForm>(chain: &mut Chain<M>, end: End) -> Result<A, NoMem>
     requires alone { A.is_alone ≡ true }
     requires data { is_some (bytes_of_first (end_of chain.old.image end).head) ≡ true }
-    ensures reply { IfOk result (λ reply. IfSome (bytes_of_first (end_of chain.old.image end).head) (λ bytes. A.says reply ≡ Replies.Read bytes)) }
-    ensures image { chain.new.image ≡ with_head chain.old.image end (drop 1 (end_of chain.old.image end).head) }
+    ensures reply { SaysData A.says result (end_of chain.old.image end).head }
+    ensures image { chain.new.image ≡ without_first chain.old.image end 1 }
     ensures ok { IsOk result }
 {
     let dat = take_data(chain, end);
@@ -341,7 +340,7 @@ fn copy_out<M: ModuleOf, A: ReplyForm>(
     found: ReadResult,
 ) -> Result<A, NoMem>
     ensures reply { IfOk result (λ reply. A.says reply ≡ Replies.Read found.bytes.items) }
-    ensures image { OnOk result (chain.new.image ≡ with_head chain.old.image end (put_back_if (drop found.gone (end_of chain.old.image end).head) found.rest)) }
+    ensures image { OnOk result (chain.new.image ≡ with_rest chain.old.image end found.gone found.rest) }
     ensures err { OnErr result (chain.new.image ≡ chain.old.image) }
 {
     let ReadResult { bytes, gone, rest } = found;
@@ -365,7 +364,7 @@ fn copy_out<M: ModuleOf, A: ReplyForm>(
 /// Fails only when memory runs out, which is not met where there is nothing to read. Then nothing is
 /// changed.
 pub fn read<M: ModuleOf, A: ReplyForm>(chain: &mut Chain<M>, end: End, max: u16) -> Result<A, NoMem>
-    ensures reply { IfOk result (λ reply. A.says reply ≡ (read_effect chain.old.image end max).reply) }
+    ensures reply { IfOk result (λ it. A.says it ≡ (read_effect chain.old.image end max).reply) }
     ensures image { OnOk result (chain.new.image ≡ (read_effect chain.old.image end max).image) }
     ensures err { OnErr result (chain.new.image ≡ chain.old.image) }
     ensures nothing { max ≡ 0 → IsOk result }

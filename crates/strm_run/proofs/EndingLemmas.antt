@@ -35,6 +35,8 @@ use Rattle.strm_run.specs.Inside.Table.{IsTransposed}
 use Rattle.strm_run.specs.Inside.Ending.{seats_of, streams_of, AreLinesFed, AreOf, AreParted, AreSeatsPlayed, FinishedStreamValue, HavePlayed, HoldsAccount, HoldsAccounts, IsFinishedStream, IsLate, IsOffered, IsStream, Leaves}
 use Rattle.strm_run.proofs.TableLemmas.{first, row_there}
 
+-- ---- one stream: its calls and its feed
+
 -- past the last caller there is no script
 script_past : {P : Type 0} (scripts : List (List (ScriptCall P))) (caller : ℕ) → length scripts ≤ caller → script_of scripts caller ≡ []
 script_past [] caller past = refl
@@ -115,6 +117,8 @@ log_left means run shared seats receipts feed overrun (Ok done) (Err fault) stre
 log_left means run shared seats receipts feed overrun (Err fault) (Ok log) stream played unfed offered leaves legal accounts counts first came fed are = absurd leaves
 log_left means run shared seats receipts feed overrun (Err fault) (Err other) stream played unfed offered leaves legal accounts counts first came fed are = tt
 
+-- ---- its accounts
+
 -- the seats of accounts of callers that have played
 pub seats_have_played : {K : Type 0} (run : RunValue K) (number : ℕ) (accounts : List (AccountValue K)) (seats : List SeatValue) → seats ≡ seats_of accounts → HavePlayed run number accounts → All (HasPlayed run number) seats
 seats_have_played {K} run number accounts seats are played =
@@ -142,6 +146,8 @@ parted_more {K} run accounts receipts longer account mine its has was =
           k (subst (λ n. k < n) long below));
     }
 
+-- ---- its receipts
+
 -- where receipts are held, so are the entries of the accounts whose they are
 holds_account : {K : Type 0} (run : RunValue K) (history : List (Entry K)) (account : AccountValue K) (mine : Receipts K) → AreOf run account mine → AreHeld history mine → HoldsAccount history account
 holds_account {K} run history account mine of held =
@@ -162,6 +168,8 @@ log_holds {K} run accounts mine receipts overrun (Ok done) (Ok log) same parted 
 log_holds run accounts mine receipts overrun (Ok done) (Err fault) same parted leaves = tt
 log_holds run accounts mine receipts overrun (Err fault) (Ok log) same parted leaves = absurd leaves
 log_holds run accounts mine receipts overrun (Err fault) (Err other) same parted leaves = tt
+
+-- ---- the streams one after another
 
 -- the streams of a run, and the accounts of those that were not taken
 pub record AreLeft {K : Type 0} (run : RunValue K) (streams : List SharedValue) (at : ℕ) (accounts : List (Vec (AccountValue K) Global)) : Type 0 where
@@ -211,6 +219,8 @@ module _ {K : Type 0} (run : RunValue K) (streams so_far later : List SharedValu
       many = length-set accounts at none ∙ was.many;
       played = λ k d above below. subst (λ (v : Vec (AccountValue K) Global). HavePlayed run k v.items) (sym (get_or-set_other accounts at k none d (λ same. omega arith))) (was.played k d (omega arith) below);
     }
+
+-- ---- the logs of all
 
 -- one stream more is due
 pub due_more : {K : Type 0} (all longer : List (FinishedStreamValue K)) (so_far : List SharedValue) (one : FinishedStreamValue K) (stream : SharedValue) → streams_of all ≡ so_far → longer ≡ all ++ one ∷ [] → one.stream ≡ stream → streams_of longer ≡ so_far ++ stream ∷ []

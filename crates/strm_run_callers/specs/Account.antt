@@ -1,5 +1,8 @@
 -- The receipts of a caller's calls on a stream.
-use Rattle.std.specs.Prelude.{◌≡◌, true, List, [], map, take}
+use Rattle.std.specs.Prelude.{◌≡◌, ◌+◌, true, Some, List, [], map, take, slice_get}
+use Rattle.strm_module.specs.declared.shape.Shape.{Shape}
+use Rattle.strm_head_calls.specs.declared.call.Call.{Call}
+use Rattle.strm_head_calls.specs.declared.event.Event.TheVariants.{Asked}
 use Rattle.strm_shared_entry.specs.Entry.{asked_of}
 use Rattle.strm_shared_entry.specs.Entry.{Entry}
 use Rattle.strm_shared.specs.Seat.{SeatValue}
@@ -21,3 +24,12 @@ fresh_account seat = record { seat = seat; entries = [] }
 abbrev pub HasReceipts : {K : Type 0} → RunValue K → SeatValue → List (Entry K) → Type 0
 HasReceipts run seat entries =
     seat.shown ≡ true → map asked_of entries ≡ take seat.calls (calls_on seat.number (script_of run.scripts seat.caller))
+
+-- a call is the next one that the script of a seat's caller has for the seat's stream
+abbrev pub IsNextInScript : {K : Type 0} → RunValue K → SeatValue → Call (Shape K) → Type 0
+IsNextInScript run seat call =
+    slice_get (calls_on seat.number (script_of run.scripts seat.caller)) seat.calls ≡ Some (call.end, Asked call.request)
+
+-- a seat counts one call more, and nothing else but whether it is shown may change (no public clause cites it)
+abbrev pub CountsOne : SeatValue → SeatValue → Type 0
+CountsOne old new = new ≡ record old { calls = old.calls + 1; shown = new.shown }

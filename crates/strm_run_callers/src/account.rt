@@ -1,8 +1,6 @@
 //! A seat of a caller, with the receipts of its calls.
-ghost use Rattle.std.specs.Prelude.{◌≡◌, ◌+◌, All, length, map, slice_get, take, IfOk, OnOk, Some};
-ghost use Rattle.strm_head_calls.specs.declared.event.Event.TheVariants.{Asked};
-ghost use Rattle.strm_run_callers.specs.Account.{fresh_account, HasReceipts};
-ghost use Rattle.strm_run_input.specs.Scripts.{calls_on, script_of};
+ghost use Rattle.std.specs.Prelude.{◌≡◌, All, length, map, take, IfOk, OnOk, Some};
+ghost use Rattle.strm_run_callers.specs.Account.{fresh_account, HasReceipts, IsNextInScript, CountsOne};
 ghost use Rattle.strm_run_callers.specs.Play.{CallsDoFit};
 
 use crate::run_name::{Of, RunName};
@@ -79,8 +77,8 @@ pub(crate) fn call_on<M: ModuleOf, N: RunName<M::Kind>, R: Wait>(
 ) -> Result<(), NoMem>
     requires fits { CallsDoFit M.row M.Kind.row M.Kind.Kinds }
     requires number { account.old.seat.number ≡ shared.now.number }
-    requires next { slice_get (calls_on account.old.seat.number (script_of N.run.scripts account.old.seat.caller)) account.old.seat.calls ≡ Some (call.end, Asked call.request) }
-    ensures seat { OnOk result (account.new.seat ≡ record account.old.seat { calls = account.old.seat.calls + 1; shown = account.new.seat.shown }) }
+    requires next { IsNextInScript N.run account.old.seat call }
+    ensures seat { OnOk result (CountsOne account.old.seat account.new.seat) }
     ensures before { OnOk result (take (length account.old.entries) account.new.entries ≡ account.old.entries) }
 {
     account.entries.reserve(1)?;

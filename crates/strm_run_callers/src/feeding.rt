@@ -1,9 +1,9 @@
 //! A feeder that offers its feed.
-ghost use Rattle.std.specs.Prelude.{◌≡◌, ◌↔◌, ◌<◌, true, false, [], ◌∷◌, ◌++◌, length, slice_get, All, Some, IfSome};
+ghost use Rattle.std.specs.Prelude.{◌≡◌, ◌↔◌, ◌<◌, true, false, [], length, slice_get, All, Some, IfSome};
 ghost use Rattle.strm_msg.specs.Kind.{is_from_line};
-ghost use Rattle.strm_msg.specs.Count.{one_more};
 ghost use Rattle.strm_run_input.specs.Scripts.{feed_of};
 ghost use Rattle.strm_run_callers.specs.Feeding.{HasOffered, IsFeeding};
+ghost use Rattle.strm_shared_ring.specs.Feed.{with_accepted, with_offer};
 
 use crate::run_name::{Of, RunName};
 use std::marker::Model;
@@ -50,8 +50,8 @@ impl<K, N: RunName<K>> Model for Offered<K, N> {
 fn accepts<K, N: RunName<K>>(feeder: &mut Feeder<K, Of<N>>, m: Message) -> bool
     requires line { is_from_line m.kind ≡ true }
     requires next { slice_get (feed_of N.run.feeds feeder.old.feed.number) feeder.old.feed.offers ≡ Some m }
-    ensures accepted { result ≡ true → feeder.new.feed ≡ record feeder.old.feed { offers = one_more feeder.old.feed.offers; accepted = feeder.old.feed.accepted ++ m ∷ [] } }
-    ensures none { result ≡ false → feeder.new.feed ≡ record feeder.old.feed { offers = one_more feeder.old.feed.offers } }
+    ensures accepted { result ≡ true → feeder.new.feed ≡ with_accepted feeder.old.feed m }
+    ensures none { result ≡ false → feeder.new.feed ≡ with_offer feeder.old.feed }
 {
     feeder.arrive(m).is_ok()
 }

@@ -7,10 +7,9 @@ use Rattle.strm_module.specs.Driver.{is_line}
 use Rattle.strm_head_calls.specs.declared.setup.Setup.{Setup}
 use Rattle.strm_shared_entry.specs.Entry.{Entry}
 use Rattle.strm_shared_entry.specs.declared.transcript.StreamLog.{StreamLog}
-use Rattle.strm_script_words.specs.Field.{Word}
 use Rattle.strm_script_parse.specs.Plan.{Streams, NamesValue}
-use Rattle.strm_script_print.specs.Fields.{KindSpelling, spaced}
-use Rattle.strm_script_print.specs.Lines.{event_text, answer_text, end_text, far_end_text, feed_text}
+use Rattle.strm_script_print.specs.Fields.{KindSpelling}
+use Rattle.strm_script_print.specs.Lines.{heading_text, event_text, answer_text, end_text, far_end_text, feed_text}
 use Rattle.strm_script_chart.specs.Columns.{all_bars, name_row, arrow, arrow_back, moved_text}
 
 -- ---- a step, in a chart with the columns of n processes
@@ -56,7 +55,7 @@ left_text driver log = end_text A log.a ++ far_end_text driver log.b ++ feed_tex
 -- the chart of a stream
 unfoldable pub stream_chart : {K : Type 0} → KindSpelling K → List (List ℕ) → List ℕ → Setup → StreamLog K → List ℕ
 stream_chart spelling processes name setup log =
-    codes "stream" ++ spaced (Word name ∷ []) ++ (10 ∷ []) ++ names_text processes name setup.driver ++ entries_rows spelling (length processes) setup.driver name log.history.items ++ left_text setup.driver log
+    heading_text name ++ names_text processes name setup.driver ++ entries_rows spelling (length processes) setup.driver name log.history.items ++ left_text setup.driver log
 
 -- the chart of a stream, if there is one
 abbrev pub found_chart : {K : Type 0} → KindSpelling K → List (List ℕ) → Option (List ℕ × Setup) → StreamLog K → List ℕ

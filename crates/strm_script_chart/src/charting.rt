@@ -1,6 +1,5 @@
 //! The chart of a run's transcript.
-ghost use Rattle.std.specs.Prelude.{OnOk};
-ghost use Rattle.std.specs.Io.KnownBytes.{Appends};
+ghost use Rattle.strm_script_text.specs.Writing.{Writes};
 ghost use Rattle.strm_script_parse.specs.Plan.{names_view};
 ghost use Rattle.strm_script_chart.specs.Chart.{chart_text, numbered_chart};
 
@@ -17,7 +16,7 @@ fn put_numbered<W: Write, K: PrintKind + Drop>(
     number: usize,
     log: &StreamLog<K>,
 ) -> io::Result<()>
-    ensures { OnOk result (Appends (W.contents w.old) (W.contents w.new) (numbered_chart K.spelling (names_view names.now) number log.now)) }
+    ensures { Writes W.contents w.old w.new result (numbered_chart K.spelling (names_view names.now) number log.now) }
 {
     match names.streams.get_index(number) {
         Some((name, setup)) => {
@@ -43,7 +42,8 @@ pub fn chart<W: Write, K: PrintKind + Drop>(
     names: &Names,
     w: &mut W,
 ) -> io::Result<()>
-    ensures text { OnOk result (Appends (W.contents w.old) (W.contents w.new) (chart_text K.spelling (names_view names.now) transcript.now.streams.items)) }
+    ensures text { Writes W.contents w.old w.new result
+        (chart_text K.spelling (names_view names.now) transcript.now.streams.items) }
 {
     for (number, log) in transcript.streams.iter().enumerate() {
         put_numbered(w, names, number, log)?;

@@ -1,6 +1,5 @@
 //! The rows of the steps.
-ghost use Rattle.std.specs.Prelude.{OnOk};
-ghost use Rattle.std.specs.Io.KnownBytes.{Appends};
+ghost use Rattle.strm_script_text.specs.Writing.{Writes};
 ghost use Rattle.strm_script_chart.specs.Chart as text;
 
 use crate::columns::{put_arrow, put_arrow_back};
@@ -19,7 +18,7 @@ fn put_event_row<W: Write, K: PrintKind + Drop>(
     stream: &[u8],
     entry: &Entry<K>,
 ) -> io::Result<()>
-    ensures { OnOk result (Appends (W.contents w.old) (W.contents w.new) (text.event_row K.spelling n driver stream.now entry.now)) }
+    ensures { Writes W.contents w.old w.new result (text.event_row K.spelling n driver stream.now entry.now) }
 {
     put_arrow(w, n, driver, entry.who())?;
     put_event(w, stream, entry.end(), entry.event())?;
@@ -34,7 +33,7 @@ fn put_answer_row<W: Write, K>(
     driver: Driver,
     entry: &Entry<K>,
 ) -> io::Result<()>
-    ensures { OnOk result (Appends (W.contents w.old) (W.contents w.new) (text.answer_row n driver entry.now)) }
+    ensures { Writes W.contents w.old w.new result (text.answer_row n driver entry.now) }
 {
     put_arrow_back(w, n, driver, entry.who())?;
     put_answer(w, entry.answer())
@@ -49,7 +48,7 @@ fn put_entry<W: Write, K: PrintKind + Drop>(
     stream: &[u8],
     entry: &Entry<K>,
 ) -> io::Result<()>
-    ensures { OnOk result (Appends (W.contents w.old) (W.contents w.new) (text.entry_rows K.spelling n driver stream.now entry.now)) }
+    ensures { Writes W.contents w.old w.new result (text.entry_rows K.spelling n driver stream.now entry.now) }
 {
     put_event_row(w, n, driver, stream, entry)?;
     put_moved(w, n, driver, entry.moves().as_slice())?;
@@ -65,7 +64,7 @@ pub(crate) fn put_entries<W: Write, K: PrintKind + Drop>(
     stream: &[u8],
     entries: &[Kept<K>],
 ) -> io::Result<()>
-    ensures { OnOk result (Appends (W.contents w.old) (W.contents w.new) (text.entries_rows K.spelling n driver stream.now entries.now)) }
+    ensures { Writes W.contents w.old w.new result (text.entries_rows K.spelling n driver stream.now entries.now) }
 {
     for kept in entries {
         put_entry(w, n, driver, stream, kept.entry())?;

@@ -1,6 +1,6 @@
 //! The chart of a stream.
-ghost use Rattle.std.specs.Prelude.{OnOk, map};
-ghost use Rattle.std.specs.Io.KnownBytes.{Appends};
+ghost use Rattle.strm_script_text.specs.Text.{name_texts};
+ghost use Rattle.strm_script_text.specs.Writing.{Writes};
 ghost use Rattle.strm_script_chart.specs.Chart as text;
 
 use crate::columns::{put_all_bars, put_name};
@@ -16,7 +16,7 @@ use strm_shared_entry::StreamLog;
 /// Writes the names of the processes, each above its column.
 #[tactic(auto, using(crate::proofs::NameLemmas::name_written))]
 fn put_processes<W: Write>(w: &mut W, processes: &[Name]) -> io::Result<()>
-    ensures { OnOk result (Appends (W.contents w.old) (W.contents w.new) (text.process_names (map (λ name. name.items) processes.now))) }
+    ensures { Writes W.contents w.old w.new result (text.process_names (name_texts processes.now)) }
 {
     for (left, name) in processes.iter().enumerate() {
         put_name(w, left, name.as_slice())?;
@@ -26,7 +26,7 @@ fn put_processes<W: Write>(w: &mut W, processes: &[Name]) -> io::Result<()>
 
 /// Writes `line` above the column of the line. Only lines and wires have this column.
 fn put_line_name<W: Write>(w: &mut W, left: usize, driver: Driver) -> io::Result<()>
-    ensures { OnOk result (Appends (W.contents w.old) (W.contents w.new) (text.line_name left driver)) }
+    ensures { Writes W.contents w.old w.new result (text.line_name left driver) }
 {
     if driver.is_line() {
         return put_name(w, left, b"line");
@@ -37,7 +37,7 @@ fn put_line_name<W: Write>(w: &mut W, left: usize, driver: Driver) -> io::Result
 /// Writes the names of all columns, each above its own column, and a row of their bars.
 #[tactic(auto, using(strm_script_text::proofs::WriteLemmas::appends_then), unfolding(crate::specs::Chart::names_text))]
 fn put_names<W: Write>(w: &mut W, processes: &[Name], name: &[u8], driver: Driver) -> io::Result<()>
-    ensures { OnOk result (Appends (W.contents w.old) (W.contents w.new) (text.names_text (map (λ name. name.items) processes.now) name.now driver)) }
+    ensures { Writes W.contents w.old w.new result (text.names_text (name_texts processes.now) name.now driver) }
 {
     let n = processes.len();
     put_processes(w, processes)?;
@@ -50,7 +50,7 @@ fn put_names<W: Write>(w: &mut W, processes: &[Name], name: &[u8], driver: Drive
 /// Writes the end of a stream: the state of its ends, and the outcome of its feed.
 #[tactic(auto, using(strm_script_text::proofs::WriteLemmas::appends_then), unfolding(crate::specs::Chart::left_text))]
 fn put_left<W: Write, K>(w: &mut W, driver: Driver, log: &StreamLog<K>) -> io::Result<()>
-    ensures { OnOk result (Appends (W.contents w.old) (W.contents w.new) (text.left_text driver log.now)) }
+    ensures { Writes W.contents w.old w.new result (text.left_text driver log.now) }
 {
     put_end(w, End::A, &log.a)?;
     put_far_end(w, driver, &log.b)?;
@@ -66,7 +66,8 @@ pub(crate) fn put_stream<W: Write, K: PrintKind + Drop>(
     setup: &Setup,
     log: &StreamLog<K>,
 ) -> io::Result<()>
-    ensures { OnOk result (Appends (W.contents w.old) (W.contents w.new) (text.stream_chart K.spelling (map (λ name. name.items) processes.now) name.now setup.now log.now)) }
+    ensures { Writes W.contents w.old w.new result
+        (text.stream_chart K.spelling (name_texts processes.now) name.now setup.now log.now) }
 {
     put_heading(w, name)?;
     put_names(w, processes, name, setup.driver)?;

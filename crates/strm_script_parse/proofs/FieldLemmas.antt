@@ -9,7 +9,7 @@ use Rattle.strm_module.specs.declared.driver.Driver.{Driver}
 use Rattle.strm_module.specs.declared.driver.Driver.TheVariants.{Echo, Loop, Line, Wire}
 use Rattle.strm_module.specs.Driver.{is_line}
 use Rattle.strm_head_calls.specs.declared.request.TheConstants.{MAX_CONTROL, MAX_DATA}
-use Rattle.strm_script_text.specs.Text.{number_of, number_from, halves_of}
+use Rattle.strm_script_text.specs.Text.{number_of, number_from, limited, halves_of}
 use Rattle.strm_head_calls.specs.Setup.{is_fit, is_ring}
 use Rattle.strm_head_calls.specs.declared.setup.Setup.{Setup}
 use Rattle.strm_head_calls.specs.declared.setup.TheConstants.{MOST_RING}
@@ -22,17 +22,16 @@ use Rattle.strm_script_words.specs.declared.field.TheConstants.{MOST_BAND, MOST_
 use Rattle.strm_script_parse.specs.Reading.{ring_at, rings_at, setup_at}
 use Rattle.strm_script_parse.proofs.StepLemmas.{through, on, passed, under, same, same_found, found_in}
 
+-- ---- numbers, marks and rings
+
 abbrev pair : ℕ → ℕ → ℕ × ℕ
 pair high low = (high, low)
-
-abbrev limit : ℕ → ℕ → Option ℕ
-limit most value = cond (nat_le value most) (Some value) None
 
 -- a number is within its limit
 number_within : (most : ℕ) (text : List ℕ) (n : ℕ) → number_at most text ≡ Ok n → nat_le n most ≡ true
 number_within most text n is =
-    under (nat_le 1 (length text) && nat_le (length text) 20) (option_and_then (limit most) (number_from 0 text)) n (found_in (number_of most text) causes.Number n is) (λ long read.
-    on (number_from 0 text) (limit most) n read (λ value from within.
+    under (nat_le 1 (length text) && nat_le (length text) 20) (option_and_then (limited most) (number_from 0 text)) n (found_in (number_of most text) causes.Number n is) (λ long read.
+    on (number_from 0 text) (limited most) n read (λ value from within.
     under (nat_le value most) (Some value) n within (λ least is. same_found (λ (m : ℕ). nat_le m most ≡ true) value n is least)))
 
 -- the low mark is below the high one
@@ -61,6 +60,8 @@ rings_within Wire [] ring is = absurd cc
 rings_within Wire (text ∷ []) ring is = ring_within text ring is
 rings_within Wire (text ∷ other ∷ texts) ring is = absurd cc
 
+-- ---- the setup of a stream
+
 -- too few fields
 pub too_few : (driver : Driver) (texts : List (List ℕ)) → length texts < 2 → setup_at driver texts ≡ Err causes.Fields
 unfolding setup_at
@@ -85,6 +86,8 @@ setup_fits driver (head ∷ drv ∷ texts) setup is =
     through (rings_at driver texts) _ setup is (λ ring last is.
     same CanBe (made driver above below ring) setup is
     (and_from (nat_lt above.1 above.0) (nat_lt below.1 below.0) (marks_fit head above one) (marks_fit drv below other), rings_within driver texts ring last))))
+
+-- ---- messages of a feed
 
 abbrev FromLine : Msg → Type 0
 FromLine m = is_from_line m.kind ≡ true

@@ -10,6 +10,7 @@ use Rattle.std.proofs.lemmas.List.{append-nil, append_assoc, length-append, take
 use Rattle.std.proofs.lemmas.List.Elements.{All-append, All-nil, All-cons}
 use Rattle.std.proofs.lemmas.List.Splits.{length-slice_split}
 use Rattle.std.proofs.lemmas.Slice.Eq.{bytes_eq-Decides}
+use Rattle.strm_script_text.proofs.LineLemmas.{line_before}
 use Rattle.strm_script_words.specs.Naming.{KindWords, shape_at}
 use Rattle.strm_script_words.specs.Fault.{◌>>=◌, or_fault}
 use Rattle.strm_script_words.specs.Table.{Asked, Pushed, word_of, all_verbs, verb_named, is_push, arity_at, request_at, told_at}
@@ -56,14 +57,10 @@ parts_cut (x ∷ before) after =
     ap (λ (some : List (List ℕ)). cond (ends_line x) ([] ∷ some) (onto_first x some)) (parts_cut before after)
     ∙ cond_append (ends_line x) x (parts before) (parts after) (some_parts before)
 
-part_before : (part : List ℕ) (more : List (List ℕ)) → 0 < length more → lines_of_parts (part ∷ more) ≡ strip_carriage_return part ∷ lines_of_parts more
-part_before part [] some = absurd (omega (arith, some))
-part_before part (next ∷ more) some = refl
-
 lines_append : (some more : List (List ℕ)) → 0 < length more → lines_of_parts (some ++ more) ≡ map strip_carriage_return some ++ lines_of_parts more
 lines_append [] more there = refl
 lines_append (part ∷ some) more there =
-    part_before part (some ++ more) (omega (arith, there, length-append some more))
+    line_before part (some ++ more) (omega (arith, there, length-append some more))
     ∙ ap (λ (all : List (List ℕ)). strip_carriage_return part ∷ all) (lines_append some more there)
 
 cut_lines : (before after : List ℕ) → lines (before ++ 10 ∷ after) ≡ lines (before ++ 10 ∷ []) ++ lines after

@@ -11,8 +11,8 @@ use Rattle.strm_module.specs.declared.driver.Driver.{Driver}
 use Rattle.strm_module.specs.declared.shape.Shape.{Shape}
 use Rattle.strm_head_calls.specs.declared.setup.Setup.{Setup}
 use Rattle.strm_script_parse.specs.Plan.{Streams, process_view, feed_view}
-use Rattle.strm_script_parse.specs.Reading.{has_feed}
-use Rattle.strm_script_parse.specs.Targets.{stream_names, stream_of}
+use Rattle.strm_script_parse.specs.Reading.{has_feed, has_process}
+use Rattle.strm_script_parse.specs.Targets.{has_stream, stream_names, stream_of}
 use Rattle.strm_script_parse.specs.declared.plan.ProcessDecl.{ProcessDecl}
 use Rattle.strm_run_input.specs.declared.script.Feed.{Feed}
 
@@ -55,12 +55,12 @@ module _ {K : Type 0} (name_of : K → List ℕ) (wanted : List ℕ) where
   found_or false x setup rest is = is
 
   -- whether a name is there
-  pub has_name : (entries : List (K × Setup)) → is_some (lookup (λ k. bytes_eq wanted (name_of k)) entries) ≡ list_any (bytes_eq wanted) (stream_names (seen entries))
+  pub has_name : (entries : List (K × Setup)) → is_some (lookup (λ k. bytes_eq wanted (name_of k)) entries) ≡ has_stream (seen entries) wanted
   has_name [] = refl
   has_name (entry ∷ entries) = found_or (bytes_eq wanted (name_of entry.0)) _ entry.1 _ (has_name entries)
 
 -- a new name goes last
-pub inserted : {K : Type 0} (name_of : K → List ℕ) (entries : List (K × Setup)) (k : K) (setup : Setup) → list_any (bytes_eq (name_of k)) (stream_names (seen name_of (name_of k) entries)) ≡ false → seen name_of (name_of k) (insert_entry (λ a b. bytes_eq (name_of a) (name_of b)) entries k setup) ≡ seen name_of (name_of k) entries ++ named (name_of k) setup ∷ []
+pub inserted : {K : Type 0} (name_of : K → List ℕ) (entries : List (K × Setup)) (k : K) (setup : Setup) → has_stream (seen name_of (name_of k) entries) (name_of k) ≡ false → seen name_of (name_of k) (insert_entry (λ a b. bytes_eq (name_of a) (name_of b)) entries k setup) ≡ seen name_of (name_of k) entries ++ named (name_of k) setup ∷ []
 inserted name_of [] k setup is = refl
 inserted name_of (x ∷ entries) k setup is =
     let both = or_parts (bytes_eq (name_of k) (name_of x.0)) (list_any (bytes_eq (name_of k)) (stream_names (seen name_of (name_of k) entries))) is in
@@ -68,7 +68,7 @@ inserted name_of (x ∷ entries) k setup is =
     ∙ ap (λ (rest : Streams). named (name_of x.0) x.1 ∷ rest) (inserted name_of entries k setup both.1)
 
 -- a process of some name
-pub any_name : {K : Type 0} (wanted : List ℕ) (processes : List (ProcessDecl (Shape K))) → list_any (λ (process : ProcessDecl (Shape K)). bytes_eq wanted process.name.items) processes ≡ list_any (bytes_eq wanted) (map (λ process. process.name) (map process_view processes))
+pub any_name : {K : Type 0} (wanted : List ℕ) (processes : List (ProcessDecl (Shape K))) → list_any (λ (process : ProcessDecl (Shape K)). bytes_eq wanted process.name.items) processes ≡ has_process (map process_view processes) wanted
 any_name wanted [] = refl
 any_name wanted (process ∷ processes) = ap (λ (b : Bool). bytes_eq wanted process.name.items || b) (any_name wanted processes)
 

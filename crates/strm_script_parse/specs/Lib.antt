@@ -3,6 +3,7 @@ pub mod Plan
 pub mod Last
 pub mod Targets
 pub mod Reading
+pub mod Reads
 pub mod Spelling
 pub mod Sound
 pub mod Draft

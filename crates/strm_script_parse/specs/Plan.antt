@@ -3,10 +3,11 @@ use Rattle.std.specs.Prelude.{ℕ, List, map}
 use Rattle.strm_msg.specs.Message.{Msg}
 use Rattle.strm_msg.specs.declared.words.End.{End}
 use Rattle.strm_module.specs.declared.shape.Shape.{Shape}
+use Rattle.strm_script_text.specs.Text.{name_texts}
 use Rattle.strm_script_words.specs.Table.{Asked, asked_of}
 use Rattle.strm_run_input.specs.declared.script.ScriptCall.{ScriptCall}
 use Rattle.strm_run_input.specs.declared.script.Feed.{Feed}
-pub use Rattle.strm_script_parse.specs.Streams.{Streams, streams_view}
+pub use Rattle.strm_script_parse.specs.Streams.{Streams, streams_view, streams_of}
 use Rattle.strm_script_parse.specs.declared.plan.ProcessDecl.{ProcessDecl}
 use Rattle.strm_script_parse.specs.declared.plan.Plan.{Plan}
 use Rattle.strm_script_parse.specs.declared.plan.Names.{Names}
@@ -72,23 +73,30 @@ feed_view feed = record { stream = feed.stream; messages = feed.messages.items }
 -- a plan
 abbrev pub plan_view : {K : Type 0} → Plan (Shape K) → Whole K
 plan_view plan =
-    record { streams = streams_view plan.streams.entries; processes = map process_view plan.processes.items; feeds = map feed_view plan.feeds.items }
+    record { streams = streams_of plan.streams; processes = map process_view plan.processes.items; feeds = map feed_view plan.feeds.items }
 
 -- the names of a plan
 abbrev pub names_view : Names → NamesValue
-names_view names = record { streams = streams_view names.streams.entries; processes = map (λ name. name.items) names.processes.items }
+names_view names = record { streams = streams_of names.streams; processes = name_texts names.processes.items }
+
+-- the place in a process that goes on, and in a feed
+abbrev pub process_place : {K : Type 0} → ProcessDecl (Shape K) → Place K
+process_place process = In_process (process_view process)
+
+abbrev pub feed_place : {K : Type 0} → Feed → Place K
+feed_place feed = In_feed (feed_view feed)
 
 -- the process or feed that goes on
 abbrev pub place_view : {K : Type 0} → Current (Shape K) → Place K
 place_view Current.Nowhere = Nowhere
-place_view (Current.Process process) = In_process (process_view process.value)
-place_view (Current.Feed feed) = In_feed (feed_view feed)
+place_view (Current.Process process) = process_place process.value
+place_view (Current.Feed feed) = feed_place feed
 
 -- a plan while it is read
 abbrev pub draft_view : {K : Type 0} → Draft (Shape K) → Partial K
 draft_view draft =
     record {
-      streams = streams_view draft.streams.map.entries;
+      streams = streams_of draft.streams.map;
       processes = map process_view draft.processes.items;
       feeds = map feed_view draft.feeds.items;
       modules = draft.modules;

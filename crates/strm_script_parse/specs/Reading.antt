@@ -1,5 +1,5 @@
 -- The reading of a script from left to right: its plan, or its first fault.
-use Rattle.std.specs.Prelude.{ℕ, ◌+◌, ◌==◌, ◌||◌, ◌&&◌, Bool, not, nat_lt, nat_le, List, [], ◌∷◌, ◌++◌, length, Result, Ok, Err, codes, map, is_some, if◌then◌else◌, slice_index}
+use Rattle.std.specs.Prelude.{ℕ, ◌+◌, ◌<◌, ◌==◌, ◌||◌, ◌&&◌, Bool, not, nat_lt, nat_le, List, [], ◌∷◌, ◌++◌, length, Result, Ok, Err, codes, map, is_some, if◌then◌else◌, slice_index}
 use Rattle.std.specs.Str.{bytes_eq}
 use Rattle.std.specs.Str.Lines.{lines}
 use Rattle.std.specs.List.{list_any, list_all}
@@ -31,6 +31,10 @@ abbrev pub fresh_name : List (List ℕ) → List ℕ → Result (List ℕ) Cause
 fresh_name used text = do
   chosen ← or_fault causes.Name (name_of LONGEST text)
   if list_any (bytes_eq chosen) used then Err causes.Name else Ok chosen
+
+-- the name of a new stream
+abbrev pub stream_name : Streams → List ℕ → Result (List ℕ) Cause
+stream_name streams text = fresh_name (stream_names streams) text
 
 -- the plan once the process or feed that goes on at this place has ended
 abbrev pub ended_at : {K : Type 0} → Partial K → Place K → Partial K
@@ -76,7 +80,7 @@ setup_at driver texts = Err causes.Fields
 -- the name and the setup of a new stream
 abbrev pub declared_at : Streams → Driver → List ℕ → List (List ℕ) → Result (List ℕ × Setup) Cause
 declared_at streams driver name texts = do
-  chosen ← fresh_name (stream_names streams) name
+  chosen ← stream_name streams name
   setup ← setup_at driver texts
   Ok (chosen, setup)
 
@@ -103,10 +107,18 @@ stream_onto d texts = Err causes.Fields
 
 -- ---- process NAME
 
+-- the names of processes, in order
+abbrev pub process_names : {K : Type 0} → List (Process K) → List (List ℕ)
+process_names processes = map (λ process. process.name) processes
+
+-- whether a process has this name
+abbrev pub has_process : {K : Type 0} → List (Process K) → List ℕ → Bool
+has_process processes name = list_any (bytes_eq name) (process_names processes)
+
 -- the name of a new process; `line` stands for arrivals in a transcript, so no process has that name
 abbrev pub process_name : {K : Type 0} → List (Process K) → List ℕ → Result (List ℕ) Cause
 process_name processes text = do
-  chosen ← fresh_name (map (λ process. process.name) processes) text
+  chosen ← fresh_name (process_names processes) text
   if bytes_eq chosen (codes "line") then Err causes.Name else Ok chosen
 
 -- the plan with a new process of this name, which goes on
@@ -202,6 +214,10 @@ abbrev pub fields_onto : {K : Type 0} → KindWords K → Partial K → List (Li
 fields_onto words d [] = Ok d
 fields_onto words d (word ∷ texts) = word_onto words d word texts
 
+-- a line has more bytes than it may have
+abbrev pub IsTooLong : List ℕ → Type 0
+IsTooLong line = LONGEST_LINE < length line
+
 -- the fields of a line without its LF and the CR before it; its length is checked first; a comment has none,
 -- and nothing else of it is checked
 abbrev pub fields_in : List ℕ → Result (List (List ℕ)) Cause
@@ -238,6 +254,10 @@ lines_onto words n d (line ∷ others) = then_lines (n + 1) (line_onto words d l
 abbrev pub nothing_yet : {K : Type 0} → Partial K
 nothing_yet = record { streams = []; processes = []; feeds = []; modules = 0; place = Nowhere }
 
+-- the plan that the lines of a text spell, or their first fault
+abbrev pub lines_spelt : {K : Type 0} → KindWords K → List ℕ → Result (Whole K) FaultAt
+lines_spelt words bytes = lines_onto words 0 nothing_yet (lines bytes)
+
 -- the plan that a script spells, or its first fault; the length of the whole is checked before any line
 abbrev pub spelt : {K : Type 0} → KindWords K → List ℕ → Result (Whole K) FaultAt
-spelt words bytes = if nat_lt LONGEST_SCRIPT (length bytes) then Err (record { line = 0; cause = causes.TooLong }) else lines_onto words 0 nothing_yet (lines bytes)
+spelt words bytes = if nat_lt LONGEST_SCRIPT (length bytes) then Err (record { line = 0; cause = causes.TooLong }) else lines_spelt words bytes

@@ -1,15 +1,17 @@
 -- The sections of a script: a process line, and the lines behind it up to the next one. A section is read
 -- apart if these lines are calls.
 use Rattle.std.specs.Prelude.{◌≡◌, ◌⊎◌, ℕ, ◌+◌, ◌<◌, ◌≤◌, ◌==◌, ◌&&◌, nat_le, Bool, false, List, [], ◌∷◌, ◌++◌, length, map, IfSome, Result, Ok, Err, ⊤}
+use Rattle.std.specs.List.{flat_map}
 use Rattle.std.specs.Str.Lines.{lines}
 use Rattle.strm_module.specs.declared.shape.Shape.{Shape}
 use Rattle.strm_script_words.specs.Naming.{KindWords}
 use Rattle.strm_script_words.specs.declared.fault.Cause.{Cause}
-use Rattle.strm_script_parse.specs.Plan.{Call, Streams, Partial, Place, Nowhere, In_process, In_feed, call_view}
+use Rattle.strm_script_parse.specs.Plan.{Call, Streams, Partial, Place, Nowhere, In_process, In_feed, call_view, draft_view}
 use Rattle.strm_script_parse.specs.Reading.{line_onto, lines_onto}
 use Rattle.strm_script_parse.specs.Sound.{AreCallsThere}
 use Rattle.strm_script_parse.specs.Draft.{IsAt}
 use Rattle.strm_script_parse.specs.Spelling.{IsNoMemory}
+use Rattle.strm_script_parse.specs.declared.draft.Draft.{Draft}
 use Rattle.strm_script_parse.specs.declared.draft.TheConstants.{MOST_CALLS}
 use Rattle.strm_script_parse.specs.declared.fault.ScriptFault.{ScriptFault}
 use Rattle.strm_script_parse.specs.declared.section.Said.{Said}
@@ -37,6 +39,13 @@ called (In_feed feed) calls = In_feed feed
 
 abbrev pub with_calls : {K : Type 0} → Partial K → List (Call K) → Partial K
 with_calls d calls = record d { place = called d.place calls }
+
+-- the text of sections, one after another, and its lines
+abbrev pub whole_text : {P : Type 0} → List (Section P) → List ℕ
+whole_text sections = flat_map (λ section. section.text.now) sections
+
+abbrev pub whole_lines : {P : Type 0} → List (Section P) → List (List ℕ)
+whole_lines sections = flat_map (λ section. lines section.text.now) sections
 
 -- the same streams, with others behind them
 abbrev pub IsMore : Streams → Streams → Type 0
@@ -89,3 +98,19 @@ module _ {K : Type 0} (words : KindWords K) where
   abbrev pub IsFaultOfLines : ℕ → Partial K → List ℕ → ScriptFault → Type 0
   IsFaultOfLines n d text fault =
       IsNoMemory fault ⊎ ((others : List (List ℕ)) → lines_onto words n d (lines text ++ others) ≡ Err (record { line = fault.line; cause = fault.cause }))
+
+  -- ---- the same of drafts
+
+  -- the new draft is the old one with this line
+  abbrev pub HasReadLine : Draft (Shape K) → List ℕ → Draft (Shape K) → Type 0
+  HasReadLine old line new = line_onto words (draft_view old) line ≡ Ok (draft_view new)
+
+  abbrev pub HasLineFault : ℕ → Draft (Shape K) → List ℕ → ScriptFault → Type 0
+  HasLineFault n old line fault = IsFaultOfLine n (draft_view old) line fault
+
+  -- the new draft is the old one of n lines with the lines of a text, and has m lines
+  abbrev pub HasRead : ℕ → Draft (Shape K) → List ℕ → Draft (Shape K) → ℕ → Type 0
+  HasRead n old text new m = AreRead n (draft_view old) text m (draft_view new)
+
+  abbrev pub HasFault : ℕ → Draft (Shape K) → List ℕ → ScriptFault → Type 0
+  HasFault n old text fault = IsFaultOfLines n (draft_view old) text fault

@@ -1,5 +1,6 @@
 -- NAME:END, the stream and the end of a call.
-use Rattle.std.specs.Prelude.{ℕ, List, Option, Some, None, codes, map, position, slice_get, if◌then◌else◌}
+use Rattle.std.specs.Prelude.{ℕ, Bool, List, Option, Some, None, codes, map, position, slice_get, if◌then◌else◌}
+use Rattle.std.specs.List.{list_any}
 use Rattle.std.specs.Str.{bytes_eq}
 use Rattle.strm_msg.specs.declared.words.End.{End}
 use Rattle.strm_msg.specs.declared.words.End.TheVariants.{A, B}
@@ -12,6 +13,10 @@ use Rattle.strm_script_parse.specs.Streams.{Streams}
 -- the names of the streams, in order
 abbrev pub stream_names : Streams → List (List ℕ)
 stream_names streams = map (λ entry. entry.0) streams
+
+-- whether a stream has this name
+abbrev pub has_stream : Streams → List ℕ → Bool
+has_stream streams name = list_any (bytes_eq name) (stream_names streams)
 
 -- the end `a`
 abbrev pub end_a : List ℕ → Option End

@@ -1,9 +1,10 @@
 //! A call line: a verb, NAME:END, and the fields of the call.
-ghost use Rattle.std.specs.Prelude.{◌≡◌, ◌≤◌, ◌<◌, ◌^◌, true, length, map, IsErrOf};
+ghost use Rattle.std.specs.Prelude.{◌≡◌, ◌≤◌, ◌<◌, ◌^◌, true, length, IsErrOf};
 ghost use Rattle.strm_script_parse.specs.Last.{IsKnown};
-ghost use Rattle.strm_script_parse.specs.Plan.{call_view, streams_view};
-ghost use Rattle.strm_script_parse.specs.Reading as reading;
+ghost use Rattle.strm_script_parse.specs.Plan.{call_view, streams_of};
+ghost use Rattle.strm_script_parse.specs.Reading.{call_at, modules_after, placed_call};
 ghost use Rattle.strm_script_parse.specs.declared.draft.TheConstants.{MOST_STREAMS};
+ghost use Rattle.strm_script_text.specs.Text.{texts_of};
 ghost use Rattle.strm_script_words.specs.Fault.{Gives};
 ghost use Rattle.strm_script_words.specs.Table.{takes_memory};
 
@@ -20,7 +21,7 @@ use strm_script_words::{Cause, PlayModule, ReadError, ReadKind, Verb, request_at
 /// The number of modules that are declared once this call is read.
 pub(crate) fn modules_after(verb: Verb, modules: u64) -> u64
     requires { modules < 2 ^ 63 }
-    ensures { result ≡ reading.modules_after verb modules }
+    ensures { result ≡ modules_after verb modules }
 {
     match verb {
         Verb::Push => modules + 1,
@@ -41,9 +42,10 @@ fn placed_call<M: PlayModule>(
 where
     M::Kind: ReadKind,
     requires few { length streams.now.entries ≤ MOST_STREAMS }
-    requires known { IsKnown (streams_view streams.now.entries) last.old }
-    ensures known { IsKnown (streams_view streams.now.entries) last.new }
-    ensures call { Gives call_view result (reading.placed_call M.Kind.words (streams_view streams.now.entries) serial verb target.now (map (λ text. text.now) texts.now)) }
+    requires known { IsKnown (streams_of streams.now) last.old }
+    ensures known { IsKnown (streams_of streams.now) last.new }
+    ensures call { Gives call_view result
+        (placed_call M.Kind.words (streams_of streams.now) serial verb target.now (texts_of texts.now)) }
     ensures memory { IsErrOf result ReadError.Memory → takes_memory verb ≡ true }
 {
     let Some((stream, end)) = target_of(streams, last, target) else {
@@ -68,9 +70,10 @@ pub(crate) fn call_at<M: PlayModule>(
 where
     M::Kind: ReadKind,
     requires few { length streams.now.entries ≤ MOST_STREAMS }
-    requires known { IsKnown (streams_view streams.now.entries) last.old }
-    ensures known { IsKnown (streams_view streams.now.entries) last.new }
-    ensures call { Gives call_view result (reading.call_at M.Kind.words (streams_view streams.now.entries) serial verb (map (λ text. text.now) texts.now)) }
+    requires known { IsKnown (streams_of streams.now) last.old }
+    ensures known { IsKnown (streams_of streams.now) last.new }
+    ensures call { Gives call_view result
+        (call_at M.Kind.words (streams_of streams.now) serial verb (texts_of texts.now)) }
     ensures memory { IsErrOf result ReadError.Memory → takes_memory verb ≡ true }
 {
     let [target, texts @ ..] = texts else {

@@ -1,6 +1,6 @@
 //! The streams that a script has declared up to a line.
 ghost use Rattle.strm_script_parse.specs.Last.{IsKnown};
-ghost use Rattle.strm_script_parse.specs.Streams.{streams_view};
+ghost use Rattle.strm_script_parse.specs.Streams.{streams_of};
 
 use crate::plan::Name;
 use indexmap::IndexMap;
@@ -26,5 +26,5 @@ pub(crate) struct Declared {
     pub(crate) map: IndexMap<Name, Setup>,
     /// The stream that was found last, if one was found since the last declaration.
     pub(crate) last: Option<Found>,
-    ghost known: { IsKnown (streams_view map.entries) last },
+    ghost known: { IsKnown (streams_of map) last },
 }

@@ -1,9 +1,14 @@
 //! A plan while it is read, line by line.
-ghost use Rattle.std.specs.Prelude.{◌≡◌, ◌≤◌, ◌<◌, ◌^◌, true, Ok, length, map, IsErrOf, IsOk};
-ghost use Rattle.strm_script_parse.specs.Plan.{call_view, draft_view, feed_view, plan_view, process_view, streams_view};
-ghost use Rattle.strm_script_parse.specs.Plan.{In_feed, In_process};
+ghost use Rattle.std.specs.Prelude.{◌≡◌, ◌≤◌, ◌<◌, ◌^◌, true, Ok, length, map, IsErrOf};
+ghost use Rattle.strm_script_parse.specs.Plan.{call_view, draft_view, feed_place, feed_view};
+ghost use Rattle.strm_script_parse.specs.Plan.{plan_view, process_place, process_view, streams_of};
 ghost use Rattle.strm_script_parse.specs.Reading as reading;
+ghost use Rattle.strm_script_parse.specs.Reading.{IsTooLong, call_onto, feed_onto, fields_onto};
+ghost use Rattle.strm_script_parse.specs.Reading.{inner_onto, line_onto, message_onto, process_onto};
+ghost use Rattle.strm_script_parse.specs.Reading.{setup_onto, stream_onto, word_onto};
+ghost use Rattle.strm_script_parse.specs.Reads.{Becomes, Reads, TakesMemoryLast};
 ghost use Rattle.strm_script_parse.specs.Section.{takes, with_calls};
+ghost use Rattle.strm_script_text.specs.Text.{texts_of};
 ghost use Rattle.strm_script_words.specs.Fault.{Gives};
 
 use crate::call_line::{call_at, modules_after};
@@ -67,7 +72,7 @@ pub(crate) struct Draft<P> {
 
 /// Whether there is room for one more stream.
 fn has_room(streams: &IndexMap<Name, Setup>) -> bool
-    ensures { result ≡ reading.has_room (streams_view streams.now.entries) }
+    ensures { result ≡ reading.has_room (streams_of streams.now) }
 {
     streams.len() < MOST_STREAMS
 }
@@ -82,8 +87,8 @@ fn has_feed(feeds: &[Feed], number: u32) -> bool
 /// Cuts a line into fields, in a list that is for them. The length of the line is checked first. A comment
 /// begins with `#` and has no fields; nothing else of it is checked.
 pub(crate) fn fields_in<'a>(line: &'a [u8], texts: &mut Vec<&'a [u8]>) -> Result<(), ReadError>
-    ensures fields { Gives (λ _. map (λ text. text.now) texts.new.items) result (reading.fields_in line.now) }
-    ensures length { LONGEST_LINE < length line.now → IsErrOf result (ReadError.Fault Cause.TooLong) }
+    ensures fields { Gives (λ _. texts_of texts.new.items) result (reading.fields_in line.now) }
+    ensures length { IsTooLong line.now → IsErrOf result (ReadError.Fault Cause.TooLong) }
 {
     if line.len() > LONGEST_LINE {
         return Err(ReadError::Fault(Cause::TooLong));
@@ -131,7 +136,7 @@ where
 
     /// Ends the process or feed that goes on. Fails only when memory runs out.
     fn close(&mut self) -> Result<(), ReadError>
-        ensures { Gives (λ _. draft_view self.new) result (Ok (reading.ended (draft_view self.old))) }
+        ensures { Becomes (λ d. Ok (reading.ended d)) self.old self.new result }
     {
         match mem::replace(&mut self.current, Current::Nowhere) {
             Current::Nowhere => Ok(()),
@@ -142,8 +147,8 @@ where
 
     /// Reads a stream line, with the fields behind its driver. Takes memory only if nothing is wrong.
     fn add_setup(&mut self, driver: Driver, name: &[u8], texts: &[&[u8]]) -> Result<(), ReadError>
-        ensures line { Gives (λ _. draft_view self.new) result (reading.setup_onto (draft_view self.old) driver name.now (map (λ text. text.now) texts.now)) }
-        ensures memory { IsErrOf result ReadError.Memory → IsOk (reading.setup_onto (draft_view self.old) driver name.now (map (λ text. text.now) texts.now)) }
+        ensures line { Reads (λ d. setup_onto d driver name.now) texts.now self.old self.new result }
+        ensures memory { TakesMemoryLast (λ d. setup_onto d driver name.now) texts.now self.old result }
     {
         let chosen = stream_name(&self.streams.map, name)?;
         let setup = setup_at(driver, texts)?;
@@ -158,8 +163,8 @@ where
     /// fields. Takes memory only if nothing is wrong.
     #[tactic(auto, unfolding(crate::specs::Reading::stream_onto))]
     fn stream_line(&mut self, texts: &[&[u8]]) -> Result<(), ReadError>
-        ensures line { Gives (λ _. draft_view self.new) result (reading.stream_onto (draft_view self.old) (map (λ text. text.now) texts.now)) }
-        ensures memory { IsErrOf result ReadError.Memory → IsOk (reading.stream_onto (draft_view self.old) (map (λ text. text.now) texts.now)) }
+        ensures line { Reads stream_onto texts.now self.old self.new result }
+        ensures memory { TakesMemoryLast stream_onto texts.now self.old result }
     {
         let [name, driver, texts @ ..] = texts else {
             return Err(ReadError::Fault(Cause::Fields));
@@ -174,8 +179,8 @@ where
     /// Reads the NAME of a process, which goes on from here. Takes memory only if nothing is wrong.
     #[tactic(auto, unfolding(crate::specs::Reading::process_onto))]
     fn process_line(&mut self, alloc: Global, texts: &[&[u8]]) -> Result<(), ReadError>
-        ensures line { Gives (λ _. draft_view self.new) result (reading.process_onto (draft_view self.old) (map (λ text. text.now) texts.now)) }
-        ensures memory { IsErrOf result ReadError.Memory → IsOk (reading.process_onto (draft_view self.old) (map (λ text. text.now) texts.now)) }
+        ensures line { Reads process_onto texts.now self.old self.new result }
+        ensures memory { TakesMemoryLast process_onto texts.now self.old result }
     {
         let [name] = texts else {
             return Err(ReadError::Fault(Cause::Fields));
@@ -196,7 +201,7 @@ where
     #[tactic(auto, unfolding(crate::specs::Reading::feed_onto))]
     fn feed_line(&mut self, alloc: Global, texts: &[&[u8]]) -> Result<(), ReadError>
         requires { length self.old.streams.map.entries ≤ MOST_STREAMS }
-        ensures line { Gives (λ _. draft_view self.new) result (reading.feed_onto (draft_view self.old) (map (λ text. text.now) texts.now)) }
+        ensures line { Reads feed_onto texts.now self.old self.new result }
         ensures memory { IsErrOf result ReadError.Memory → ⊥ }
     {
         let [name] = texts else {
@@ -224,7 +229,8 @@ where
     ) -> Result<(), ReadError>
         requires few { length self.old.streams.map.entries ≤ MOST_STREAMS }
         requires modules { self.old.modules < 2 ^ 63 }
-        ensures { Gives (λ _. draft_view self.new) result (reading.call_onto M.Kind.words (draft_view self.old) (process_view process.value) verb (map (λ text. text.now) texts.now)) }
+        ensures { Reads (λ d. call_onto M.Kind.words d (process_view process.value) verb)
+            texts.now self.old self.new result }
     {
         let Declared { map, last } = &mut self.streams;
         let call = call_at(alloc, map, last, self.modules + 1, verb, texts)?;
@@ -246,7 +252,7 @@ where
         word: MessageWord,
         texts: &[&[u8]],
     ) -> Result<(), ReadError>
-        ensures { Gives (λ _. draft_view self.new) result (reading.message_onto (draft_view self.old) (feed_view feed) word (map (λ text. text.now) texts.now)) }
+        ensures { Reads (λ d. message_onto d (feed_view feed) word) texts.now self.old self.new result }
     {
         let message = message_at(alloc, word, texts)?;
         if feed.messages.len() >= MOST_MESSAGES {
@@ -267,7 +273,8 @@ where
     ) -> Result<(), ReadError>
         requires few { length self.old.streams.map.entries ≤ MOST_STREAMS }
         requires modules { self.old.modules < 2 ^ 63 }
-        ensures { Gives (λ _. draft_view self.new) result (reading.inner_onto M.Kind.words (draft_view self.old) (In_process (process_view process.value)) word.now (map (λ text. text.now) texts.now)) }
+        ensures { Reads (λ d. inner_onto M.Kind.words d (process_place process.value) word.now)
+            texts.now self.old self.new result }
     {
         match from_keyword(word) {
             Some(verb) => self.call_line(alloc, process, verb, texts),
@@ -283,7 +290,8 @@ where
         word: &[u8],
         texts: &[&[u8]],
     ) -> Result<(), ReadError>
-        ensures { Gives (λ _. draft_view self.new) result (reading.inner_onto M.Kind.words (draft_view self.old) (In_feed (feed_view feed)) word.now (map (λ text. text.now) texts.now)) }
+        ensures { Reads (λ d. inner_onto M.Kind.words d (feed_place feed) word.now)
+            texts.now self.old self.new result }
     {
         match from_keyword(word) {
             Some(word) => self.message_line(alloc, feed, word, texts),
@@ -296,7 +304,7 @@ where
     fn inner_line(&mut self, alloc: Global, word: &[u8], texts: &[&[u8]]) -> Result<(), ReadError>
         requires few { length self.old.streams.map.entries ≤ MOST_STREAMS }
         requires modules { self.old.modules < 2 ^ 63 }
-        ensures { Gives (λ _. draft_view self.new) result (reading.inner_onto M.Kind.words (draft_view self.old) (draft_view self.old).place word.now (map (λ text. text.now) texts.now)) }
+        ensures { Reads (λ d. inner_onto M.Kind.words d d.place word.now) texts.now self.old self.new result }
     {
         match mem::replace(&mut self.current, Current::Nowhere) {
             Current::Nowhere => Err(ReadError::Fault(outside(word))),
@@ -310,7 +318,7 @@ where
     fn word_line(&mut self, alloc: Global, word: &[u8], texts: &[&[u8]]) -> Result<(), ReadError>
         requires few { length self.old.streams.map.entries ≤ MOST_STREAMS }
         requires modules { self.old.modules < 2 ^ 63 }
-        ensures { Gives (λ _. draft_view self.new) result (reading.word_onto M.Kind.words (draft_view self.old) word.now (map (λ text. text.now) texts.now)) }
+        ensures { Reads (λ d. word_onto M.Kind.words d word.now) texts.now self.old self.new result }
     {
         if word == b"stream".as_slice() {
             self.close()?;
@@ -331,7 +339,7 @@ where
     fn fields_line(&mut self, alloc: Global, texts: &[&[u8]]) -> Result<(), ReadError>
         requires few { length self.old.streams.map.entries ≤ MOST_STREAMS }
         requires modules { self.old.modules < 2 ^ 63 }
-        ensures { Gives (λ _. draft_view self.new) result (reading.fields_onto M.Kind.words (draft_view self.old) (map (λ text. text.now) texts.now)) }
+        ensures { Reads (fields_onto M.Kind.words) texts.now self.old self.new result }
     {
         match texts {
             [] => Ok(()),
@@ -349,8 +357,8 @@ where
     ) -> Result<(), ReadError>
         requires few { length self.old.streams.map.entries ≤ MOST_STREAMS }
         requires modules { self.old.modules < 2 ^ 63 }
-        ensures line { Gives (λ _. draft_view self.new) result (reading.line_onto M.Kind.words (draft_view self.old) line.now) }
-        ensures length { LONGEST_LINE < length line.now → IsErrOf result (ReadError.Fault Cause.TooLong) }
+        ensures line { Becomes (λ d. line_onto M.Kind.words d line.now) self.old self.new result }
+        ensures length { IsTooLong line.now → IsErrOf result (ReadError.Fault Cause.TooLong) }
     {
         fields_in(line, texts)?;
         self.fields_line(alloc, texts.as_slice())
@@ -378,7 +386,7 @@ where
 
     /// The setup of each stream that was declared so far, by its name.
     pub(crate) fn streams(&self) -> &IndexMap<Name, Setup>
-        ensures { streams_view result.now.entries ≡ (draft_view self.now).streams }
+        ensures { streams_of result.now ≡ (draft_view self.now).streams }
     {
         &self.streams.map
     }

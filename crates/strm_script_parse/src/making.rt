@@ -1,6 +1,6 @@
 //! The modules of a plan's declarations.
 ghost use Rattle.std.specs.Prelude.{◌≡◌, IfOk, OnOk};
-ghost use Rattle.std.specs.List.{flat_map};
+ghost use Rattle.strm_script_parse.specs.RunInput.{calls_of_blocks};
 
 use crate::plan::{Plan, ProcessDecl};
 use std::alloc::Global;
@@ -61,7 +61,7 @@ fn make_blocks<M: ModuleOf, F: Fn(&Shape<M::Kind>) -> Result<M, NoMem>>(
     make: &F,
 ) -> Result<(), NoMem>
     requires { F.IsAlwaysCallable make.now }
-    ensures { OnOk result (flat_map (λ block. block.items) blocks.new ≡ flat_map (λ block. block.items) blocks.old) }
+    ensures { OnOk result (calls_of_blocks blocks.new ≡ calls_of_blocks blocks.old) }
 {
     for block in blocks.iter_mut() {
         make_calls(alloc, block.as_mut_slice(), make)?;

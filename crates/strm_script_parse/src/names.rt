@@ -1,10 +1,9 @@
 //! The names of streams and of processes, each of which is given once.
 ghost use Rattle.std.specs.Prelude.{◌≡◌, ◌++◌, ◌∷◌, [], false, map, IfOk, Ok};
-ghost use Rattle.std.specs.List.{list_any};
-ghost use Rattle.std.specs.Str.{bytes_eq};
-ghost use Rattle.strm_script_parse.specs.Plan.{process_view, streams_view};
-ghost use Rattle.strm_script_parse.specs.Reading as reading;
-ghost use Rattle.strm_script_parse.specs.Targets.{stream_names};
+ghost use Rattle.strm_script_parse.specs.Plan.{process_view, streams_of};
+ghost use Rattle.strm_script_parse.specs.Reading.{has_process, process_name, stream_name};
+ghost use Rattle.strm_script_parse.specs.Targets.{has_stream};
+ghost use Rattle.strm_script_text.specs.Text.{name_text};
 ghost use Rattle.strm_script_words.specs.Fault.{Gives, Tells};
 
 use crate::plan::{LONGEST, Name, ProcessDecl};
@@ -16,22 +15,22 @@ use strm_script_words::{Cause, ReadError};
 
 /// Whether a stream has this name.
 fn has_stream(streams: &IndexMap<Name, Setup>, chosen: &Name) -> bool
-    ensures { result ≡ list_any (bytes_eq chosen.now.items) (stream_names (streams_view streams.now.entries)) }
+    ensures { result ≡ has_stream (streams_of streams.now) chosen.now.items }
 {
     streams.contains_key(chosen)
 }
 
 /// Whether a process has this name.
 fn has_process<M: ModuleOf>(processes: &[ProcessDecl<BoxedModule<M>>], chosen: &Name) -> bool
-    ensures { result ≡ list_any (bytes_eq chosen.now.items) (map (λ process. process.name) (map process_view processes.now)) }
+    ensures { result ≡ has_process (map process_view processes.now) chosen.now.items }
 {
     processes.iter().any(|process| *chosen == process.name)
 }
 
 /// The name of a new stream. Refused if the text is no name, or if a stream has it.
 pub(crate) fn stream_name(streams: &IndexMap<Name, Setup>, text: &[u8]) -> Result<Name, Cause>
-    ensures unused { IfOk result (λ name. list_any (bytes_eq name.items) (stream_names (streams_view streams.now.entries)) ≡ false) }
-    ensures name { Tells (λ name. name.items) result (reading.fresh_name (stream_names (streams_view streams.now.entries)) text.now) }
+    ensures unused { IfOk result (λ name. has_stream (streams_of streams.now) name.items ≡ false) }
+    ensures name { Tells name_text result (stream_name (streams_of streams.now) text.now) }
 {
     let Some(chosen) = name::<LONGEST>(text) else {
         return Err(Cause::Name);
@@ -48,7 +47,7 @@ pub(crate) fn process_name<M: ModuleOf>(
     processes: &[ProcessDecl<BoxedModule<M>>],
     text: &[u8],
 ) -> Result<Name, Cause>
-    ensures { Tells (λ name. name.items) result (reading.process_name (map process_view processes.now) text.now) }
+    ensures { Tells name_text result (process_name (map process_view processes.now) text.now) }
 {
     let Some(chosen) = name::<LONGEST>(text) else {
         return Err(Cause::Name);
@@ -65,8 +64,8 @@ pub(crate) fn add_stream(
     chosen: Name,
     setup: Setup,
 ) -> Result<(), ReadError>
-    requires { list_any (bytes_eq chosen.items) (stream_names (streams_view streams.old.entries)) ≡ false }
-    ensures { Gives (λ _. streams_view streams.new.entries) result (Ok (streams_view streams.old.entries ++ (chosen.items, setup) ∷ [])) }
+    requires { has_stream (streams_of streams.old) chosen.items ≡ false }
+    ensures { Gives (λ _. streams_of streams.new) result (Ok (streams_of streams.old ++ (chosen.items, setup) ∷ [])) }
 {
     streams.insert(chosen, setup)?;
     Ok(())

@@ -1,14 +1,13 @@
 //! A script that is read from left to right.
-ghost use Rattle.std.specs.Prelude.{◌≡◌, ◌+◌, ◌<◌, ◌≤◌, All, length, take, IfErr, IfOk, IsErrOf, Ok};
-ghost use Rattle.std.specs.List.{flat_map};
-ghost use Rattle.std.specs.Str.Lines.{lines};
+ghost use Rattle.std.specs.Prelude.{◌≡◌, ◌+◌, ◌<◌, ◌≤◌, All, length, take, IfErr, IfOk, IsErrOf, OnOk, Ok};
 ghost use Rattle.strm_script_parse.specs.Draft.{IsAt};
 ghost use Rattle.strm_script_parse.specs.Plan.{draft_view, plan_view};
 ghost use Rattle.strm_script_parse.specs.Reading as reading;
-ghost use Rattle.strm_script_parse.specs.Section.{AreRead, IsFaultOfLine, IsFaultOfLines, IsSection};
+ghost use Rattle.strm_script_parse.specs.Reading.{IsTooLong};
+ghost use Rattle.strm_script_parse.specs.Section.{HasFault, HasLineFault, HasRead, HasReadLine};
+ghost use Rattle.strm_script_parse.specs.Section.{IsSection, whole_lines, whole_text};
 ghost use Rattle.strm_script_parse.specs.Sound.{IsSound};
-ghost use Rattle.strm_script_parse.specs.Spelling.{IsNoMemory, Spells, too_long};
-ghost use Rattle.strm_script_parse.specs.declared.draft.TheConstants.{LONGEST_LINE};
+ghost use Rattle.strm_script_parse.specs.Spelling.{IsNoMemory, Spells, fault_at, too_long};
 ghost use Rattle.strm_script_words.specs.Push.{builtin_words};
 
 use crate::draft::Draft;
@@ -103,7 +102,7 @@ fn parse_lines<M: PlayModule>(
 where
     M::Kind: ReadKind,
     requires { length bytes.now ≤ LONGEST_SCRIPT }
-    ensures { Spells result (reading.lines_onto M.Kind.words 0 reading.nothing_yet (lines bytes.now)) }
+    ensures { Spells result (reading.lines_spelt M.Kind.words bytes.now) }
 {
     let mut draft = Draft::new(alloc);
     read_lines(alloc, &mut draft, 0, bytes)?;
@@ -122,9 +121,9 @@ where
     M::Kind: ReadKind,
     requires few { before < LONGEST_SCRIPT }
     requires at { IsAt before (draft_view draft.old) }
-    ensures read { IfOk result (λ _. reading.line_onto M.Kind.words (draft_view draft.old) line.now ≡ Ok (draft_view draft.new)) }
-    ensures fault { IfErr result (λ fault. IsFaultOfLine M.Kind.words before (draft_view draft.old) line.now fault) }
-    ensures length { LONGEST_LINE < length line.now → IsErrOf result (record { line = before + 1; cause = Cause.TooLong }) }
+    ensures read { OnOk result (HasReadLine M.Kind.words draft.old line.now draft.new) }
+    ensures fault { IfErr result (HasLineFault M.Kind.words before draft.old line.now) }
+    ensures length { IsTooLong line.now → IsErrOf result (fault_at (before + 1) Cause.TooLong) }
 {
     match draft.line(alloc, line, texts) {
         Ok(()) => Ok(()),
@@ -147,8 +146,8 @@ where
     M::Kind: ReadKind,
     requires few { before + length text.now ≤ LONGEST_SCRIPT }
     requires at { IsAt before (draft_view draft.old) }
-    ensures read { IfOk result (λ after. AreRead M.Kind.words before (draft_view draft.old) text.now after (draft_view draft.new)) }
-    ensures fault { IfErr result (λ fault. IsFaultOfLines M.Kind.words before (draft_view draft.old) text.now fault) }
+    ensures read { IfOk result (HasRead M.Kind.words before draft.old text.now draft.new) }
+    ensures fault { IfErr result (HasFault M.Kind.words before draft.old text.now) }
 {
     let mut texts = Vec::new(alloc);
     let mut rest = text;
@@ -177,8 +176,8 @@ where
     requires at { IsAt before (draft_view draft.old) }
     requires declared { streams ≤ length (draft_view draft.old).streams }
     requires section { IsSection M.Kind.words (take streams (draft_view draft.old).streams) section }
-    ensures read { IfOk result (λ after. AreRead M.Kind.words before (draft_view draft.old) section.entry.text.now after (draft_view draft.new)) }
-    ensures fault { IfErr result (λ fault. IsFaultOfLines M.Kind.words before (draft_view draft.old) section.entry.text.now fault) }
+    ensures read { IfOk result (HasRead M.Kind.words before draft.old section.entry.text.now draft.new) }
+    ensures fault { IfErr result (HasFault M.Kind.words before draft.old section.entry.text.now) }
 {
     let Section { text, calls } = section;
     let mut texts = Vec::new(alloc);
@@ -203,10 +202,11 @@ fn add_sections<M: PlayModule>(
 ) -> Result<Plan<BoxedModule<M>>, ScriptFault>
 where
     M::Kind: ReadKind,
-    requires few { before + length (flat_map (λ section. section.text.now) sections.items) ≤ LONGEST_SCRIPT }
+    requires few { before + length (whole_text sections.items) ≤ LONGEST_SCRIPT }
     requires at { IsAt before (draft_view draft) }
     requires sections { All (IsSection M.Kind.words (draft_view draft).streams) sections.items }
-    ensures { Spells result (reading.lines_onto M.Kind.words before (draft_view draft) (flat_map (λ section. lines section.text.now) sections.entry.items)) }
+    ensures { Spells result
+        (reading.lines_onto M.Kind.words before (draft_view draft) (whole_lines sections.entry.items)) }
 {
     let streams = draft.streams().len();
     let mut many = before;

@@ -1,12 +1,12 @@
 //! The sections of a script: a process line, and the lines behind it up to the next one. Each is read apart.
 ghost use Rattle.std.specs.Prelude.{◌≡◌, ◌++◌, ◌<◌, ◌≤◌, All, IfOk, IfSome, length, map};
-ghost use Rattle.std.specs.List.{flat_map};
 ghost use Rattle.std.specs.Str.Lines.{lines};
 ghost use Rattle.strm_script_parse.specs.Last.{IsKnown};
-ghost use Rattle.strm_script_parse.specs.Plan.{streams_view};
-ghost use Rattle.strm_script_parse.specs.Reading as reading;
-ghost use Rattle.strm_script_parse.specs.Section.{AreCalls, IsSection, Says};
+ghost use Rattle.strm_script_parse.specs.Plan.{streams_of};
+ghost use Rattle.strm_script_parse.specs.Reading.{fields_onto, line_onto, word_onto};
+ghost use Rattle.strm_script_parse.specs.Section.{AreCalls, IsSection, Says, whole_lines, whole_text};
 ghost use Rattle.strm_script_parse.specs.declared.draft.TheConstants.{MOST_STREAMS};
+ghost use Rattle.strm_script_text.specs.Text.{texts_of};
 ghost use Rattle.strm_script_words.specs.Table.{is_push};
 
 use crate::call_line::call_at;
@@ -71,8 +71,8 @@ pub(crate) fn cut(text: &[u8]) -> (&[u8], &[u8])
 
 /// The sections of a text, in order. None of them is read yet. Fails only when memory runs out.
 fn sections<P: Drop>(alloc: Global, text: &[u8]) -> Result<Vec<Section<'_, P>>, NoMem>
-    ensures whole { IfOk result (λ all. flat_map (λ section. section.text.now) all.items ≡ text.now) }
-    ensures lines { IfOk result (λ all. flat_map (λ section. lines section.text.now) all.items ≡ lines text.now) }
+    ensures whole { IfOk result (λ all. whole_text all.items ≡ text.now) }
+    ensures lines { IfOk result (λ all. whole_lines all.items ≡ lines text.now) }
     ensures some { IfOk result (λ all. All (λ section. 0 < length section.text.now) all.items) }
 {
     let mut all = Vec::new(alloc);
@@ -103,9 +103,10 @@ fn word_said<M: PlayModule>(
 where
     M::Kind: ReadKind,
     requires few { length streams.now.entries ≤ MOST_STREAMS }
-    requires known { IsKnown (streams_view streams.now.entries) last.old }
-    ensures known { IsKnown (streams_view streams.now.entries) last.new }
-    ensures said { IfOk result (λ said. Says (streams_view streams.now.entries) (λ d. reading.word_onto M.Kind.words d word.now (map (λ text. text.now) texts.now)) said) }
+    requires known { IsKnown (streams_of streams.now) last.old }
+    ensures known { IsKnown (streams_of streams.now) last.new }
+    ensures said { IfOk result
+        (Says (streams_of streams.now) (λ d. word_onto M.Kind.words d word.now (texts_of texts.now))) }
 {
     let Some(verb) = from_keyword(word) else {
         return Ok(Said::Other);
@@ -130,9 +131,10 @@ fn fields_said<M: PlayModule>(
 where
     M::Kind: ReadKind,
     requires few { length streams.now.entries ≤ MOST_STREAMS }
-    requires known { IsKnown (streams_view streams.now.entries) last.old }
-    ensures known { IsKnown (streams_view streams.now.entries) last.new }
-    ensures said { IfOk result (λ said. Says (streams_view streams.now.entries) (λ d. reading.fields_onto M.Kind.words d (map (λ text. text.now) texts.now)) said) }
+    requires known { IsKnown (streams_of streams.now) last.old }
+    ensures known { IsKnown (streams_of streams.now) last.new }
+    ensures said { IfOk result
+        (Says (streams_of streams.now) (λ d. fields_onto M.Kind.words d (texts_of texts.now))) }
 {
     match texts {
         [] => Ok(Said::Nothing),
@@ -151,9 +153,9 @@ fn line_said<'a, M: PlayModule>(
 where
     M::Kind: ReadKind,
     requires few { length streams.now.entries ≤ MOST_STREAMS }
-    requires known { IsKnown (streams_view streams.now.entries) last.old }
-    ensures known { IsKnown (streams_view streams.now.entries) last.new }
-    ensures said { IfOk result (λ said. Says (streams_view streams.now.entries) (λ d. reading.line_onto M.Kind.words d line.now) said) }
+    requires known { IsKnown (streams_of streams.now) last.old }
+    ensures known { IsKnown (streams_of streams.now) last.new }
+    ensures said { IfOk result (Says (streams_of streams.now) (λ d. line_onto M.Kind.words d line.now)) }
 {
     match fields_in(line, texts) {
         Ok(()) => fields_said(alloc, streams, last, texts.as_slice()),
@@ -172,7 +174,7 @@ fn calls_in<M: PlayModule>(
 where
     M::Kind: ReadKind,
     requires { length streams.now.entries ≤ MOST_STREAMS }
-    ensures { IfOk result (λ found. IfSome found (λ calls. AreCalls M.Kind.words (streams_view streams.now.entries) text.now calls)) }
+    ensures { IfOk result (λ found. IfSome found (AreCalls M.Kind.words (streams_of streams.now) text.now)) }
 {
     let mut calls = Script::new(alloc);
     let mut texts = Vec::new(alloc);
@@ -203,7 +205,7 @@ where
     requires few { length streams.now.entries ≤ MOST_STREAMS }
     requires some { 0 < length section.text.now }
     ensures text { IfOk result (λ read. read.text.now ≡ section.entry.text.now) }
-    ensures section { IfOk result (λ read. IsSection M.Kind.words (streams_view streams.now.entries) read) }
+    ensures section { IfOk result (IsSection M.Kind.words (streams_of streams.now)) }
 {
     let text = section.text;
     let (_, rest) = first_line(text);
@@ -235,9 +237,9 @@ where
     M::Kind: ReadKind + Send + Sync,
     requires threads { 0 < threads }
     requires few { length streams.now.entries ≤ MOST_STREAMS }
-    ensures whole { IfOk result (λ all. flat_map (λ section. section.text.now) all.items ≡ text.now) }
-    ensures lines { IfOk result (λ all. flat_map (λ section. lines section.text.now) all.items ≡ lines text.now) }
-    ensures sections { IfOk result (λ all. All (IsSection M.Kind.words (streams_view streams.now.entries)) all.items) }
+    ensures whole { IfOk result (λ all. whole_text all.items ≡ text.now) }
+    ensures lines { IfOk result (λ all. whole_lines all.items ≡ lines text.now) }
+    ensures sections { IfOk result (λ all. All (IsSection M.Kind.words (streams_of streams.now)) all.items) }
 {
     let jobs = sections(alloc, text)?;
     let read = parallel_map(
@@ -249,7 +251,7 @@ where
             requires few { length streams.now.entries ≤ MOST_STREAMS }
             requires some { 0 < length job.text.now }
             ensures text { IfOk result (λ read. read.text.now ≡ job.entry.text.now) }
-            ensures section { IfOk result (λ read. IsSection M.Kind.words (streams_view streams.entry.now.entries) read) }
+            ensures section { IfOk result (IsSection M.Kind.words (streams_of streams.entry.now)) }
         { read_section(alloc, streams, job) },
     )?;
     all_read(alloc, read)

@@ -1,6 +1,7 @@
 //! The fields of a stream line.
-ghost use Rattle.std.specs.Prelude.{◌≡◌, map};
+ghost use Rattle.std.specs.Prelude.{◌≡◌};
 ghost use Rattle.strm_script_parse.specs.Reading as reading;
+ghost use Rattle.strm_script_text.specs.Text.{texts_of};
 ghost use Rattle.strm_script_words.specs.Fault.{Tells};
 
 use strm_head_calls::{MOST_RING, Setup};
@@ -40,7 +41,7 @@ fn ring_at(text: &[u8]) -> Result<u16, Cause>
 
 /// The ring of a line or a wire. The other drivers have none.
 fn rings_at(driver: Driver, texts: &[&[u8]]) -> Result<u16, Cause>
-    ensures { Tells (λ ring. ring) result (reading.rings_at driver (map (λ text. text.now) texts.now)) }
+    ensures { Tells (λ ring. ring) result (reading.rings_at driver (texts_of texts.now)) }
 {
     match texts {
         [ring] if driver.is_line() => ring_at(ring),
@@ -52,7 +53,7 @@ fn rings_at(driver: Driver, texts: &[&[u8]]) -> Result<u16, Cause>
 /// The setup of a stream of this driver, by the fields behind it.
 #[tactic(auto, unfolding(crate::specs::Reading::setup_at))]
 pub(crate) fn setup_at(driver: Driver, texts: &[&[u8]]) -> Result<Setup, Cause>
-    ensures { Tells (λ setup. setup) result (reading.setup_at driver (map (λ text. text.now) texts.now)) }
+    ensures { Tells (λ setup. setup) result (reading.setup_at driver (texts_of texts.now)) }
 {
     let [head, drv, texts @ ..] = texts else {
         return Err(Cause::Fields);

@@ -1,6 +1,6 @@
 //! NAME:END, the stream and the end of a call.
 ghost use Rattle.std.specs.Prelude.{◌≡◌, ◌≤◌, length};
-ghost use Rattle.strm_script_parse.specs.Plan.{streams_view};
+ghost use Rattle.strm_script_parse.specs.Plan.{streams_of};
 ghost use Rattle.strm_script_parse.specs.Targets as targets;
 ghost use Rattle.strm_script_parse.specs.Last.{IsKnown};
 ghost use Rattle.strm_script_parse.specs.declared.draft.TheConstants.{MOST_STREAMS};
@@ -27,7 +27,7 @@ fn end_of(driver: Driver, text: &[u8]) -> Option<End>
 /// The number and the driver of the stream of this name; nothing if there is none.
 fn stream_of(streams: &IndexMap<Name, Setup>, wanted: &Name) -> Option<(u32, Driver)>
     requires { length streams.now.entries ≤ MOST_STREAMS }
-    ensures { result ≡ targets.stream_of (streams_view streams.now.entries) wanted.now.items }
+    ensures { result ≡ targets.stream_of (streams_of streams.now) wanted.now.items }
 {
     let (number, _, setup) = streams.get_full(wanted)?;
     Some((number as u32, setup.driver))
@@ -42,9 +42,9 @@ pub(crate) fn stream_at(
     text: &[u8],
 ) -> Option<(u32, Driver)>
     requires few { length streams.now.entries ≤ MOST_STREAMS }
-    requires known { IsKnown (streams_view streams.now.entries) last.old }
-    ensures stream { result ≡ targets.stream_at (streams_view streams.now.entries) text.now }
-    ensures known { IsKnown (streams_view streams.now.entries) last.new }
+    requires known { IsKnown (streams_of streams.now) last.old }
+    ensures stream { result ≡ targets.stream_at (streams_of streams.now) text.now }
+    ensures known { IsKnown (streams_of streams.now) last.new }
 {
     if let Some(found) = last {
         if is_same_word(found.name.as_slice(), text) {
@@ -68,9 +68,9 @@ pub(crate) fn target_of(
     text: &[u8],
 ) -> Option<(u32, End)>
     requires few { length streams.now.entries ≤ MOST_STREAMS }
-    requires known { IsKnown (streams_view streams.now.entries) last.old }
-    ensures target { result ≡ targets.target_of (streams_view streams.now.entries) text.now }
-    ensures known { IsKnown (streams_view streams.now.entries) last.new }
+    requires known { IsKnown (streams_of streams.now) last.old }
+    ensures target { result ≡ targets.target_of (streams_of streams.now) text.now }
+    ensures known { IsKnown (streams_of streams.now) last.new }
 {
     let (name, end) = split_once(text, b':')?;
     let (number, driver) = stream_at(streams, last, name)?;

@@ -20,9 +20,11 @@ use Rattle.strm_script_words.specs.Table.{asked_of, word_of}
 use Rattle.strm_script_print.specs.declared.field.Field as printed
 use Rattle.strm_script_print.specs.declared.line_buffer.LineBuffer.{LineBuffer}
 use Rattle.strm_script_print.specs.Fields.{KindSpelling, fields_of, said, spaced, fields_text, verb_of}
-use Rattle.strm_script_print.specs.Lines.{call_text, end_word, entries_text, entry_text}
+use Rattle.strm_script_print.specs.Lines.{call_text, entries_text, entry_text, target_field}
 use Rattle.strm_script_print.specs.Replies.{list_fields, name_fields}
 use Rattle.strm_script_print.specs.LineBuffer.{IsEmptyBuffer, KeepsError, with_buffered, BufferAppends, IsFlushed}
+
+-- ---- the error that is kept
 
 same_error : (before after : Option Error) → after ≡ before → IfSome before (λ error. after ≡ Some error)
 same_error None after is = tt
@@ -35,6 +37,8 @@ error_stays (Some error) between after one other = subst (λ (mid : Option Error
 no_error : (before after : Option Error) → before ≡ None → IfSome before (λ error. after ≡ Some error)
 no_error None after none = tt
 no_error (Some error) after none = absurd cc
+
+-- ---- texts, one behind another
 
 -- what the first put, and then what the second put
 pub puts_then : (before between after : Option (List ℕ)) (old mid new : LineBuffer) (first second : List ℕ) → BufferAppends before between old mid first → BufferAppends between after mid new second → BufferAppends before after old new (first ++ second)
@@ -62,6 +66,12 @@ puts_nothing before old = record {
   puts = λ none. nothing_more (with_buffered before old);
   keeps = same_error old.refused old.refused refl;
 }
+
+pub ruleset puts = (puts_then, puts_nothing, append-nil)
+
+pub ruleset puts_on = (puts, append_assoc)
+
+-- ---- bytes that are gathered, and bytes that are written
 
 more_gathered : (known : Option (List ℕ)) (items more bytes : List ℕ) → more ≡ items ++ bytes → Appends (append_known known items) (append_known known more) bytes
 more_gathered None items more bytes is = tt
@@ -111,14 +121,12 @@ unfolding BufferAppends
 finished before between after fresh last text is puts none written =
     last_written before between after fresh.bytes.items last.bytes.items text is.bytes (puts.puts none) written
 
-pub ruleset puts = (puts_then, puts_nothing, append-nil)
-
-pub ruleset puts_on = (puts, append_assoc)
-
 -- what a success leaves
 pub ok_leaves : {T E P : Type 0} (r : Result T E) → IsOk r → OnOk r P → P
 ok_leaves (Ok x) is leaves = leaves
 ok_leaves (Err e) is leaves = absurd cc
+
+-- ---- fields, names and steps
 
 -- a number of one digit
 pub digit_is : (n : ℕ) → n < 10 → (48 + n) ∷ [] ≡ decimal n
@@ -126,7 +134,7 @@ digit_is n below =
     decimal_by_steps (λ m digits. m < 10 → (48 + m) ∷ [] ≡ digits) (λ m few under. refl) (λ m digits above was under. absurd (omega arith)) n (omega arith) below
 
 -- one element more
-one_more : {X : Type 0} (xs : List X) (left : ℕ) (x : X) → left < length xs → x ≡ get_or xs left x → take (left + 1) xs ≡ take left xs ++ x ∷ []
+pub one_more : {X : Type 0} (xs : List X) (left : ℕ) (x : X) → left < length xs → x ≡ get_or xs left x → take (left + 1) xs ≡ take left xs ++ x ∷ []
 one_more xs left x within is = take_more xs left x within ∙ ap (λ last. take left xs ++ last ∷ []) (sym is)
 
 spaced_more : {X : Type 0} (field : X → Field) (xs : List X) (left : ℕ) (x : X) → take (left + 1) xs ≡ take left xs ++ x ∷ [] → spaced (map field (take (left + 1) xs)) ≡ spaced (map field (take left xs)) ++ spaced (field x ∷ [])
@@ -160,11 +168,11 @@ pair_put c0 c1 c2 c3 o0 o1 o2 o3 high low one stroke other =
     puts_as c0 c2 c3 o0 o2 o3 (spaced (Number high ∷ []) ++ 47 ∷ []) (decimal low) (spaced (Pair high low ∷ [])) front other (simp (append-nil, append_assoc))
 
 -- the word of a call, NAME:END, and its fields
-pub call_put : {K : Type 0} (spelling : KindSpelling K) (c0 c1 c2 c3 : Option (List ℕ)) (o0 o1 o2 o3 : LineBuffer) (word stream : List ℕ) (at_end : End) (request : Request (Shape K)) → word ≡ word_of (verb_of (asked_of request)) → BufferAppends c0 c1 o0 o1 (spaced (Word word ∷ [])) → BufferAppends c1 c2 o1 o2 (spaced (Word (stream ++ 58 ∷ end_word at_end) ∷ [])) → BufferAppends c2 c3 o2 o3 (spaced (fields_of spelling (asked_of request))) → BufferAppends c0 c3 o0 o3 (call_text spelling stream at_end request)
+pub call_put : {K : Type 0} (spelling : KindSpelling K) (c0 c1 c2 c3 : Option (List ℕ)) (o0 o1 o2 o3 : LineBuffer) (word stream : List ℕ) (at_end : End) (request : Request (Shape K)) → word ≡ word_of (verb_of (asked_of request)) → BufferAppends c0 c1 o0 o1 (spaced (Word word ∷ [])) → BufferAppends c1 c2 o1 o2 (spaced (target_field stream at_end ∷ [])) → BufferAppends c2 c3 o2 o3 (spaced (fields_of spelling (asked_of request))) → BufferAppends c0 c3 o0 o3 (call_text spelling stream at_end request)
 unfolding call_text
 call_put spelling c0 c1 c2 c3 o0 o1 o2 o3 word stream at_end request is verb target fields =
-    let target_text = spaced (Word (stream ++ 58 ∷ end_word at_end) ∷ []) in
-    let whole : spaced (Word word ∷ []) ++ target_text ≡ spaced (Word (word_of (verb_of (asked_of request))) ∷ Word (stream ++ 58 ∷ end_word at_end) ∷ []) =
+    let target_text = spaced (target_field stream at_end ∷ []) in
+    let whole : spaced (Word word ∷ []) ++ target_text ≡ spaced (Word (word_of (verb_of (asked_of request))) ∷ target_field stream at_end ∷ []) =
     ap (λ (front : List ℕ). 32 ∷ (front ++ target_text)) (append-nil word ∙ is) in
     puts_then c0 c2 c3 o0 o2 o3 _ (spaced (fields_of spelling (asked_of request))) (puts_as c0 c1 c2 o0 o1 o2 (spaced (Word word ∷ [])) target_text _ verb target whole) fields
 

@@ -7,7 +7,7 @@ use Rattle.std.proofs.lemmas.Bool.{le-leb, and_from}
 use Rattle.std.proofs.lemmas.Bool.Decides.{nat_tests}
 use Rattle.std.proofs.lemmas.Fmt.{decimal_by_steps, decimal_nonempty, length-decimal-le}
 use Rattle.strm_script_text.specs.Bytes.{is_digit}
-use Rattle.strm_script_text.specs.Text.{number_from, number_of}
+use Rattle.strm_script_text.specs.Text.{limited, number_from, number_of}
 use Rattle.strm_script_text.specs.Spelling.{part_text}
 use Rattle.strm_script_text.proofs.ReadBackLemmas.{read_back}
 use Rattle.strm_script_words.specs.Fault.{◌>>=◌, or_fault}
@@ -53,16 +53,13 @@ more_digits n digits above is =
 digits_back : (n : ℕ) → n < 2 ^ 64 → number_from 0 (decimal n) ≡ Some n
 digits_back n below = decimal_by_steps IsBack one_digit more_digits n below
 
-abbrev limit : ℕ → ℕ → Option ℕ
-limit most value = cond (nat_le value most) (Some value) None
-
 -- a number that is printed is read
 number_back : (most n : ℕ) → n ≤ most → n < 2 ^ 64 → number_of most (decimal n) ≡ Some n
 number_back most n within below =
     let some : nat_le 1 (length (decimal n)) ≡ true = le-leb _ _ (decimal_nonempty n below) in
     let few : nat_le (length (decimal n)) 20 ≡ true = le-leb _ _ (length-decimal-le 20 n (omega arith) (omega (arith, below)) below) in
-    ap (λ (b : Bool). cond b (option_and_then (limit most) (number_from 0 (decimal n))) None) (and_from _ _ some few)
-    ∙ ap (option_and_then (limit most)) (digits_back n below)
+    ap (λ (b : Bool). cond b (option_and_then (limited most) (number_from 0 (decimal n))) None) (and_from _ _ some few)
+    ∙ ap (option_and_then (limited most)) (digits_back n below)
     ∙ ap (λ (b : Bool). cond b (Some n) None) (le-leb _ _ within)
 
 number_read : (most n : ℕ) → n ≤ most → n < 2 ^ 64 → number_at most (decimal n) ≡ Ok n

@@ -9,7 +9,7 @@ use Rattle.strm_shared_entry.specs.declared.transcript.StreamLog.{StreamLog}
 use Rattle.strm_script_parse.specs.Plan.{NamesValue, Streams}
 use Rattle.strm_script_print.specs.Fields.{KindSpelling}
 use Rattle.strm_script_print.specs.Lines.{found_text, numbered_text, stream_text, streams_text, transcript_text}
-use Rattle.strm_script_print.specs.Sharing.{AreLines, AreNumbered, joined}
+use Rattle.strm_script_print.specs.Sharing.{AreLines, AreLinesOf, AreNumbered, joined}
 
 -- what stands second in each pair, where it is that of the other list at each place
 same_again : {R L : Type 0} (made : List (R × L)) (logs : List L) → length made ≡ length logs → ((k : ℕ) (d : R × L) (log : L) → k < length logs → (get_or made k d).1 ≡ get_or logs k log) → map (λ one. one.1) made ≡ logs
@@ -28,7 +28,7 @@ Made K = Result (Vec ℕ Global) NoMem × StreamLog K
 pub record IsMade {K : Type 0} (spelling : KindSpelling K) (names : NamesValue) (jobs : List (ℕ × StreamLog K)) (k : ℕ) (one : Made K) : Type 0 where
   pub job : ℕ × StreamLog K
   pub job_is : (d : ℕ × StreamLog K) → get_or jobs k d ≡ job
-  pub text : IfOk one.0 (λ text. text.items ≡ numbered_text spelling names job.0 job.1)
+  pub text : IfOk one.0 (AreLinesOf spelling names job.0 job.1)
   pub log : one.1 ≡ job.1
 
 module _ {K : Type 0} (spelling : KindSpelling K) (names : NamesValue) (logs : List (StreamLog K)) (jobs : List (ℕ × StreamLog K)) (made : List (Made K)) (numbered : AreNumbered logs jobs) (many : length made ≡ length jobs) (each : (k : ℕ) (d : Made K) → k < length jobs → IsMade spelling names jobs k (get_or made k d)) where
@@ -49,7 +49,7 @@ module _ {K : Type 0} (spelling : KindSpelling K) (names : NamesValue) (logs : L
             let under : k < length jobs = omega (arith, below, numbered.many) in
             let one = each k other under in
             let is : (get_or made k other).0 ≡ Ok (get_or all k d) = sym (get_or-map first made k other) ∙ ap (λ l. get_or l k (Ok d)) (sym are) ∙ get_or-map ok all k d in
-            let text = subst (λ (r : Result (Vec ℕ Global) NoMem). IfOk r (λ text. text.items ≡ numbered_text spelling names one.job.0 one.job.1)) is one.text in
+            let text = subst (λ (r : Result (Vec ℕ Global) NoMem). IfOk r (AreLinesOf spelling names one.job.0 one.job.1)) is one.text in
             text ∙ ap (λ (j : ℕ × StreamLog K). numbered_text spelling names j.0 j.1) (sym (its_job k other log under));
       }
 

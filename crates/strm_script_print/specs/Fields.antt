@@ -1,6 +1,6 @@
 -- The printed fields of calls, of modules and of messages. A script is read by the same words and fields of
 -- calls.
-use Rattle.std.specs.Prelude.{ℕ, ◌==◌, not, Bool, false, if◌then◌else◌, List, [], ◌∷◌, ◌++◌, map, filter, slice_index, Option, Some, None, codes}
+use Rattle.std.specs.Prelude.{ℕ, ◌==◌, not, Bool, true, false, if◌then◌else◌, List, [], ◌∷◌, ◌++◌, map, filter, slice_index, Option, Some, None, codes}
 use Rattle.std.specs.List.{flat_map, range_with_len}
 use Rattle.std.specs.Fmt.{decimal}
 use Rattle.std.specs.Str.{bytes_eq}
@@ -12,6 +12,7 @@ use Rattle.strm_msg.specs.declared.kind.MsgKind.TheVariants.{MData, MProto, MPcp
 use Rattle.strm_msg.specs.Marks.{WaterMarks}
 use Rattle.strm_module.specs.declared.kind.Kind.{Kind}
 use Rattle.strm_module.specs.declared.shape.Shape.{Shape}
+use Rattle.strm_head_calls.specs.declared.request.Request.{Request}
 use Rattle.strm_script_text.specs.Spelling.{part_text}
 use Rattle.strm_script_words.specs.Words.{mode_word, prot_word, flush_word}
 use Rattle.strm_script_words.specs.Field.{Field, Bytes, Number, Pair, Word, part_field}
@@ -103,6 +104,12 @@ verb_of (Pushed shape) = Verb.Push
 abbrev pub fields_of : {K : Type 0} → KindSpelling K → Asked K → List Field
 fields_of spelling (Told verb fields) = fields
 fields_of spelling (Pushed shape) = push_fields spelling shape
+
+-- whether it is a read or a write (no public clause cites it)
+abbrev pub is_read_or_write : {X : Type 0} → Request X → Bool
+is_read_or_write (Request.Read max) = true
+is_read_or_write (Request.Write dat) = true
+is_read_or_write request = false
 
 -- ---- messages that came in
 

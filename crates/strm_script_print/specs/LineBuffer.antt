@@ -1,6 +1,8 @@
 -- A buffer of printed text, which is written when it is full. No public clause cites these words.
-use Rattle.std.specs.Prelude.{◌≡◌, ℕ, List, [], Option, None, Some, IfSome}
+use Rattle.std.specs.Prelude.{◌≡◌, ℕ, List, [], Option, None, Some, Result, IfSome, OnOk}
 use Rattle.std.specs.Io.KnownBytes.{Appends, append_known}
+use Rattle.strm_script_words.specs.Field.{Field}
+use Rattle.strm_script_print.specs.Fields.{spaced}
 use Rattle.strm_script_print.specs.declared.line_buffer.LineBuffer.{LineBuffer}
 
 -- nothing is gathered, and nothing was refused
@@ -25,6 +27,19 @@ pub record BufferAppendsText (before after : Option (List ℕ)) (old new : LineB
 -- first error stays
 unfoldable pub BufferAppends : Option (List ℕ) → Option (List ℕ) → LineBuffer → LineBuffer → List ℕ → Type 0
 BufferAppends before after old new text = BufferAppendsText before after old new text
+
+-- the same of a writer; `contents` says which bytes it has, where that is known
+abbrev pub Adds : {W : Type 0} → (W → Option (List ℕ)) → W → W → LineBuffer → LineBuffer → List ℕ → Type 0
+Adds contents before after old new text = BufferAppends (contents before) (contents after) old new text
+
+-- the same for fields, each behind a space
+abbrev pub AddsFields : {W : Type 0} → (W → Option (List ℕ)) → W → W → LineBuffer → LineBuffer → List Field → Type 0
+AddsFields contents before after old new fields = Adds contents before after old new (spaced fields)
+
+-- what was added to an empty buffer is written, unless the writer refuses or did before
+abbrev pub WritesGathered : {T E : Type 0} → Option (List ℕ) → Option (List ℕ) → LineBuffer → Result T E → Type 0
+WritesGathered between after out result =
+    (before : Option (List ℕ)) (fresh : LineBuffer) (text : List ℕ) → IsEmptyBuffer fresh → BufferAppends before between fresh out text → OnOk result (Appends before after text)
 
 -- all the gathered bytes are written, and nothing was refused so far
 pub record IsFlushed (before after : Option (List ℕ)) (old new : LineBuffer) : Type 0 where

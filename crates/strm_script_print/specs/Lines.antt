@@ -37,10 +37,14 @@ abbrev pub who_text : List (List ℕ) → Who → List ℕ
 who_text processes (whos.Caller n) = name_at processes n
 who_text processes whos.Line = codes "line"
 
+-- the field NAME:END
+abbrev pub target_field : List ℕ → End → Field
+target_field stream at_end = Word (stream ++ 58 ∷ end_word at_end)
+
 -- the text of a call: ` VERB NAME:END FIELDS`
 unfoldable pub call_text : {K : Type 0} → KindSpelling K → List ℕ → End → Request (Shape K) → List ℕ
 call_text spelling stream at_end request =
-    spaced (Word (word_of (verb_of (asked_of request))) ∷ Word (stream ++ 58 ∷ end_word at_end) ∷ []) ++ spaced (fields_of spelling (asked_of request))
+    spaced (Word (word_of (verb_of (asked_of request))) ∷ target_field stream at_end ∷ []) ++ spaced (fields_of spelling (asked_of request))
 
 -- the text of an event: the call, or the message that came in
 abbrev pub event_text : {K : Type 0} → KindSpelling K → List ℕ → End → Event (Shape K) → List ℕ
@@ -81,10 +85,14 @@ counts_text log = spaced (count_fields log)
 unfoldable pub feed_text : {K : Type 0} → Driver → StreamLog K → List ℕ
 feed_text driver log = if is_line driver then codes "feed" ++ counts_text log ++ 10 ∷ [] else []
 
+-- the first line of a stream: `stream NAME`
+abbrev pub heading_text : List ℕ → List ℕ
+heading_text name = codes "stream" ++ spaced (Word name ∷ []) ++ 10 ∷ []
+
 -- the lines of a stream
 unfoldable pub stream_text : {K : Type 0} → KindSpelling K → List (List ℕ) → List ℕ → Setup → StreamLog K → List ℕ
 stream_text spelling processes name setup log =
-    codes "stream" ++ spaced (Word name ∷ []) ++ (10 ∷ []) ++ entries_text spelling processes name log.history.items ++ end_text A log.a ++ far_end_text setup.driver log.b ++ feed_text setup.driver log
+    heading_text name ++ entries_text spelling processes name log.history.items ++ end_text A log.a ++ far_end_text setup.driver log.b ++ feed_text setup.driver log
 
 -- the lines of a stream, if there is one (no public clause cites them)
 abbrev pub found_text : {K : Type 0} → KindSpelling K → List (List ℕ) → Option (List ℕ × Setup) → StreamLog K → List ℕ

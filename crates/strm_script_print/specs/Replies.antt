@@ -114,6 +114,12 @@ reply_fields (Reply.Message m) = message_fields m
 reply_fields Reply.Hangup = Word (message_word MessageWord.Hangup) ∷ []
 reply_fields (Reply.Poll told) = Word (poll_word told) ∷ []
 
+-- whether it is the reply of a read or of a write (no public clause cites it)
+abbrev pub is_read_or_write : Reply → Bool
+is_read_or_write (Reply.Read dat) = true
+is_read_or_write (Reply.Write len) = true
+is_read_or_write reply = false
+
 -- the fields of an answer; a refusal has the name of its errno alone
 abbrev pub answer_fields : Answer → List Field
 answer_fields (Done reply) = reply_fields reply

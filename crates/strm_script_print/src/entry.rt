@@ -1,10 +1,11 @@
 //! The lines of steps.
-ghost use Rattle.std.specs.Prelude.{◌≡◌, ◌∷◌, ◌++◌, [], OnOk, map};
-ghost use Rattle.std.specs.Io.KnownBytes.{Appends};
-ghost use Rattle.strm_script_words.specs.Field.{Word};
-ghost use Rattle.strm_script_print.specs.Fields.{spaced};
-ghost use Rattle.strm_script_print.specs.LineBuffer.{BufferAppends};
+ghost use Rattle.std.specs.Prelude.{◌≡◌, ◌∷◌, []};
+ghost use Rattle.strm_script_text.specs.Text.{name_texts};
+ghost use Rattle.strm_script_text.specs.Writing.{Writes};
+ghost use Rattle.strm_script_print.specs.LineBuffer.{Adds, AddsFields};
 ghost use Rattle.strm_script_print.specs.Lines as text;
+ghost use Rattle.strm_script_print.specs.Lines.{call_text, entries_text, entry_text, event_text};
+ghost use Rattle.strm_script_print.specs.Lines.{target_field, who_text};
 
 use crate::field::add_word;
 use crate::line_buffer::LineBuffer;
@@ -32,7 +33,7 @@ pub fn end_word(end: End) -> &'static [u8]
 
 /// The name of the process of this number; nothing if there is no such process.
 fn name_at(processes: &[Name], number: u32) -> &[u8]
-    ensures { result.now ≡ text.name_at (map (λ name. name.items) processes.now) number }
+    ensures { result.now ≡ text.name_at (name_texts processes.now) number }
 {
     match processes.get(number as usize) {
         Some(name) => name.as_slice(),
@@ -42,7 +43,7 @@ fn name_at(processes: &[Name], number: u32) -> &[u8]
 
 /// Adds the maker of a step: the name of a process, or `line`.
 fn add_who<W: Write>(w: &mut W, out: &mut LineBuffer, processes: &[Name], who: Who)
-    ensures { BufferAppends (W.contents w.old) (W.contents w.new) out.old out.new (text.who_text (map (λ name. name.items) processes.now) who) }
+    ensures { Adds W.contents w.old w.new out.old out.new (who_text (name_texts processes.now) who) }
 {
     match who {
         Who::Caller(number) => out.put(w, name_at(processes, number)),
@@ -53,7 +54,7 @@ fn add_who<W: Write>(w: &mut W, out: &mut LineBuffer, processes: &[Name], who: W
 /// Adds NAME:END.
 #[tactic(auto, using(crate::proofs::GatheredLemmas::puts))]
 fn add_target<W: Write>(w: &mut W, out: &mut LineBuffer, stream: &[u8], end: End)
-    ensures { BufferAppends (W.contents w.old) (W.contents w.new) out.old out.new (spaced (Word (stream.now ++ 58 ∷ text.end_word end) ∷ [])) }
+    ensures { AddsFields W.contents w.old w.new out.old out.new (target_field stream.now end ∷ []) }
 {
     out.put(w, b" ");
     out.put(w, stream);
@@ -69,7 +70,7 @@ fn add_call<W: Write, K: PrintKind + Drop>(
     end: End,
     request: &Request<BoxedShape<K>>,
 )
-    ensures { BufferAppends (W.contents w.old) (W.contents w.new) out.old out.new (text.call_text K.spelling stream.now end request.now) }
+    ensures { Adds W.contents w.old w.new out.old out.new (call_text K.spelling stream.now end request.now) }
 {
     add_word(w, out, verb_of(request).word());
     add_target(w, out, stream, end);
@@ -85,7 +86,7 @@ fn add_event<W: Write, K: PrintKind + Drop>(
     end: End,
     event: &Event<BoxedShape<K>>,
 )
-    ensures { BufferAppends (W.contents w.old) (W.contents w.new) out.old out.new (text.event_text K.spelling stream.now end event.now) }
+    ensures { Adds W.contents w.old w.new out.old out.new (event_text K.spelling stream.now end event.now) }
 {
     match event {
         Event::Asked(request) => add_call(w, out, stream, end, request),
@@ -103,7 +104,7 @@ pub fn put_event<W: Write, K: PrintKind + Drop>(
     end: End,
     event: &Event<BoxedShape<K>>,
 ) -> io::Result<()>
-    ensures { OnOk result (Appends (W.contents w.old) (W.contents w.new) (text.event_text K.spelling stream.now end event.now)) }
+    ensures { Writes W.contents w.old w.new result (event_text K.spelling stream.now end event.now) }
 {
     let mut out = LineBuffer::new();
     add_event(w, &mut out, stream, end, event);
@@ -119,7 +120,8 @@ fn add_entry<W: Write, K: PrintKind + Drop>(
     stream: &[u8],
     entry: &Entry<K>,
 )
-    ensures { BufferAppends (W.contents w.old) (W.contents w.new) out.old out.new (text.entry_text K.spelling (map (λ name. name.items) processes.now) stream.now entry.now) }
+    ensures { Adds W.contents w.old w.new out.old out.new
+        (entry_text K.spelling (name_texts processes.now) stream.now entry.now) }
 {
     add_who(w, out, processes, entry.who());
     add_event(w, out, stream, entry.end(), entry.event());
@@ -135,7 +137,8 @@ fn add_entries<W: Write, K: PrintKind + Drop>(
     stream: &[u8],
     entries: &[Kept<K>],
 )
-    ensures { BufferAppends (W.contents w.old) (W.contents w.new) out.old out.new (text.entries_text K.spelling (map (λ name. name.items) processes.now) stream.now entries.now) }
+    ensures { Adds W.contents w.old w.new out.old out.new
+        (entries_text K.spelling (name_texts processes.now) stream.now entries.now) }
 {
     for kept in entries {
         add_entry(w, out, processes, stream, kept.entry());
@@ -149,7 +152,8 @@ pub(crate) fn put_entries<W: Write, K: PrintKind + Drop>(
     stream: &[u8],
     entries: &[Kept<K>],
 ) -> io::Result<()>
-    ensures { OnOk result (Appends (W.contents w.old) (W.contents w.new) (text.entries_text K.spelling (map (λ name. name.items) processes.now) stream.now entries.now)) }
+    ensures { Writes W.contents w.old w.new result
+        (entries_text K.spelling (name_texts processes.now) stream.now entries.now) }
 {
     let mut out = LineBuffer::new();
     add_entries(w, &mut out, processes, stream, entries);

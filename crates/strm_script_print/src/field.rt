@@ -1,10 +1,10 @@
 //! Fields, each behind a space.
-ghost use Rattle.std.specs.Prelude.{◌≡◌, ◌∷◌, [], OnOk, map};
-ghost use Rattle.std.specs.Io.KnownBytes.{Appends};
+ghost use Rattle.std.specs.Prelude.{◌≡◌, ◌∷◌, [], map};
 ghost use Rattle.std.specs.Fmt.{decimal};
 ghost use Rattle.strm_script_text.specs.Spelling.{part_text};
+ghost use Rattle.strm_script_text.specs.Writing.{Writes};
 ghost use Rattle.strm_script_words.specs.Field as says;
-ghost use Rattle.strm_script_print.specs.LineBuffer.{BufferAppends};
+ghost use Rattle.strm_script_print.specs.LineBuffer.{Adds, AddsFields};
 ghost use Rattle.strm_script_print.specs.Fields.{said, spaced};
 ghost use Rattle.strm_script_print.specs.ReadBack.{FieldsAreReadBack};
 ghost use Rattle.strm_script_print.specs.Replies.{name_fields};
@@ -64,7 +64,7 @@ pub(crate) fn maximum_field<'a>(most: Option<u16>) -> Field<'a>
 
 /// Adds a field behind a space.
 fn add_field<W: Write>(w: &mut W, out: &mut LineBuffer, field: Field<'_>)
-    ensures { BufferAppends (W.contents w.old) (W.contents w.new) out.old out.new (spaced (said field.entry ∷ [])) }
+    ensures { AddsFields W.contents w.old w.new out.old out.new (said field.entry ∷ []) }
 {
     match field {
         Field::Bytes(bytes) => add_part(w, out, bytes),
@@ -77,7 +77,7 @@ fn add_field<W: Write>(w: &mut W, out: &mut LineBuffer, field: Field<'_>)
 /// Adds fields, each behind a space.
 #[tactic(auto, using(crate::proofs::GatheredLemmas::puts_nothing, crate::proofs::GatheredLemmas::field_put))]
 pub(crate) fn add_all<W: Write>(w: &mut W, out: &mut LineBuffer, fields: &[Field<'_>])
-    ensures { BufferAppends (W.contents w.old) (W.contents w.new) out.old out.new (spaced (map said fields.now)) }
+    ensures { AddsFields W.contents w.old w.new out.old out.new (map said fields.now) }
 {
     for field in fields {
         add_field(w, out, *field);
@@ -87,7 +87,7 @@ pub(crate) fn add_all<W: Write>(w: &mut W, out: &mut LineBuffer, fields: &[Field
 /// Adds a word behind a space.
 #[tactic(auto, using(crate::proofs::GatheredLemmas::puts))]
 pub(crate) fn add_word<W: Write>(w: &mut W, out: &mut LineBuffer, word: &[u8])
-    ensures { BufferAppends (W.contents w.old) (W.contents w.new) out.old out.new (spaced (says.Word word.now ∷ [])) }
+    ensures { AddsFields W.contents w.old w.new out.old out.new (says.Word word.now ∷ []) }
 {
     out.put(w, b" ");
     out.put(w, word);
@@ -95,7 +95,7 @@ pub(crate) fn add_word<W: Write>(w: &mut W, out: &mut LineBuffer, word: &[u8])
 
 /// Writes bytes as a PART behind the gathered text.
 fn add_long_part<W: Write>(w: &mut W, out: &mut LineBuffer, bytes: &[u8])
-    ensures { BufferAppends (W.contents w.old) (W.contents w.new) out.old out.new (part_text bytes.now) }
+    ensures { Adds W.contents w.old w.new out.old out.new (part_text bytes.now) }
 {
     if out.flush(w) {
         out.keep_error(write_part(w, bytes));
@@ -106,7 +106,7 @@ fn add_long_part<W: Write>(w: &mut W, out: &mut LineBuffer, bytes: &[u8])
 #[tactic(auto, using(crate::proofs::GatheredLemmas::puts, strm_script_text::proofs::RunLemmas::plain_spelt))]
 #[inline(always)]
 pub(crate) fn add_part<W: Write>(w: &mut W, out: &mut LineBuffer, bytes: &[u8])
-    ensures { BufferAppends (W.contents w.old) (W.contents w.new) out.old out.new (spaced (says.Bytes bytes.now ∷ [])) }
+    ensures { AddsFields W.contents w.old w.new out.old out.new (says.Bytes bytes.now ∷ []) }
 {
     if bytes.len() <= SHORT && are_plain(bytes) {
         out.put(w, b" =");
@@ -120,7 +120,7 @@ pub(crate) fn add_part<W: Write>(w: &mut W, out: &mut LineBuffer, bytes: &[u8])
 /// Adds the digits of a number.
 #[inline(always)]
 fn add_digits<W: Write>(w: &mut W, out: &mut LineBuffer, n: u64)
-    ensures { BufferAppends (W.contents w.old) (W.contents w.new) out.old out.new (decimal n) }
+    ensures { Adds W.contents w.old w.new out.old out.new (decimal n) }
 {
     if n < 10 {
         return out.put(w, &[b'0' + n as u8]);
@@ -133,7 +133,7 @@ fn add_digits<W: Write>(w: &mut W, out: &mut LineBuffer, n: u64)
 #[tactic(auto, using(crate::proofs::GatheredLemmas::puts))]
 #[inline(always)]
 pub(crate) fn add_number<W: Write>(w: &mut W, out: &mut LineBuffer, n: u64)
-    ensures { BufferAppends (W.contents w.old) (W.contents w.new) out.old out.new (spaced (says.Number n ∷ [])) }
+    ensures { AddsFields W.contents w.old w.new out.old out.new (says.Number n ∷ []) }
 {
     out.put(w, b" ");
     add_digits(w, out, n);
@@ -142,7 +142,7 @@ pub(crate) fn add_number<W: Write>(w: &mut W, out: &mut LineBuffer, n: u64)
 /// Adds two numbers with a stroke between them.
 #[tactic(auto, using(crate::proofs::GatheredLemmas::pair_put))]
 fn add_pair<W: Write>(w: &mut W, out: &mut LineBuffer, high: u32, low: u32)
-    ensures { BufferAppends (W.contents w.old) (W.contents w.new) out.old out.new (spaced (says.Pair high low ∷ [])) }
+    ensures { AddsFields W.contents w.old w.new out.old out.new (says.Pair high low ∷ []) }
 {
     add_number(w, out, u64::from(high));
     out.put(w, b"/");
@@ -152,7 +152,7 @@ fn add_pair<W: Write>(w: &mut W, out: &mut LineBuffer, high: u32, low: u32)
 /// Adds names, one after another.
 #[tactic(auto, using(crate::proofs::GatheredLemmas::puts_nothing, crate::proofs::GatheredLemmas::name_put))]
 pub(crate) fn add_names<W: Write>(w: &mut W, out: &mut LineBuffer, names: &[Name])
-    ensures { BufferAppends (W.contents w.old) (W.contents w.new) out.old out.new (spaced (name_fields names.now)) }
+    ensures { AddsFields W.contents w.old w.new out.old out.new (name_fields names.now) }
 {
     for name in names {
         add_word(w, out, name.as_slice());
@@ -162,7 +162,7 @@ pub(crate) fn add_names<W: Write>(w: &mut W, out: &mut LineBuffer, names: &[Name
 /// Writes a word behind a space. Refused if the writer refuses, with its error.
 #[tactic(auto, using(strm_script_text::proofs::WriteLemmas::appends_then))]
 pub fn put_word<W: Write>(w: &mut W, word: &[u8]) -> io::Result<()>
-    ensures { OnOk result (Appends (W.contents w.old) (W.contents w.new) (spaced (says.Word word.now ∷ []))) }
+    ensures { Writes W.contents w.old w.new result (spaced (says.Word word.now ∷ [])) }
 {
     w.write_all(b" ")?;
     w.write_all(word)
@@ -171,7 +171,7 @@ pub fn put_word<W: Write>(w: &mut W, word: &[u8]) -> io::Result<()>
 /// Writes bytes as a PART behind a space. Refused if the writer refuses, with its error.
 #[tactic(auto, using(strm_script_text::proofs::WriteLemmas::appends_then))]
 pub fn put_part<W: Write>(w: &mut W, bytes: &[u8]) -> io::Result<()>
-    ensures { OnOk result (Appends (W.contents w.old) (W.contents w.new) (spaced (says.Bytes bytes.now ∷ []))) }
+    ensures { Writes W.contents w.old w.new result (spaced (says.Bytes bytes.now ∷ [])) }
 {
     w.write_all(b" ")?;
     write_part(w, bytes)
@@ -180,7 +180,7 @@ pub fn put_part<W: Write>(w: &mut W, bytes: &[u8]) -> io::Result<()>
 /// Writes a number behind a space. Refused if the writer refuses, with its error.
 #[tactic(auto, using(strm_script_text::proofs::WriteLemmas::appends_then))]
 pub fn put_number<W: Write>(w: &mut W, n: u64) -> io::Result<()>
-    ensures { OnOk result (Appends (W.contents w.old) (W.contents w.new) (spaced (says.Number n ∷ []))) }
+    ensures { Writes W.contents w.old w.new result (spaced (says.Number n ∷ [])) }
 {
     let mut digits = Buffer::new();
     w.write_all(b" ")?;

@@ -1,7 +1,7 @@
 //! A buffer of printed text, which is written when it is full.
-ghost use Rattle.std.specs.Prelude.{◌≡◌, ℕ, List, None, Option, Some, false, true, IfErr, IfSome, IsErrOf, IsOk, OnOk};
-ghost use Rattle.std.specs.Io.KnownBytes.{Appends};
-ghost use Rattle.strm_script_print.specs.LineBuffer.{IsFlushed, IsEmptyBuffer, KeepsError, BufferAppends};
+ghost use Rattle.std.specs.Prelude.{◌≡◌, None, Some, false, true, IfErr, IfSome, IsErrOf, IsOk};
+ghost use Rattle.strm_script_print.specs.LineBuffer.{Adds, IsEmptyBuffer, IsFlushed, KeepsError};
+ghost use Rattle.strm_script_print.specs.LineBuffer.{WritesGathered};
 
 use arrayvec::ArrayVec;
 use std::io::{self, Error, Write};
@@ -66,7 +66,7 @@ impl LineBuffer {
     #[cold]
     #[inline(never)]
     fn flush_and_put<W: Write>(&mut self, w: &mut W, bytes: &[u8])
-        ensures { BufferAppends (W.contents w.old) (W.contents w.new) self.old self.new bytes.now }
+        ensures { Adds W.contents w.old w.new self.old self.new bytes.now }
     {
         if self.flush(w) {
             self.keep_error(w.write_all(bytes));
@@ -76,7 +76,7 @@ impl LineBuffer {
     /// Gathers bytes. If there is no room for them, all is written.
     #[inline(always)]
     pub(crate) fn put<W: Write>(&mut self, w: &mut W, bytes: &[u8])
-        ensures { BufferAppends (W.contents w.old) (W.contents w.new) self.old self.new bytes.now }
+        ensures { Adds W.contents w.old w.new self.old self.new bytes.now }
     {
         match self.bytes.try_extend_from_slice(bytes) {
             Ok(()) => {}
@@ -86,7 +86,7 @@ impl LineBuffer {
 
     /// Writes the rest of the gathered text. Refused if the writer refuses, or did before, with its error.
     pub(crate) fn finish<W: Write>(self, w: &mut W) -> io::Result<()>
-        ensures text { (before : Option (List ℕ)) (fresh : LineBuffer) (text : List ℕ) → IsEmptyBuffer fresh → BufferAppends before (W.contents w.old) fresh self text → OnOk result (Appends before (W.contents w.new) text) }
+        ensures text { WritesGathered (W.contents w.old) (W.contents w.new) self result }
         ensures error { IfSome self.refused (λ error. IsErrOf result error) }
     {
         let LineBuffer { bytes, refused } = self;

@@ -3,7 +3,7 @@ ghost use Rattle.std.specs.Prelude.{◌≡◌};
 ghost use Rattle.strm_msg.specs.Text.{name_of};
 ghost use Rattle.strm_script_words.specs.Words as words;
 ghost use Rattle.strm_script_print.specs.Fields as text;
-ghost use Rattle.strm_script_print.specs.LineBuffer.{BufferAppends};
+ghost use Rattle.strm_script_print.specs.LineBuffer.{AddsFields};
 
 use crate::field::Field::{Number, Pair, Word};
 use crate::field::{Field, add_all, part_field};
@@ -14,7 +14,8 @@ use strm_script_words::{Keyword, MessageWord, Verb};
 
 /// Adds a flush of all bands, or of one.
 fn add_flush<W: Write>(w: &mut W, out: &mut LineBuffer, band: Option<u8>, read: bool, write: bool)
-    ensures { BufferAppends (W.contents w.old) (W.contents w.new) out.old out.new (text.spaced (text.flush_fields band (words.flush_word read write))) }
+    ensures { AddsFields W.contents w.old w.new out.old out.new
+        (text.flush_fields band (words.flush_word read write)) }
 {
     let flags = Word((read, write).word());
     match band {
@@ -78,7 +79,7 @@ fn errno_field<'a>(errno: Option<Errno>) -> Field<'a>
 
 /// Adds an error: one for both sides if it is the same, else that of each.
 fn add_error<W: Write>(w: &mut W, out: &mut LineBuffer, rd: Option<Errno>, wr: Option<Errno>)
-    ensures { BufferAppends (W.contents w.old) (W.contents w.new) out.old out.new (text.spaced (text.error_fields rd wr)) }
+    ensures { AddsFields W.contents w.old w.new out.old out.new (text.error_fields rd wr) }
 {
     if is_one_error(rd, wr) {
         return add_all(w, out, &[Word(MessageWord::Error.word()), errno_field(rd)]);
@@ -90,7 +91,7 @@ fn add_error<W: Write>(w: &mut W, out: &mut LineBuffer, rd: Option<Errno>, wr: O
 /// Adds a message as a feed has it.
 #[tactic(auto, using(crate::proofs::GatheredLemmas::puts_nothing))]
 pub(crate) fn add_message<W: Write>(w: &mut W, out: &mut LineBuffer, m: &Message)
-    ensures { BufferAppends (W.contents w.old) (W.contents w.new) out.old out.new (text.spaced (text.message_fields m.now)) }
+    ensures { AddsFields W.contents w.old w.new out.old out.new (text.message_fields m.now) }
 {
     let (band, ctl, dat) = (
         Number(u64::from(m.band)),

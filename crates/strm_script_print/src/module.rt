@@ -1,8 +1,9 @@
 //! The printed modules of pushes.
-ghost use Rattle.std.specs.Prelude.{◌≡◌, [], OnOk};
-ghost use Rattle.std.specs.Io.KnownBytes.{Appends};
+ghost use Rattle.std.specs.Prelude.{◌≡◌, []};
+ghost use Rattle.strm_script_text.specs.Writing.{Writes};
 ghost use Rattle.strm_script_print.specs.Fields as text;
-ghost use Rattle.strm_script_print.specs.LineBuffer.{BufferAppends};
+ghost use Rattle.strm_script_print.specs.Fields.{push_fields};
+ghost use Rattle.strm_script_print.specs.LineBuffer.{AddsFields};
 
 use crate::field::Field::{Pair, Word};
 use crate::field::{Field, add_all, put_number, put_part};
@@ -35,7 +36,7 @@ pub trait PrintKind {
     ///
     /// Refused if the writer refuses, with its error.
     fn put_fields<W: Write>(&self, w: &mut W) -> io::Result<()>
-        ensures { OnOk result (Appends (W.contents w.old) (W.contents w.new) (spaced (spelling.fields self.now))) };
+        ensures { Writes W.contents w.old w.new result (spaced (spelling.fields self.now)) };
 }
 
 /// The word of a built-in kind.
@@ -86,7 +87,7 @@ fn images(table: &[u8; 256]) -> ArrayVec<u8, 256>
 /// Writes the own fields of a built-in kind, behind the marks.
 #[tactic(auto, using(strm_script_text::proofs::WriteLemmas::appends_then))]
 fn put_own<W: Write>(w: &mut W, kind: &Kind) -> io::Result<()>
-    ensures { OnOk result (Appends (W.contents w.old) (W.contents w.new) (text.spaced (text.own_fields kind.now))) }
+    ensures { Writes W.contents w.old w.new result (text.spaced (text.own_fields kind.now)) }
 {
     match kind {
         Kind::Table { map } => {
@@ -127,7 +128,7 @@ fn side_field<'a>(side: Option<Marks>) -> Field<'a>
 
 /// Adds the own fields of the kind of a module.
 fn add_kind<W: Write, K: PrintKind>(w: &mut W, out: &mut LineBuffer, kind: &K)
-    ensures { BufferAppends (W.contents w.old) (W.contents w.new) out.old out.new (text.spaced (K.spelling.fields kind.now)) }
+    ensures { AddsFields W.contents w.old w.new out.old out.new (K.spelling.fields kind.now) }
 {
     if out.flush(w) {
         out.keep_error(kind.put_fields(w));
@@ -137,7 +138,7 @@ fn add_kind<W: Write, K: PrintKind>(w: &mut W, out: &mut LineBuffer, kind: &K)
 /// Adds a module: its kind, its name, the marks of its sides, and the fields of the kind.
 #[tactic(auto, using(crate::proofs::GatheredLemmas::puts_on))]
 pub(crate) fn add_module<W: Write, K: PrintKind>(w: &mut W, out: &mut LineBuffer, shape: &Shape<K>)
-    ensures { BufferAppends (W.contents w.old) (W.contents w.new) out.old out.new (text.spaced (text.push_fields K.spelling shape.now)) }
+    ensures { AddsFields W.contents w.old w.new out.old out.new (push_fields K.spelling shape.now) }
 {
     let (kind, name) = (Word(shape.kind.word()), Word(shape.name.as_slice()));
     add_all(

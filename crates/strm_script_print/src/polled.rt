@@ -1,8 +1,7 @@
 //! The state of an end as poll(2) reports it.
 ghost use Rattle.std.specs.Prelude.{◌≡◌, ◌∷◌, ◌++◌, [], ◌≤◌, ◌+◌, length};
 ghost use Rattle.strm_script_words.specs.Field.{Word};
-ghost use Rattle.strm_script_print.specs.Fields.{spaced};
-ghost use Rattle.strm_script_print.specs.LineBuffer.{BufferAppends};
+ghost use Rattle.strm_script_print.specs.LineBuffer.{AddsFields};
 ghost use Rattle.strm_script_print.specs.Replies.{with_word, joined, poll_flags, poll_word};
 
 use crate::field::add_word;
@@ -59,7 +58,7 @@ fn words_of(told: Polled) -> ArrayVec<u8, LONGEST>
 
 /// Adds the words of the flags that hold, joined by `+`; `0` if none holds.
 pub(crate) fn add_polled<W: Write>(w: &mut W, out: &mut LineBuffer, told: Polled)
-    ensures { BufferAppends (W.contents w.old) (W.contents w.new) out.old out.new (spaced (Word (poll_word told) ∷ [])) }
+    ensures { AddsFields W.contents w.old w.new out.old out.new (Word (poll_word told) ∷ []) }
 {
     let words = words_of(told);
     if words.is_empty() {

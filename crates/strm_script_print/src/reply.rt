@@ -1,15 +1,14 @@
 //! The printed answers of calls.
-ghost use Rattle.std.specs.Prelude.{◌≡◌, OnOk};
-ghost use Rattle.std.specs.Io.KnownBytes.{Appends};
-ghost use Rattle.strm_script_print.specs.Fields.{spaced};
-ghost use Rattle.strm_script_print.specs.LineBuffer.{BufferAppends};
+ghost use Rattle.std.specs.Prelude.{◌≡◌, false};
+ghost use Rattle.strm_script_text.specs.Writing.{Writes};
+ghost use Rattle.strm_script_print.specs.LineBuffer.{Adds, AddsFields};
 ghost use Rattle.strm_script_print.specs.Lines.{answer_text};
 ghost use Rattle.strm_script_print.specs.Replies as text;
+ghost use Rattle.strm_script_print.specs.Replies.{acknowledged_fields, answer_fields, list_fields};
+ghost use Rattle.strm_script_print.specs.Replies.{peeked_fields, reply_fields};
 
 use crate::field::Field::{Number, Word};
-use crate::field::{
-    Field, add_all, add_names, add_number, add_part, add_word, boxed_field, part_field,
-};
+use crate::field::{add_all, add_names, add_number, add_part, add_word, boxed_field, part_field};
 use crate::line_buffer::LineBuffer;
 use crate::message::add_message;
 use crate::polled::add_polled;
@@ -48,7 +47,8 @@ fn add_taken<'a, W: Write>(
     flag: Received,
     more: More,
 )
-    ensures { BufferAppends (W.contents w.old) (W.contents w.new) out.old out.new (spaced (text.reply_fields (Reply.Getpmsg ctl.now dat.now flag more))) }
+    ensures { AddsFields W.contents w.old w.new out.old out.new
+        (reply_fields (Reply.Getpmsg ctl.now dat.now flag more)) }
 {
     let (ctl, dat, more) = (part_field(ctl), part_field(dat), Word(more_word(more)));
     match flag {
@@ -63,7 +63,7 @@ fn add_taken<'a, W: Write>(
 
 /// Adds the message of a peek, or that there was none.
 fn add_peeked<W: Write>(w: &mut W, out: &mut LineBuffer, found: &Option<Peeked>)
-    ensures { BufferAppends (W.contents w.old) (W.contents w.new) out.old out.new (spaced (text.peeked_fields found.now)) }
+    ensures { AddsFields W.contents w.old w.new out.old out.new (peeked_fields found.now) }
 {
     match found {
         None => add_word(w, out, b"none"),
@@ -76,7 +76,7 @@ fn add_peeked<W: Write>(w: &mut W, out: &mut LineBuffer, found: &Option<Peeked>)
 
 /// Adds the outcome of an ioctl.
 fn add_acknowledged<W: Write>(w: &mut W, out: &mut LineBuffer, answer: &Acknowledged)
-    ensures { BufferAppends (W.contents w.old) (W.contents w.new) out.old out.new (spaced (text.acknowledged_fields answer.now)) }
+    ensures { AddsFields W.contents w.old w.new out.old out.new (acknowledged_fields answer.now) }
 {
     match answer {
         Acknowledged::Ack { rval, dat } => add_all(w, out, &[Number(*rval), part_field(dat)]),
@@ -90,18 +90,19 @@ fn add_acknowledged<W: Write>(w: &mut W, out: &mut LineBuffer, answer: &Acknowle
 /// Adds the names of modules, and then that of the driver.
 #[tactic(auto, using(crate::proofs::GatheredLemmas::list_put))]
 fn add_list<W: Write>(w: &mut W, out: &mut LineBuffer, names: &[Name], driver: Driver)
-    ensures { BufferAppends (W.contents w.old) (W.contents w.new) out.old out.new (spaced (text.list_fields names.now driver)) }
+    ensures { AddsFields W.contents w.old w.new out.old out.new (list_fields names.now driver) }
 {
     add_names(w, out, names);
     add_word(w, out, driver.name());
 }
 
-/// Adds the reply of any call, from a list of fields. It is a function apart, so that room for the lists is
-/// made only for replies that have some.
+/// Adds the reply of a call that is no read and no write, from a list of fields. It is a function apart, so
+/// that room for the lists is made only for replies that have some.
 #[inline(never)]
 #[tactic(auto, using(crate::proofs::GatheredLemmas::puts))]
 fn add_as_list<W: Write>(w: &mut W, out: &mut LineBuffer, reply: &Reply)
-    ensures { BufferAppends (W.contents w.old) (W.contents w.new) out.old out.new (spaced (text.reply_fields reply.now)) }
+    requires { text.is_read_or_write reply.now ≡ false }
+    ensures { AddsFields W.contents w.old w.new out.old out.new (reply_fields reply.now) }
 {
     match reply {
         Reply::Putmsg
@@ -126,8 +127,7 @@ fn add_as_list<W: Write>(w: &mut W, out: &mut LineBuffer, reply: &Reply)
             flag,
             more,
         } => add_taken(w, out, ctl, dat, *flag, *more),
-        Reply::Read { dat } => add_all(w, out, &[Field::Bytes(dat.as_slice())]),
-        Reply::Write { len } => add_all(w, out, &[Number(*len)]),
+        Reply::Read { .. } | Reply::Write { .. } => unreachable!(),
         Reply::Nread { messages, bytes } => add_all(w, out, &[Number(*messages), Number(*bytes)]),
         Reply::Peek { found } => add_peeked(w, out, found),
         Reply::GetRead { mode, prot } => {
@@ -153,7 +153,7 @@ fn add_as_list<W: Write>(w: &mut W, out: &mut LineBuffer, reply: &Reply)
 
 /// Adds the reply of a call.
 fn add_reply<W: Write>(w: &mut W, out: &mut LineBuffer, reply: &Reply)
-    ensures { BufferAppends (W.contents w.old) (W.contents w.new) out.old out.new (spaced (text.reply_fields reply.now)) }
+    ensures { AddsFields W.contents w.old w.new out.old out.new (reply_fields reply.now) }
 {
     match reply {
         Reply::Read { dat } => add_part(w, out, dat.as_slice()),
@@ -164,7 +164,7 @@ fn add_reply<W: Write>(w: &mut W, out: &mut LineBuffer, reply: &Reply)
 
 /// Adds the fields of an answer: a reply, or the name of the errno of a refusal, or that the stream broke.
 fn add_said<W: Write>(w: &mut W, out: &mut LineBuffer, answer: &Answer)
-    ensures { BufferAppends (W.contents w.old) (W.contents w.new) out.old out.new (spaced (text.answer_fields answer.now)) }
+    ensures { AddsFields W.contents w.old w.new out.old out.new (answer_fields answer.now) }
 {
     match answer {
         Answer::Done(reply) => add_reply(w, out, reply),
@@ -176,7 +176,7 @@ fn add_said<W: Write>(w: &mut W, out: &mut LineBuffer, answer: &Answer)
 /// Adds an answer as a transcript has it: ` : REPLY`, and the end of the line.
 #[tactic(auto, using(crate::proofs::GatheredLemmas::puts), unfolding(crate::specs::Lines::answer_text))]
 pub(crate) fn add_answer<W: Write>(w: &mut W, out: &mut LineBuffer, answer: &Answer)
-    ensures { BufferAppends (W.contents w.old) (W.contents w.new) out.old out.new (answer_text answer.now) }
+    ensures { Adds W.contents w.old w.new out.old out.new (answer_text answer.now) }
 {
     out.put(w, b" :");
     add_said(w, out, answer);
@@ -187,7 +187,7 @@ pub(crate) fn add_answer<W: Write>(w: &mut W, out: &mut LineBuffer, answer: &Ans
 ///
 /// Refused if the writer refuses, with its error.
 pub fn put_answer<W: Write>(w: &mut W, answer: &Answer) -> io::Result<()>
-    ensures { OnOk result (Appends (W.contents w.old) (W.contents w.new) (answer_text answer.now)) }
+    ensures { Writes W.contents w.old w.new result (answer_text answer.now) }
 {
     let mut out = LineBuffer::new();
     add_answer(w, &mut out, answer);

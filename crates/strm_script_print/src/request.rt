@@ -1,11 +1,11 @@
 //! The printed requests of calls.
-ghost use Rattle.std.specs.Prelude.{◌≡◌};
+ghost use Rattle.std.specs.Prelude.{◌≡◌, false};
 ghost use Rattle.strm_script_words.specs.Table.{asked_of};
 ghost use Rattle.strm_script_print.specs.Fields as text;
-ghost use Rattle.strm_script_print.specs.LineBuffer.{BufferAppends};
+ghost use Rattle.strm_script_print.specs.LineBuffer.{AddsFields};
 
 use crate::field::Field::{Number, Word};
-use crate::field::{Field, add_all, add_number, add_part, boxed_field, maximum_field, part_field};
+use crate::field::{add_all, add_number, add_part, boxed_field, maximum_field, part_field};
 use crate::line_buffer::LineBuffer;
 use crate::module::{PrintKind, add_module};
 use std::io::Write;
@@ -45,8 +45,8 @@ pub(crate) fn verb_of<K>(request: &Request<BoxedShape<K>>) -> Verb
     }
 }
 
-/// Adds the fields of any call behind NAME:END, from a list of them. It is a function apart, so that room for
-/// the lists is made only for calls that have some.
+/// Adds the fields of a call that is no read and no write, behind NAME:END, from a list of them. It is a
+/// function apart, so that room for the lists is made only for calls that have some.
 #[inline(never)]
 #[tactic(auto, using(crate::proofs::GatheredLemmas::puts_nothing))]
 fn add_as_list<W: Write, K: PrintKind + Drop>(
@@ -54,7 +54,8 @@ fn add_as_list<W: Write, K: PrintKind + Drop>(
     out: &mut LineBuffer,
     request: &Request<BoxedShape<K>>,
 )
-    ensures { BufferAppends (W.contents w.old) (W.contents w.new) out.old out.new (text.spaced (text.fields_of K.spelling (asked_of request.now))) }
+    requires { text.is_read_or_write request.now ≡ false }
+    ensures { AddsFields W.contents w.old w.new out.old out.new (text.fields_of K.spelling (asked_of request.now)) }
 {
     match request {
         Request::Putmsg { flag, parts } => add_all(
@@ -109,8 +110,7 @@ fn add_as_list<W: Write, K: PrintKind + Drop>(
                 Word(flag.word()),
             ],
         ),
-        Request::Read { max } => add_all(w, out, &[Number(u64::from(*max))]),
-        Request::Write { dat } => add_all(w, out, &[Field::Bytes(dat.as_slice())]),
+        Request::Read { .. } | Request::Write { .. } => unreachable!(),
         Request::Push { instance } => add_module(w, out, instance.shape()),
         Request::Find { name } => add_part(w, out, name.as_slice()),
         Request::Str { cmd, dat } => add_all(w, out, &[Number(u64::from(*cmd)), boxed_field(dat)]),
@@ -144,7 +144,7 @@ pub(crate) fn add_fields<W: Write, K: PrintKind + Drop>(
     out: &mut LineBuffer,
     request: &Request<BoxedShape<K>>,
 )
-    ensures { BufferAppends (W.contents w.old) (W.contents w.new) out.old out.new (text.spaced (text.fields_of K.spelling (asked_of request.now))) }
+    ensures { AddsFields W.contents w.old w.new out.old out.new (text.fields_of K.spelling (asked_of request.now)) }
 {
     match request {
         Request::Read { max } => add_number(w, out, u64::from(*max)),

@@ -1,11 +1,11 @@
 //! The transcript of a run, as text that several threads make.
 ghost use Rattle.std.specs.Prelude.{◌≡◌, ◌<◌, IfOk, OnOk, length, map};
-ghost use Rattle.std.specs.Io.KnownBytes.{Appends};
 ghost use Rattle.std.specs.IoError.{error_kind};
 ghost use Rattle.std.specs.declared.io.ErrorKind.TheVariants.{OutOfMemory};
+ghost use Rattle.strm_script_text.specs.Writing.{Writes};
 ghost use Rattle.strm_script_parse.specs.Plan.{names_view};
-ghost use Rattle.strm_script_print.specs.Lines.{numbered_text, transcript_text};
-ghost use Rattle.strm_script_print.specs.Sharing.{AreLines, AreNumbered, joined};
+ghost use Rattle.strm_script_print.specs.Lines.{transcript_text};
+ghost use Rattle.strm_script_print.specs.Sharing.{AreLines, AreLinesOf, AreNumbered, joined};
 
 use crate::module::PrintKind;
 use crate::printing::{print, put_numbered};
@@ -29,7 +29,7 @@ fn lines<K: PrintKind + Drop>(
     number: usize,
     log: &StreamLog<K>,
 ) -> Result<Vec<u8>, NoMem>
-    ensures { IfOk result (λ text. text.items ≡ numbered_text K.spelling (names_view names.now) number log.now) }
+    ensures { IfOk result (AreLinesOf K.spelling (names_view names.now) number log.now) }
 {
     let Ok(mut out) = BufWriter::with_capacity(alloc, GATHERED, Vec::new(alloc)) else {
         return Err(NoMem);
@@ -96,7 +96,7 @@ fn all_lines<R: Threads + Sync, K: PrintKind + Drop + Send + Sync>(
         jobs,
         threads,
         &|job: (usize, StreamLog<K>)| -> (Result<Vec<u8>, NoMem>, StreamLog<K>)
-            ensures text { IfOk result.0 (λ text. text.items ≡ numbered_text K.spelling (names_view names.entry.now) job.0 job.1) }
+            ensures text { IfOk result.0 (AreLinesOf K.spelling (names_view names.entry.now) job.0 job.1) }
             ensures log { result.1 ≡ job.1 }
         { (lines(alloc, names, job.0, &job.1), job.1) },
     )?;
@@ -106,7 +106,7 @@ fn all_lines<R: Threads + Sync, K: PrintKind + Drop + Send + Sync>(
 /// Writes texts, one after another.
 #[tactic(auto, using(strm_script_text::proofs::WriteLemmas::appends_then))]
 fn put_texts<W: Write>(w: &mut W, texts: &[Vec<u8>]) -> io::Result<()>
-    ensures { OnOk result (Appends (W.contents w.old) (W.contents w.new) (joined texts.now)) }
+    ensures { Writes W.contents w.old w.new result (joined texts.now) }
 {
     for text in texts {
         w.write_all(text.as_slice())?;
@@ -139,7 +139,8 @@ pub fn print_parallel<R: Threads + Sync, W: Write, K: PrintKind + Drop + Send + 
     w: &mut W,
 ) -> io::Result<()>
     requires threads { 0 < threads }
-    ensures text { OnOk result (Appends (W.contents w.old) (W.contents w.new) (transcript_text K.spelling (names_view names.now) transcript.old.streams.items)) }
+    ensures text { Writes W.contents w.old w.new result
+        (transcript_text K.spelling (names_view names.now) transcript.old.streams.items) }
     ensures kept { OnOk result (transcript.new.streams.items ≡ transcript.old.streams.items) }
     ensures one { threads ≡ 1 → transcript.new ≡ transcript.old }
     ensures single { length transcript.old.streams.items < 2 → transcript.new ≡ transcript.old }

@@ -1,9 +1,7 @@
 //! The printed lines of a stream.
-ghost use Rattle.std.specs.Prelude.{◌∷◌, ◌++◌, [], OnOk, codes, map};
-ghost use Rattle.std.specs.Io.KnownBytes.{Appends};
-ghost use Rattle.strm_script_words.specs.Field.{Number, Word};
-ghost use Rattle.strm_script_print.specs.Fields.{spaced};
-ghost use Rattle.strm_script_print.specs.LineBuffer.{BufferAppends};
+ghost use Rattle.strm_script_text.specs.Text.{name_texts};
+ghost use Rattle.strm_script_text.specs.Writing.{Writes};
+ghost use Rattle.strm_script_print.specs.LineBuffer.{Adds};
 ghost use Rattle.strm_script_print.specs.Lines as text;
 
 use crate::entry::{end_word, put_entries};
@@ -25,7 +23,7 @@ fn add_end<W: Write>(
     end: End,
     names: &Option<ArrayVec<Name, MOST_MODULES>>,
 )
-    ensures { BufferAppends (W.contents w.old) (W.contents w.new) out.old out.new (text.end_text end names.now) }
+    ensures { Adds W.contents w.old w.new out.old out.new (text.end_text end names.now) }
 {
     match names {
         None => {
@@ -50,7 +48,7 @@ pub fn put_end<W: Write>(
     end: End,
     names: &Option<ArrayVec<Name, MOST_MODULES>>,
 ) -> io::Result<()>
-    ensures { OnOk result (Appends (W.contents w.old) (W.contents w.new) (text.end_text end names.now)) }
+    ensures { Writes W.contents w.old w.new result (text.end_text end names.now) }
 {
     let mut out = LineBuffer::new();
     add_end(w, &mut out, end, names);
@@ -65,7 +63,7 @@ pub fn put_far_end<W: Write>(
     driver: Driver,
     names: &Option<ArrayVec<Name, MOST_MODULES>>,
 ) -> io::Result<()>
-    ensures { OnOk result (Appends (W.contents w.old) (W.contents w.new) (text.far_end_text driver names.now)) }
+    ensures { Writes W.contents w.old w.new result (text.far_end_text driver names.now) }
 {
     match driver {
         Driver::Loop => put_end(w, End::B, names),
@@ -76,7 +74,7 @@ pub fn put_far_end<W: Write>(
 /// Adds the numbers of messages of a feed that were accepted, that came in, and that were handed back.
 #[tactic(auto, using(crate::proofs::GatheredLemmas::puts), unfolding(crate::specs::Lines::counts_text))]
 fn add_counts<W: Write, K>(w: &mut W, out: &mut LineBuffer, log: &StreamLog<K>)
-    ensures { BufferAppends (W.contents w.old) (W.contents w.new) out.old out.new (text.counts_text log.now) }
+    ensures { Adds W.contents w.old w.new out.old out.new (text.counts_text log.now) }
 {
     let fields = [
         Field::Word(b"accepted"),
@@ -92,7 +90,7 @@ fn add_counts<W: Write, K>(w: &mut W, out: &mut LineBuffer, log: &StreamLog<K>)
 /// Adds the line of the outcome of a feed, for a line or a wire; nothing for the other drivers.
 #[tactic(auto, using(crate::proofs::GatheredLemmas::puts), unfolding(crate::specs::Lines::feed_text))]
 fn add_feed<W: Write, K>(w: &mut W, out: &mut LineBuffer, driver: Driver, log: &StreamLog<K>)
-    ensures { BufferAppends (W.contents w.old) (W.contents w.new) out.old out.new (text.feed_text driver log.now) }
+    ensures { Adds W.contents w.old w.new out.old out.new (text.feed_text driver log.now) }
 {
     if driver.is_line() {
         out.put(w, b"feed");
@@ -105,7 +103,7 @@ fn add_feed<W: Write, K>(w: &mut W, out: &mut LineBuffer, driver: Driver, log: &
 ///
 /// Refused if the writer refuses, with its error.
 pub fn put_feed<W: Write, K>(w: &mut W, driver: Driver, log: &StreamLog<K>) -> io::Result<()>
-    ensures { OnOk result (Appends (W.contents w.old) (W.contents w.new) (text.feed_text driver log.now)) }
+    ensures { Writes W.contents w.old w.new result (text.feed_text driver log.now) }
 {
     let mut out = LineBuffer::new();
     add_feed(w, &mut out, driver, log);
@@ -117,7 +115,7 @@ pub fn put_feed<W: Write, K>(w: &mut W, driver: Driver, log: &StreamLog<K>) -> i
 /// Refused if the writer refuses, with its error.
 #[tactic(auto, using(strm_script_text::proofs::WriteLemmas::appends_then))]
 pub fn put_heading<W: Write>(w: &mut W, name: &[u8]) -> io::Result<()>
-    ensures { OnOk result (Appends (W.contents w.old) (W.contents w.new) (codes "stream" ++ spaced (Word name.now ∷ []) ++ (10 ∷ []))) }
+    ensures { Writes W.contents w.old w.new result (text.heading_text name.now) }
 {
     w.write_all(b"stream")?;
     put_word(w, name)?;
@@ -133,7 +131,8 @@ pub(crate) fn put_stream<W: Write, K: PrintKind + Drop>(
     setup: &Setup,
     log: &StreamLog<K>,
 ) -> io::Result<()>
-    ensures { OnOk result (Appends (W.contents w.old) (W.contents w.new) (text.stream_text K.spelling (map (λ name. name.items) processes.now) name.now setup.now log.now)) }
+    ensures { Writes W.contents w.old w.new result
+        (text.stream_text K.spelling (name_texts processes.now) name.now setup.now log.now) }
 {
     put_heading(w, name)?;
     put_entries(w, processes, name, log.history.as_slice())?;

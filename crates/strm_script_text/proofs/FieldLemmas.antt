@@ -7,14 +7,10 @@ use Rattle.std.proofs.lemmas.List.Elements.{All-from_get_or}
 use Rattle.std.proofs.lemmas.List.Folds.{list_all-append}
 use Rattle.std.proofs.lemmas.List.Splits.{slice_split_at, slice_split_none}
 use Rattle.strm_script_text.specs.Bytes.{is_blank, is_allowed, is_within}
-use Rattle.strm_script_text.specs.Text.{fields_of}
+use Rattle.strm_script_text.specs.Text.{field_in, fields_of}
 
 abbrev has_bytes : List ℕ → Bool
 has_bytes field = nat_lt 0 (length field)
-
--- what a piece between blanks adds to the fields
-abbrev pub field_in : List ℕ → List (List ℕ)
-field_in piece = filter (λ field. nat_lt 0 (length field)) (piece ∷ [])
 
 -- no blank stands from the start up to here
 abbrev pub AreUnparted : List ℕ → ℕ → ℕ → Type 0

@@ -15,7 +15,7 @@ abbrev ends_line : ℕ → Bool
 ends_line byte = byte == 10
 
 -- a piece with others behind it is a line of its own
-line_before : (piece : List ℕ) (pieces : List (List ℕ)) → 0 < length pieces → lines_of_parts (piece ∷ pieces) ≡ strip_carriage_return piece ∷ lines_of_parts pieces
+pub line_before : (piece : List ℕ) (pieces : List (List ℕ)) → 0 < length pieces → lines_of_parts (piece ∷ pieces) ≡ strip_carriage_return piece ∷ lines_of_parts pieces
 line_before piece [] some = absurd (omega (arith, some))
 line_before piece (next ∷ pieces) some = refl
 

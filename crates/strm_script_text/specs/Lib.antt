@@ -1,3 +1,4 @@
 pub mod Bytes
 pub mod Text
 pub mod Spelling
+pub mod Writing

@@ -1,7 +1,10 @@
 -- The fields of a line, and the values of a field: a number, a name, or bytes.
-use Rattle.std.specs.Prelude.{ℕ, ◌+◌, ◌-◌, ◌*◌, ◌==◌, ◌&&◌, nat_le, nat_lt, List, [], ◌∷◌, length, filter, replicate, Option, Some, None, option_and_then, if◌then◌else◌}
+use denote.Ref.{Bor}
+use Rattle.std.specs.Prelude.{ℕ, ◌+◌, ◌-◌, ◌*◌, ◌==◌, ◌&&◌, nat_le, nat_lt, List, [], ◌∷◌, length, map, filter, replicate, Vec, Option, Some, None, option_and_then, if◌then◌else◌}
+use Rattle.std.specs.Global.{Global}
 use Rattle.std.specs.Option.{option_map}
 use Rattle.std.specs.List.{slice_split, list_all, before_first, after_first, position_or_len}
+use Rattle.arrayvec.specs.ArrayVec.{ArrayVec}
 use Rattle.strm_script_text.specs.Bytes.{is_blank, is_digit, is_of_name, is_itself, hex_of}
 use Rattle.strm_script_text.specs.declared.parts.TheConstants.{MOST_TIMES}
 use Rattle.strm_script_text.specs.declared.words.TheConstants.{MOST_DIGITS}
@@ -10,9 +13,17 @@ infixl 10 ◌>>=◌
 abbrev pub ◌>>=◌ : {A B : Type 0} → Option A → (A → Option B) → Option B
 found >>= next = option_and_then next found
 
+-- the texts that slices are
+abbrev pub texts_of : List (Bor (List ℕ)) → List (List ℕ)
+texts_of slices = map (λ slice. slice.now) slices
+
 -- the fields of a line: the texts between blanks
 abbrev pub fields_of : List ℕ → List (List ℕ)
 fields_of line = filter (λ field. nat_lt 0 (length field)) (slice_split is_blank line)
+
+-- the field of a text between blanks, if it has a byte (no public clause cites it)
+abbrev pub field_in : List ℕ → List (List ℕ)
+field_in text = filter (λ field. nat_lt 0 (length field)) (text ∷ [])
 
 -- the text before the first of a byte, and the text behind it
 abbrev pub halves_of : ℕ → List ℕ → Option (List ℕ × List ℕ)
@@ -25,11 +36,22 @@ abbrev pub number_from : ℕ → List ℕ → Option ℕ
 number_from value [] = Some value
 number_from value (digit ∷ digits) = if is_digit digit then number_from (value * 10 + (digit - 48)) digits else None
 
+-- the value, if it is at most `most`
+abbrev pub limited : ℕ → ℕ → Option ℕ
+limited most value = if nat_le value most then Some value else None
+
 -- the number of 1 to `MOST_DIGITS` digits, if it is at most `most`
 abbrev pub number_of : ℕ → List ℕ → Option ℕ
 number_of most text =
-    if nat_le 1 (length text) && nat_le (length text) MOST_DIGITS then (number_from 0 text >>= λ value. if nat_le value most then Some value else None)
+    if nat_le 1 (length text) && nat_le (length text) MOST_DIGITS then (number_from 0 text >>= limited most)
     else None
+
+-- the bytes of a name
+abbrev pub name_text : ArrayVec ℕ → List ℕ
+name_text name = name.items
+
+abbrev pub name_texts : List (ArrayVec ℕ) → List (List ℕ)
+name_texts names = map name_text names
 
 -- a name of 1 to `longest` digits, letters and `_`
 abbrev pub name_of : ℕ → List ℕ → Option (List ℕ)
@@ -48,6 +70,10 @@ next_byte (a ∷ b ∷ []) = if is_itself a then Some (a, b ∷ []) else None
 next_byte (a ∷ b ∷ c ∷ rest) =
     if is_itself a then Some (a, b ∷ c ∷ rest)
     else (if a == 37 then (byte_of b c >>= λ byte. Some (byte, rest)) else None)
+
+-- the bytes that were found, if any were
+abbrev pub found_bytes : Option (Vec ℕ Global) → Option (List ℕ)
+found_bytes found = option_map (λ all. all.items) found
 
 -- the bytes that a text spells
 abbrev pub bytes_of : List ℕ → Option (List ℕ)

@@ -1,10 +1,10 @@
 //! The lines of a text, and their fields.
-ghost use Rattle.std.specs.Prelude.{◌≡◌, ◌<◌, ◌∷◌, ◌++◌, [], filter, length, map, nat_lt, IfOk, OnOk, IfSome};
+ghost use Rattle.std.specs.Prelude.{◌≡◌, ◌<◌, ◌∷◌, ◌++◌, length, IfOk, OnOk, IfSome};
 ghost use Rattle.std.specs.Option.{option_map};
 ghost use Rattle.std.specs.List.{list_all};
 ghost use Rattle.std.specs.Str.Lines.{lines, strip_carriage_return};
 ghost use Rattle.strm_script_text.specs.Bytes as bytes;
-ghost use Rattle.strm_script_text.specs.Text.{fields_of, halves_of};
+ghost use Rattle.strm_script_text.specs.Text.{field_in, fields_of, halves_of, texts_of};
 
 use std::alloc::AllocError;
 
@@ -57,7 +57,7 @@ fn is_of_field(byte: u8) -> bool
 /// Appends a field, if it has a byte. Fails only when memory runs out.
 #[inline]
 fn add_field<'a>(fields: &mut Vec<&'a [u8]>, field: &'a [u8]) -> Result<(), AllocError>
-    ensures { OnOk result (map (λ field. field.now) fields.new.items ≡ map (λ field. field.now) fields.old.items ++ filter (λ field. nat_lt 0 (length field)) (field.now ∷ [])) }
+    ensures { OnOk result (texts_of fields.new.items ≡ texts_of fields.old.items ++ field_in field.now) }
 {
     if !field.is_empty() {
         fields.push(field)?;
@@ -69,7 +69,7 @@ fn add_field<'a>(fields: &mut Vec<&'a [u8]>, field: &'a [u8]) -> Result<(), Allo
 /// tabs and 0x20 to 0x7e, as each line has that is no comment. The list then holds these fields and no
 /// earlier ones. Fails only when memory runs out.
 pub fn cut_fields<'a>(line: &'a [u8], fields: &mut Vec<&'a [u8]>) -> Result<bool, AllocError>
-    ensures fields { OnOk result (map (λ field. field.now) fields.new.items ≡ fields_of line.now) }
+    ensures fields { OnOk result (texts_of fields.new.items ≡ fields_of line.now) }
     ensures allowed { IfOk result (λ allowed. allowed ≡ list_all bytes.is_allowed line.now) }
 {
     fields.clear();

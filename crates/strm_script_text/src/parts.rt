@@ -3,7 +3,8 @@ ghost use Rattle.std.specs.Prelude.{◌≡◌, ◌<◌, ◌≤◌, ◌++◌, len
 ghost use Rattle.std.specs.Option.{option_map};
 ghost use Rattle.std.specs.List.{list_all};
 ghost use Rattle.strm_script_text.specs.Bytes.{hex_of, is_itself};
-ghost use Rattle.strm_script_text.specs.Text.{byte_of, bytes_of, next_byte, part_of, repeated_of, times_of};
+ghost use Rattle.strm_script_text.specs.Text.{byte_of, bytes_of, found_bytes, next_byte, part_of};
+ghost use Rattle.strm_script_text.specs.Text.{repeated_of, times_of};
 
 use crate::lines::split_once;
 use crate::runs::plain_len;
@@ -70,7 +71,7 @@ fn take_run(all: &mut Vec<u8>, text: &[u8]) -> Result<usize, AllocError>
 
 /// The bytes that a text spells; nothing if it does not spell bytes. Fails only when memory runs out.
 fn spelt(alloc: Global, text: &[u8]) -> Result<Option<Vec<u8>>, AllocError>
-    ensures { IfOk result (λ found. option_map (λ all. all.items) found ≡ bytes_of text.now) }
+    ensures { IfOk result (λ found. found_bytes found ≡ bytes_of text.now) }
 {
     let mut all = Vec::new(alloc);
     let many = take_run(&mut all, text)?;
@@ -100,7 +101,7 @@ fn times(text: &[u8]) -> Option<(u64, u8)>
 
 /// The byte of `N:hh`, repeated N times. Fails only when memory runs out.
 fn repeated(alloc: Global, text: &[u8]) -> Result<Option<Vec<u8>>, AllocError>
-    ensures { IfOk result (λ found. option_map (λ all. all.items) found ≡ repeated_of text.now) }
+    ensures { IfOk result (λ found. found_bytes found ≡ repeated_of text.now) }
 {
     let Some((count, byte)) = times(text) else {
         return Ok(None);
@@ -111,7 +112,7 @@ fn repeated(alloc: Global, text: &[u8]) -> Result<Option<Vec<u8>>, AllocError>
 /// The bytes of a part: `=` and their spelling, or `*N:hh`; nothing if the text is no part. Fails only when
 /// memory runs out.
 pub fn part(alloc: Global, text: &[u8]) -> Result<Option<Vec<u8>>, AllocError>
-    ensures { IfOk result (λ found. option_map (λ all. all.items) found ≡ part_of text.now) }
+    ensures { IfOk result (λ found. found_bytes found ≡ part_of text.now) }
 {
     match text {
         [b'=', rest @ ..] => spelt(alloc, rest),

@@ -1,7 +1,7 @@
 //! The spelling of bytes in a part.
-ghost use Rattle.std.specs.Prelude.{◌≡◌, ◌<◌, ◌≤◌, length, take, IfOk, OnOk};
-ghost use Rattle.std.specs.Io.KnownBytes.{Appends};
+ghost use Rattle.std.specs.Prelude.{◌≡◌, ◌<◌, ◌≤◌, length, take, IfOk};
 ghost use Rattle.strm_script_text.specs.Spelling as spells;
+ghost use Rattle.strm_script_text.specs.Writing.{Extends, Writes};
 
 use crate::parts::is_itself;
 use crate::runs::plain_len;
@@ -17,7 +17,7 @@ fn hex_digit(n: u8) -> u8
 
 /// Writes a byte by itself if it stands for itself, else as `%hh`.
 fn write_byte<W: Write>(w: &mut W, byte: u8) -> io::Result<()>
-    ensures { OnOk result (Appends (W.contents w.old) (W.contents w.new) (spells.spelling_of byte)) }
+    ensures { Writes W.contents w.old w.new result (spells.spelling_of byte) }
 {
     if is_itself(byte) {
         return w.write_all(&[byte]);
@@ -30,7 +30,7 @@ fn write_byte<W: Write>(w: &mut W, byte: u8) -> io::Result<()>
 #[tactic(auto, using(crate::proofs::RunLemmas::plain_spelt))]
 fn write_front<W: Write>(w: &mut W, bytes: &[u8]) -> io::Result<usize>
     requires { 0 < length bytes.now }
-    ensures text { IfOk result (λ many. Appends (W.contents w.old) (W.contents w.new) (spells.spelling (take many bytes.now))) }
+    ensures text { IfOk result (λ many. Extends W.contents w.old w.new (spells.spelling (take many bytes.now))) }
     ensures some { IfOk result (λ many. 0 < many) }
     ensures within { IfOk result (λ many. many ≤ length bytes.now) }
 {
@@ -46,7 +46,7 @@ fn write_front<W: Write>(w: &mut W, bytes: &[u8]) -> io::Result<usize>
 /// Writes the spelling of bytes. Bytes in a row that stand for themselves are written at once.
 #[tactic(auto, using(crate::proofs::RunLemmas::spelt_then))]
 fn write_bytes<W: Write>(w: &mut W, bytes: &[u8]) -> io::Result<()>
-    ensures { OnOk result (Appends (W.contents w.old) (W.contents w.new) (spells.spelling bytes.now)) }
+    ensures { Writes W.contents w.old w.new result (spells.spelling bytes.now) }
 {
     let mut many = 0;
     while many < bytes.len() {
@@ -59,7 +59,7 @@ fn write_bytes<W: Write>(w: &mut W, bytes: &[u8]) -> io::Result<()>
 /// digits in lower case.
 #[tactic(auto, using(crate::proofs::WriteLemmas::appends_then))]
 pub fn write_part<W: Write>(w: &mut W, bytes: &[u8]) -> io::Result<()>
-    ensures { OnOk result (Appends (W.contents w.old) (W.contents w.new) (spells.part_text bytes.now)) }
+    ensures { Writes W.contents w.old w.new result (spells.part_text bytes.now) }
 {
     w.write_all(b"=")?;
     write_bytes(w, bytes)

@@ -3,7 +3,7 @@ ghost use Rattle.std.specs.Prelude.{◌≡◌, ◌↔◌, true};
 ghost use Rattle.std.specs.Option.{option_map};
 ghost use Rattle.std.specs.List.{list_all};
 ghost use Rattle.strm_script_text.specs.Bytes as bytes;
-ghost use Rattle.strm_script_text.specs.Text.{name_of, number_of};
+ghost use Rattle.strm_script_text.specs.Text.{name_of, name_text, number_of};
 
 use arrayvec::ArrayVec;
 
@@ -50,7 +50,7 @@ pub fn number(text: &[u8], most: u64) -> Option<u64>
 
 /// A name of 1 to `LONGEST` letters, digits and `_`; nothing if the text is none.
 pub fn name<const LONGEST: usize>(text: &[u8]) -> Option<ArrayVec<u8, LONGEST>>
-    ensures { option_map (λ name. name.items) result ≡ name_of LONGEST text.now }
+    ensures { option_map name_text result ≡ name_of LONGEST text.now }
 {
     if text.is_empty() || !are_of_name(text) {
         return None;

@@ -1,9 +1,10 @@
 -- What fails first.
-use Rattle.std.proofs.Common.{◌≡◌, ℕ, ◌<◌, ◌≤◌, List, [], ◌∷◌, length, map, get_or, Bor, Option, Result, Ok, Err, ap, arith}
+use Rattle.std.proofs.Common.{◌≡◌, ℕ, ◌<◌, ◌≤◌, List, [], ◌∷◌, length, get_or, Bor, Option, Result, Ok, Err, ap, arith}
 use Rattle.strm_head_calls.specs.declared.request.TheConstants.{MAX_CONTROL, MAX_DATA}
 use Rattle.strm_msg.specs.Message.{bare, proto_msg}
 use Rattle.strm_msg.specs.declared.kind.MsgKind.TheVariants.{MSetopts}
 use Rattle.strm_msg.specs.declared.words.ReadMode.{ReadMode}
+use Rattle.strm_script_text.specs.Text.{texts_of}
 use Rattle.strm_script_words.specs.Fault.{◌>>=◌, Fails}
 use Rattle.strm_script_words.specs.Field.{number_at, part_at, part_upto, optional_upto, optional_marks_at}
 use Rattle.strm_script_words.specs.Push.{table_at}
@@ -24,21 +25,21 @@ fails_second error (Ok y) x read next is fails = let same : y ≡ x = cc in rw s
 fails_second error (Err cause) x read next is fails = absurd cc
 
 -- FROM is no part
-pub from_fails : (error : ReadError) (texts : List (Bor (List ℕ))) (d : Bor (List ℕ)) → 2 ≤ length texts → length texts < 3 → Fails error (part_at (get_or texts 0 d).now) → Fails error (table_at (map (λ text. text.now) texts))
+pub from_fails : (error : ReadError) (texts : List (Bor (List ℕ))) (d : Bor (List ℕ)) → 2 ≤ length texts → length texts < 3 → Fails error (part_at (get_or texts 0 d).now) → Fails error (table_at (texts_of texts))
 from_fails error [] d least below fails = absurd (omega (arith, least))
 from_fails error (a ∷ []) d least below fails = absurd (omega (arith, least))
 from_fails error (a ∷ b ∷ []) d least below fails = fails_first error (part_at a.now) _ fails
 from_fails error (a ∷ b ∷ c ∷ texts) d least below fails = absurd (omega (arith, below))
 
 -- READ is no errno
-pub read_fails : (error : ReadError) (texts : List (Bor (List ℕ))) (d : Bor (List ℕ)) → 2 ≤ length texts → length texts < 3 → Fails error (optional_errno_at (get_or texts 0 d).now) → Fails error (error2_at (map (λ text. text.now) texts))
+pub read_fails : (error : ReadError) (texts : List (Bor (List ℕ))) (d : Bor (List ℕ)) → 2 ≤ length texts → length texts < 3 → Fails error (optional_errno_at (get_or texts 0 d).now) → Fails error (error2_at (texts_of texts))
 read_fails error [] d least below fails = absurd (omega (arith, least))
 read_fails error (a ∷ []) d least below fails = absurd (omega (arith, least))
 read_fails error (a ∷ b ∷ []) d least below fails = fails_first error (optional_errno_at a.now) _ fails
 read_fails error (a ∷ b ∷ c ∷ texts) d least below fails = absurd (omega (arith, below))
 
 -- PART is no part behind a band
-pub control_fails : (error : ReadError) (texts : List (Bor (List ℕ))) (d : Bor (List ℕ)) (b : ℕ) → 3 ≤ length texts → length texts < 4 → number_at MOST_BAND (get_or texts 0 d).now ≡ Ok b → Fails error (part_upto MAX_CONTROL (get_or texts 1 d).now) → Fails error (proto_at (map (λ text. text.now) texts))
+pub control_fails : (error : ReadError) (texts : List (Bor (List ℕ))) (d : Bor (List ℕ)) (b : ℕ) → 3 ≤ length texts → length texts < 4 → number_at MOST_BAND (get_or texts 0 d).now ≡ Ok b → Fails error (part_upto MAX_CONTROL (get_or texts 1 d).now) → Fails error (proto_at (texts_of texts))
 control_fails error [] d b least below band fails = absurd (omega (arith, least))
 control_fails error (x ∷ []) d b least below band fails = absurd (omega (arith, least))
 control_fails error (x ∷ y ∷ []) d b least below band fails = absurd (omega (arith, least))
@@ -47,7 +48,7 @@ control_fails error (x ∷ y ∷ z ∷ []) d b least below band fails =
 control_fails error (x ∷ y ∷ z ∷ w ∷ texts) d b least below band fails = absurd (omega (arith, below))
 
 -- MODE is no mode
-pub mode_fails : (error : ReadError) (texts : List (Bor (List ℕ))) (d : Bor (List ℕ)) → 3 ≤ length texts → length texts < 4 → Fails error (optional_mode_at (get_or texts 0 d).now) → Fails error (setopts_at (map (λ text. text.now) texts))
+pub mode_fails : (error : ReadError) (texts : List (Bor (List ℕ))) (d : Bor (List ℕ)) → 3 ≤ length texts → length texts < 4 → Fails error (optional_mode_at (get_or texts 0 d).now) → Fails error (setopts_at (texts_of texts))
 mode_fails error [] d least below fails = absurd (omega (arith, least))
 mode_fails error (x ∷ []) d least below fails = absurd (omega (arith, least))
 mode_fails error (x ∷ y ∷ []) d least below fails = absurd (omega (arith, least))
@@ -55,7 +56,7 @@ mode_fails error (x ∷ y ∷ z ∷ []) d least below fails = fails_first error 
 mode_fails error (x ∷ y ∷ z ∷ w ∷ texts) d least below fails = absurd (omega (arith, below))
 
 -- PROT says nothing of control behind a mode
-pub prot_fails : (error : ReadError) (texts : List (Bor (List ℕ))) (d : Bor (List ℕ)) (mode : Option ReadMode) → 3 ≤ length texts → length texts < 4 → optional_mode_at (get_or texts 0 d).now ≡ Ok mode → Fails error (optional_prot_at (get_or texts 1 d).now) → Fails error (setopts_at (map (λ text. text.now) texts))
+pub prot_fails : (error : ReadError) (texts : List (Bor (List ℕ))) (d : Bor (List ℕ)) (mode : Option ReadMode) → 3 ≤ length texts → length texts < 4 → optional_mode_at (get_or texts 0 d).now ≡ Ok mode → Fails error (optional_prot_at (get_or texts 1 d).now) → Fails error (setopts_at (texts_of texts))
 prot_fails error [] d mode least below is fails = absurd (omega (arith, least))
 prot_fails error (x ∷ []) d mode least below is fails = absurd (omega (arith, least))
 prot_fails error (x ∷ y ∷ []) d mode least below is fails = absurd (omega (arith, least))

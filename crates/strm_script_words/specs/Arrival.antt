@@ -7,9 +7,9 @@ use Rattle.strm_msg.specs.declared.errno.Errno.{Errno}
 use Rattle.strm_msg.specs.declared.words.ReadMode.{ReadMode}
 use Rattle.strm_msg.specs.declared.words.Prot.{Prot}
 use Rattle.strm_head_calls.specs.declared.request.TheConstants.{MAX_CONTROL, MAX_DATA}
-use Rattle.strm_script_words.specs.Fault.{◌>>=◌, or_fault}
+use Rattle.strm_script_words.specs.Fault.{◌>>=◌}
 use Rattle.strm_script_words.specs.Words.{named, mode_word, all_modes, prot_word, all_prots, flush_word, all_sides}
-use Rattle.strm_script_words.specs.Field.{number_at, part_upto, optional_upto, optional_marks_at, errno_at}
+use Rattle.strm_script_words.specs.Field.{number_at, value_at, part_upto, optional_upto, optional_marks_at, errno_at}
 use Rattle.strm_script_words.specs.declared.fault.Cause.{Cause}
 use Rattle.strm_script_words.specs.declared.fault.Cause.TheVariants as causes
 use Rattle.strm_script_words.specs.declared.arrival.MessageWord.{MessageWord}
@@ -35,10 +35,10 @@ message_named text = named message_word all_messages text
 
 -- the treatment of message bounds by reads, by its word
 abbrev pub mode_at : List ℕ → Result ReadMode Cause
-mode_at text = or_fault causes.UnknownWord (named mode_word all_modes text)
+mode_at text = value_at mode_word all_modes text
 
 abbrev pub prot_at : List ℕ → Result Prot Cause
-prot_at text = or_fault causes.UnknownWord (named prot_word all_prots text)
+prot_at text = value_at prot_word all_prots text
 
 -- the same, or `-` if it stays
 abbrev pub optional_mode_at : List ℕ → Result (Option ReadMode) Cause
@@ -49,7 +49,7 @@ optional_prot_at text = if bytes_eq text (codes "-") then Ok None else (prot_at 
 
 -- the sides of a flush, read and write, by their word
 abbrev pub flush_at : List ℕ → Result (Bool × Bool) Cause
-flush_at text = or_fault causes.UnknownWord (named (λ sides. flush_word sides.0 sides.1) all_sides text)
+flush_at text = value_at (λ sides. flush_word sides.0 sides.1) all_sides text
 
 -- the message of BAND PART
 abbrev pub data_at : List (List ℕ) → Result Msg Cause

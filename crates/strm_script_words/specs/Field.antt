@@ -63,6 +63,10 @@ optional_at text = if bytes_eq text (codes "-") then Ok None else (part_at text 
 abbrev pub maximum_at : List ℕ → Result (Option ℕ) Cause
 maximum_at text = if bytes_eq text (codes "-1") then Ok None else (number_at MOST_ASKED text >>= λ n. Ok (Some n))
 
+-- the value that a word names
+abbrev pub value_at : {A : Type 0} → (A → List ℕ) → List A → List ℕ → Result A Cause
+value_at word all text = or_fault causes.UnknownWord (named word all text)
+
 abbrev pub keyword_at : List (List ℕ) → List ℕ → Result (List ℕ) Cause
 keyword_at words text = if list_any (bytes_eq text) words then Ok text else Err causes.UnknownWord
 
@@ -118,4 +122,4 @@ abbrev pub optional_upto : ℕ → List ℕ → Result (Option (List ℕ)) Cause
 optional_upto most text = if bytes_eq text (codes "-") then Ok None else (part_upto most text >>= λ bytes. Ok (Some bytes))
 
 abbrev pub errno_at : List ℕ → Result Errno Cause
-errno_at text = or_fault causes.UnknownWord (named name_of all_errnos text)
+errno_at text = value_at name_of all_errnos text

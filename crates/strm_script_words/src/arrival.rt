@@ -1,6 +1,7 @@
 //! The messages of a feed.
-ghost use Rattle.std.specs.Prelude.{◌≡◌, true, false, map, IfOk, IsErrOf};
+ghost use Rattle.std.specs.Prelude.{◌≡◌, true, false, IfOk, IsErrOf};
 ghost use Rattle.strm_msg.specs.Kind.{is_from_line};
+ghost use Rattle.strm_script_text.specs.Text.{texts_of};
 ghost use Rattle.strm_script_words.specs.Fault.{Gives, Tells};
 ghost use Rattle.strm_script_words.specs.Arrival as arrivals;
 
@@ -68,7 +69,7 @@ impl Keyword for MessageWord {
 
 /// Reads `data BAND PART`.
 fn data(alloc: Global, texts: &[&[u8]]) -> Result<Message, ReadError>
-    ensures message { Gives (λ m. m) result (arrivals.data_at (map (λ text. text.now) texts.now)) }
+    ensures message { Gives (λ m. m) result (arrivals.data_at (texts_of texts.now)) }
     ensures line { IfOk result (λ m. is_from_line m.kind ≡ true) }
 {
     let [band, dat] = texts else {
@@ -86,7 +87,7 @@ fn data(alloc: Global, texts: &[&[u8]]) -> Result<Message, ReadError>
 
 /// Reads `proto BAND PART DAT`.
 fn proto(alloc: Global, texts: &[&[u8]]) -> Result<Message, ReadError>
-    ensures message { Gives (λ m. m) result (arrivals.proto_at (map (λ text. text.now) texts.now)) }
+    ensures message { Gives (λ m. m) result (arrivals.proto_at (texts_of texts.now)) }
     ensures line { IfOk result (λ m. is_from_line m.kind ≡ true) }
 {
     let [band, ctl, dat] = texts else {
@@ -105,7 +106,7 @@ fn proto(alloc: Global, texts: &[&[u8]]) -> Result<Message, ReadError>
 
 /// Reads `pcproto PART DAT`.
 fn pcproto(alloc: Global, texts: &[&[u8]]) -> Result<Message, ReadError>
-    ensures message { Gives (λ m. m) result (arrivals.pcproto_at (map (λ text. text.now) texts.now)) }
+    ensures message { Gives (λ m. m) result (arrivals.pcproto_at (texts_of texts.now)) }
     ensures line { IfOk result (λ m. is_from_line m.kind ≡ true) }
 {
     let [ctl, dat] = texts else {
@@ -143,7 +144,7 @@ fn optional_prot_at(text: &[u8]) -> Result<Option<Prot>, Cause>
 
 /// Reads `setopts MODE PROT HI/LO`, where `-` leaves each as it is.
 fn setopts(texts: &[&[u8]]) -> Result<Message, Cause>
-    ensures message { Tells (λ m. m) result (arrivals.setopts_at (map (λ text. text.now) texts.now)) }
+    ensures message { Tells (λ m. m) result (arrivals.setopts_at (texts_of texts.now)) }
     ensures line { IfOk result (λ m. is_from_line m.kind ≡ true) }
 {
     let [mode, prot, marks] = texts else {
@@ -157,7 +158,7 @@ fn setopts(texts: &[&[u8]]) -> Result<Message, Cause>
 
 /// Reads `flush FLAGS`.
 fn flush(texts: &[&[u8]]) -> Result<Message, Cause>
-    ensures message { Tells (λ m. m) result (arrivals.flush_msg_at (map (λ text. text.now) texts.now)) }
+    ensures message { Tells (λ m. m) result (arrivals.flush_msg_at (texts_of texts.now)) }
     ensures line { IfOk result (λ m. is_from_line m.kind ≡ true) }
 {
     let [flags] = texts else {
@@ -169,7 +170,7 @@ fn flush(texts: &[&[u8]]) -> Result<Message, Cause>
 
 /// Reads `hangup`.
 fn hangup(texts: &[&[u8]]) -> Result<Message, Cause>
-    ensures message { Tells (λ m. m) result (arrivals.hangup_at (map (λ text. text.now) texts.now)) }
+    ensures message { Tells (λ m. m) result (arrivals.hangup_at (texts_of texts.now)) }
     ensures line { IfOk result (λ m. is_from_line m.kind ≡ true) }
 {
     match texts {
@@ -180,7 +181,7 @@ fn hangup(texts: &[&[u8]]) -> Result<Message, Cause>
 
 /// Reads `error ERRNO`.
 fn error(texts: &[&[u8]]) -> Result<Message, Cause>
-    ensures message { Tells (λ m. m) result (arrivals.error_at (map (λ text. text.now) texts.now)) }
+    ensures message { Tells (λ m. m) result (arrivals.error_at (texts_of texts.now)) }
     ensures line { IfOk result (λ m. is_from_line m.kind ≡ true) }
 {
     let [errno] = texts else {
@@ -202,7 +203,7 @@ fn optional_errno_at(text: &[u8]) -> Result<Option<Errno>, Cause>
 
 /// Reads `error2 READ WRITE`, where `-` leaves a side as it is.
 fn error2(texts: &[&[u8]]) -> Result<Message, Cause>
-    ensures message { Tells (λ m. m) result (arrivals.error2_at (map (λ text. text.now) texts.now)) }
+    ensures message { Tells (λ m. m) result (arrivals.error2_at (texts_of texts.now)) }
     ensures line { IfOk result (λ m. is_from_line m.kind ≡ true) }
 {
     let [read, write] = texts else {
@@ -216,7 +217,7 @@ fn error2(texts: &[&[u8]]) -> Result<Message, Cause>
 /// The message of a word with its fields, none of which is a part.
 fn bare_at(word: MessageWord, texts: &[&[u8]]) -> Result<Message, Cause>
     requires { arrivals.takes_memory word ≡ false }
-    ensures message { Tells (λ m. m) result (arrivals.message_at word (map (λ text. text.now) texts.now)) }
+    ensures message { Tells (λ m. m) result (arrivals.message_at word (texts_of texts.now)) }
     ensures line { IfOk result (λ m. is_from_line m.kind ≡ true) }
 {
     match word {
@@ -232,7 +233,7 @@ fn bare_at(word: MessageWord, texts: &[&[u8]]) -> Result<Message, Cause>
 /// The message of a word with its fields. Refused for a wrong number of fields, then for the first field with
 /// a fault, such as a part of more bytes than a call may send; and when memory runs out, if it has a part.
 pub fn message_at(alloc: Global, word: MessageWord, texts: &[&[u8]]) -> Result<Message, ReadError>
-    ensures message { Gives (λ m. m) result (arrivals.message_at word (map (λ text. text.now) texts.now)) }
+    ensures message { Gives (λ m. m) result (arrivals.message_at word (texts_of texts.now)) }
     ensures memory { IsErrOf result ReadError.Memory → arrivals.takes_memory word ≡ true }
     ensures line { IfOk result (λ m. is_from_line m.kind ≡ true) }
 {

@@ -1,7 +1,7 @@
 //! Things that scripts name by words.
 ghost use Rattle.std.specs.Prelude.{◌≡◌, map};
-ghost use Rattle.strm_script_words.specs.Fault.{Tells, or_fault};
-ghost use Rattle.strm_script_words.specs.Field.{keyword_at};
+ghost use Rattle.strm_script_words.specs.Fault.{Tells};
+ghost use Rattle.strm_script_words.specs.Field.{keyword_at, value_at};
 ghost use Rattle.strm_script_words.specs.Words.{named};
 
 use crate::fault::Cause;
@@ -41,7 +41,7 @@ pub fn from_keyword<W: Keyword>(text: &[u8]) -> Option<W>
 /// The value of this word. Refused if the word names none.
 pub(crate) fn keyword_at<W: Keyword>(text: &[u8]) -> Result<W, Cause>
     ensures choice { Tells W.word result (keyword_at (map W.word W.all) text.now) }
-    ensures value { Tells (λ one. one) result (or_fault Cause.UnknownWord (named W.word W.all text.now)) }
+    ensures value { Tells (λ one. one) result (value_at W.word W.all text.now) }
 {
     match from_keyword(text) {
         Some(one) => Ok(one),

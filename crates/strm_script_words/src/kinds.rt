@@ -1,6 +1,6 @@
 //! The kinds of module that a script can name, and the modules that it pushes.
-ghost use Rattle.std.specs.Prelude.{◌≡◌, map};
-ghost use Rattle.strm_script_text.specs.Text.{name_of};
+ghost use Rattle.std.specs.Prelude.{◌≡◌};
+ghost use Rattle.strm_script_text.specs.Text.{name_of, name_text, texts_of};
 ghost use Rattle.strm_script_words.specs.Fault.{Gives, Tells, or_fault};
 ghost use Rattle.strm_script_words.specs.Naming as naming;
 
@@ -54,13 +54,13 @@ pub trait ReadKind: Drop {
     /// Refused if no kind has the word, and for the first field with a fault; and when memory runs out, which
     /// says nothing of the text.
     fn begins(alloc: Global, word: &[u8], texts: &[&[u8]]) -> Result<Self, ReadError>
-        ensures { Gives (λ kind. kind) result (words.begins word.now (map (λ text. text.now) texts.now)) };
+        ensures { Gives (λ kind. kind) result (words.begins word.now (texts_of texts.now)) };
 }
 
 /// The number of fields of a push behind NAME:END. Refused if the first field is missing, and if it names no
 /// kind.
 pub(crate) fn push_arity<K: ReadKind>(texts: &[&[u8]]) -> Result<usize, Cause>
-    ensures { Tells (λ n. n) result (naming.push_arity K.words (map (λ text. text.now) texts.now)) }
+    ensures { Tells (λ n. n) result (naming.push_arity K.words (texts_of texts.now)) }
 {
     let [kind, ..] = texts else {
         return Err(Cause::Fields);
@@ -73,7 +73,7 @@ pub(crate) fn push_arity<K: ReadKind>(texts: &[&[u8]]) -> Result<usize, Cause>
 
 /// The name of a module. Refused if the text is none.
 fn name_at(text: &[u8]) -> Result<ArrayVec<u8, LONGEST_NAME>, Cause>
-    ensures { Tells (λ name. name.items) result (or_fault Cause.Name (name_of LONGEST_NAME text.now)) }
+    ensures { Tells name_text result (or_fault Cause.Name (name_of LONGEST_NAME text.now)) }
 {
     match name(text) {
         Some(chosen) => Ok(chosen),
@@ -88,7 +88,7 @@ pub(crate) fn shape_at<K: ReadKind>(
     serial: u64,
     texts: &[&[u8]],
 ) -> Result<Shape<K>, ReadError>
-    ensures { Gives (λ shape. shape) result (naming.shape_at K.words serial (map (λ text. text.now) texts.now)) }
+    ensures { Gives (λ shape. shape) result (naming.shape_at K.words serial (texts_of texts.now)) }
 {
     let [kind, chosen, rd, wr, own @ ..] = texts else {
         return Err(ReadError::Fault(Cause::Fields));

@@ -1,6 +1,7 @@
 //! The words of the built-in kinds.
-ghost use Rattle.std.specs.Prelude.{◌≡◌, ◌==◌, map};
+ghost use Rattle.std.specs.Prelude.{◌≡◌, ◌==◌};
 ghost use Rattle.std.specs.List.{list_any, position_or_len};
+ghost use Rattle.strm_script_text.specs.Text.{texts_of};
 ghost use Rattle.strm_script_words.specs.Fault.{Gives, Tells};
 ghost use Rattle.strm_script_words.specs.Push as pushes;
 
@@ -149,7 +150,7 @@ fn table_of(from: &[u8], to: &[u8]) -> [u8; 256]
 /// The kind of FROM and TO. Refused if there are not these two fields, if one is no part, and if no table
 /// maps the one to the other.
 fn table_at(alloc: Global, texts: &[&[u8]]) -> Result<Kind, ReadError>
-    ensures { Gives (λ kind. kind) result (pushes.table_at (map (λ text. text.now) texts.now)) }
+    ensures { Gives (λ kind. kind) result (pushes.table_at (texts_of texts.now)) }
 {
     let [from, to] = texts else {
         return Err(ReadError::Fault(Cause::Fields));
@@ -166,7 +167,7 @@ fn table_at(alloc: Global, texts: &[&[u8]]) -> Result<Kind, ReadError>
 
 /// The kind of BAND. Refused if there is not this one field, and if it is no number up to `MOST_BAND`.
 fn band_at(texts: &[&[u8]]) -> Result<Kind, Cause>
-    ensures { Tells (λ kind. kind) result (pushes.band_at (map (λ text. text.now) texts.now)) }
+    ensures { Tells (λ kind. kind) result (pushes.band_at (texts_of texts.now)) }
 {
     let [band] = texts else {
         return Err(Cause::Fields);
@@ -176,7 +177,7 @@ fn band_at(texts: &[&[u8]]) -> Result<Kind, Cause>
 
 /// The kind of N. Refused if there is not this one field, and if it is no number from 1 to `MOST_SPLIT`.
 fn size_at(texts: &[&[u8]]) -> Result<Kind, Cause>
-    ensures { Tells (λ kind. kind) result (pushes.size_at (map (λ text. text.now) texts.now)) }
+    ensures { Tells (λ kind. kind) result (pushes.size_at (texts_of texts.now)) }
 {
     let [size] = texts else {
         return Err(Cause::Fields);
@@ -190,7 +191,7 @@ fn size_at(texts: &[&[u8]]) -> Result<Kind, Cause>
 
 /// A kind without fields of its own. Refused if there is a field.
 fn alone(kind: Kind, texts: &[&[u8]]) -> Result<Kind, Cause>
-    ensures { Tells (λ kind. kind) result (pushes.alone kind (map (λ text. text.now) texts.now)) }
+    ensures { Tells (λ kind. kind) result (pushes.alone kind (texts_of texts.now)) }
 {
     match texts {
         [] => Ok(kind),
@@ -201,7 +202,7 @@ fn alone(kind: Kind, texts: &[&[u8]]) -> Result<Kind, Cause>
 /// The kind with which a module begins, by its own fields. Refused for a wrong number of fields, and for a
 /// field with a fault.
 fn kind_at(alloc: Global, word: KindWord, texts: &[&[u8]]) -> Result<Kind, ReadError>
-    ensures { Gives (λ kind. kind) result (pushes.kind_at word (map (λ text. text.now) texts.now)) }
+    ensures { Gives (λ kind. kind) result (pushes.kind_at word (texts_of texts.now)) }
 {
     match word {
         KindWord::Pass => Ok(alone(Kind::Pass, texts)?),

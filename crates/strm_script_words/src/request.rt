@@ -1,5 +1,6 @@
 //! The calls of a script, by their fields.
-ghost use Rattle.std.specs.Prelude.{◌≡◌, true, false, map, IsErrOf};
+ghost use Rattle.std.specs.Prelude.{◌≡◌, true, false, IsErrOf};
+ghost use Rattle.strm_script_text.specs.Text.{texts_of};
 ghost use Rattle.strm_script_words.specs.Fault.{Gives, Tells};
 ghost use Rattle.strm_script_words.specs.Table as table;
 
@@ -14,7 +15,7 @@ use strm_module::{BoxedModule, Instance, ModuleOf};
 
 /// Reads `putmsg CTL DAT FLAG`.
 fn putmsg<M: ModuleOf>(alloc: Global, texts: &[&[u8]]) -> Result<Request<BoxedModule<M>>, ReadError>
-    ensures { Gives table.asked_of result (table.told_at Verb.Putmsg (map (λ text. text.now) texts.now)) }
+    ensures { Gives table.asked_of result (table.told_at Verb.Putmsg (texts_of texts.now)) }
 {
     let [ctl, dat, flag] = texts else {
         return Err(ReadError::Fault(Cause::Fields));
@@ -30,7 +31,7 @@ fn putpmsg<M: ModuleOf>(
     alloc: Global,
     texts: &[&[u8]],
 ) -> Result<Request<BoxedModule<M>>, ReadError>
-    ensures { Gives table.asked_of result (table.told_at Verb.Putpmsg (map (λ text. text.now) texts.now)) }
+    ensures { Gives table.asked_of result (table.told_at Verb.Putpmsg (texts_of texts.now)) }
 {
     let [ctl, dat, band, flag] = texts else {
         return Err(ReadError::Fault(Cause::Fields));
@@ -44,7 +45,7 @@ fn putpmsg<M: ModuleOf>(
 
 /// Reads `getmsg MAXCTL MAXDAT FLAG`.
 fn getmsg<M: ModuleOf>(texts: &[&[u8]]) -> Result<Request<BoxedModule<M>>, Cause>
-    ensures { Tells table.asked_of result (table.told_at Verb.Getmsg (map (λ text. text.now) texts.now)) }
+    ensures { Tells table.asked_of result (table.told_at Verb.Getmsg (texts_of texts.now)) }
 {
     let [maxctl, maxdat, flag] = texts else {
         return Err(Cause::Fields);
@@ -61,7 +62,7 @@ fn getmsg<M: ModuleOf>(texts: &[&[u8]]) -> Result<Request<BoxedModule<M>>, Cause
 
 /// Reads `getpmsg MAXCTL MAXDAT BAND FLAG`.
 fn getpmsg<M: ModuleOf>(texts: &[&[u8]]) -> Result<Request<BoxedModule<M>>, Cause>
-    ensures { Tells table.asked_of result (table.told_at Verb.Getpmsg (map (λ text. text.now) texts.now)) }
+    ensures { Tells table.asked_of result (table.told_at Verb.Getpmsg (texts_of texts.now)) }
 {
     let [maxctl, maxdat, band, flag] = texts else {
         return Err(Cause::Fields);
@@ -80,7 +81,7 @@ fn getpmsg<M: ModuleOf>(texts: &[&[u8]]) -> Result<Request<BoxedModule<M>>, Caus
 
 /// Reads `read MAX`.
 fn read<M: ModuleOf>(texts: &[&[u8]]) -> Result<Request<BoxedModule<M>>, Cause>
-    ensures { Tells table.asked_of result (table.told_at Verb.Read (map (λ text. text.now) texts.now)) }
+    ensures { Tells table.asked_of result (table.told_at Verb.Read (texts_of texts.now)) }
 {
     let [max] = texts else {
         return Err(Cause::Fields);
@@ -91,7 +92,7 @@ fn read<M: ModuleOf>(texts: &[&[u8]]) -> Result<Request<BoxedModule<M>>, Cause>
 
 /// Reads `write DAT`.
 fn write<M: ModuleOf>(alloc: Global, texts: &[&[u8]]) -> Result<Request<BoxedModule<M>>, ReadError>
-    ensures { Gives table.asked_of result (table.told_at Verb.Write (map (λ text. text.now) texts.now)) }
+    ensures { Gives table.asked_of result (table.told_at Verb.Write (texts_of texts.now)) }
 {
     let [dat] = texts else {
         return Err(ReadError::Fault(Cause::Fields));
@@ -102,7 +103,7 @@ fn write<M: ModuleOf>(alloc: Global, texts: &[&[u8]]) -> Result<Request<BoxedMod
 
 /// Reads `find NAME`.
 fn find<M: ModuleOf>(alloc: Global, texts: &[&[u8]]) -> Result<Request<BoxedModule<M>>, ReadError>
-    ensures { Gives table.asked_of result (table.told_at Verb.Find (map (λ text. text.now) texts.now)) }
+    ensures { Gives table.asked_of result (table.told_at Verb.Find (texts_of texts.now)) }
 {
     let [name] = texts else {
         return Err(ReadError::Fault(Cause::Fields));
@@ -113,7 +114,7 @@ fn find<M: ModuleOf>(alloc: Global, texts: &[&[u8]]) -> Result<Request<BoxedModu
 
 /// Reads `str CMD DAT`.
 fn str<M: ModuleOf>(alloc: Global, texts: &[&[u8]]) -> Result<Request<BoxedModule<M>>, ReadError>
-    ensures { Gives table.asked_of result (table.told_at Verb.Str (map (λ text. text.now) texts.now)) }
+    ensures { Gives table.asked_of result (table.told_at Verb.Str (texts_of texts.now)) }
 {
     let [cmd, dat] = texts else {
         return Err(ReadError::Fault(Cause::Fields));
@@ -125,7 +126,7 @@ fn str<M: ModuleOf>(alloc: Global, texts: &[&[u8]]) -> Result<Request<BoxedModul
 
 /// Reads `flush SIDES`.
 fn flush<M: ModuleOf>(texts: &[&[u8]]) -> Result<Request<BoxedModule<M>>, Cause>
-    ensures { Tells table.asked_of result (table.told_at Verb.Flush (map (λ text. text.now) texts.now)) }
+    ensures { Tells table.asked_of result (table.told_at Verb.Flush (texts_of texts.now)) }
 {
     let [sides] = texts else {
         return Err(Cause::Fields);
@@ -136,7 +137,7 @@ fn flush<M: ModuleOf>(texts: &[&[u8]]) -> Result<Request<BoxedModule<M>>, Cause>
 
 /// Reads `flushband BAND SIDES`.
 fn flush_band<M: ModuleOf>(texts: &[&[u8]]) -> Result<Request<BoxedModule<M>>, Cause>
-    ensures { Tells table.asked_of result (table.told_at Verb.FlushBand (map (λ text. text.now) texts.now)) }
+    ensures { Tells table.asked_of result (table.told_at Verb.FlushBand (texts_of texts.now)) }
 {
     let [band, sides] = texts else {
         return Err(Cause::Fields);
@@ -148,7 +149,7 @@ fn flush_band<M: ModuleOf>(texts: &[&[u8]]) -> Result<Request<BoxedModule<M>>, C
 
 /// Reads `peek MAXCTL MAXDAT FLAG`.
 fn peek<M: ModuleOf>(texts: &[&[u8]]) -> Result<Request<BoxedModule<M>>, Cause>
-    ensures { Tells table.asked_of result (table.told_at Verb.Peek (map (λ text. text.now) texts.now)) }
+    ensures { Tells table.asked_of result (table.told_at Verb.Peek (texts_of texts.now)) }
 {
     let [maxctl, maxdat, flag] = texts else {
         return Err(Cause::Fields);
@@ -165,7 +166,7 @@ fn peek<M: ModuleOf>(texts: &[&[u8]]) -> Result<Request<BoxedModule<M>>, Cause>
 
 /// Reads `setread MODE PROT`.
 fn set_read<M: ModuleOf>(texts: &[&[u8]]) -> Result<Request<BoxedModule<M>>, Cause>
-    ensures { Tells table.asked_of result (table.told_at Verb.SetRead (map (λ text. text.now) texts.now)) }
+    ensures { Tells table.asked_of result (table.told_at Verb.SetRead (texts_of texts.now)) }
 {
     let [mode, prot] = texts else {
         return Err(Cause::Fields);
@@ -177,7 +178,7 @@ fn set_read<M: ModuleOf>(texts: &[&[u8]]) -> Result<Request<BoxedModule<M>>, Cau
 
 /// Reads `canput BAND`.
 fn canput<M: ModuleOf>(texts: &[&[u8]]) -> Result<Request<BoxedModule<M>>, Cause>
-    ensures { Tells table.asked_of result (table.told_at Verb.Canput (map (λ text. text.now) texts.now)) }
+    ensures { Tells table.asked_of result (table.told_at Verb.Canput (texts_of texts.now)) }
 {
     let [band] = texts else {
         return Err(Cause::Fields);
@@ -188,7 +189,7 @@ fn canput<M: ModuleOf>(texts: &[&[u8]]) -> Result<Request<BoxedModule<M>>, Cause
 
 /// Reads `ckband BAND`.
 fn ckband<M: ModuleOf>(texts: &[&[u8]]) -> Result<Request<BoxedModule<M>>, Cause>
-    ensures { Tells table.asked_of result (table.told_at Verb.Ckband (map (λ text. text.now) texts.now)) }
+    ensures { Tells table.asked_of result (table.told_at Verb.Ckband (texts_of texts.now)) }
 {
     let [band] = texts else {
         return Err(Cause::Fields);
@@ -205,7 +206,7 @@ fn push<M: PlayModule>(
 ) -> Result<Request<BoxedModule<M>>, ReadError>
 where
     M::Kind: ReadKind,
-    ensures { Gives table.asked_of result (table.request_at M.Kind.words serial Verb.Push (map (λ text. text.now) texts.now)) }
+    ensures { Gives table.asked_of result (table.request_at M.Kind.words serial Verb.Push (texts_of texts.now)) }
 {
     let shape = shape_at(alloc, serial, texts)?;
     let object = M::object(alloc, &shape)?;
@@ -218,7 +219,7 @@ fn plain<M: ModuleOf>(
     texts: &[&[u8]],
     request: Request<BoxedModule<M>>,
 ) -> Result<Request<BoxedModule<M>>, Cause>
-    ensures { Tells table.asked_of result (table.plain_at (table.asked_of request) (map (λ text. text.now) texts.now)) }
+    ensures { Tells table.asked_of result (table.plain_at (table.asked_of request) (texts_of texts.now)) }
 {
     match texts {
         [] => Ok(request),
@@ -229,7 +230,7 @@ fn plain<M: ModuleOf>(
 /// The request of a call that has no part and is no push.
 fn bare_at<M: ModuleOf>(verb: Verb, texts: &[&[u8]]) -> Result<Request<BoxedModule<M>>, Cause>
     requires { table.takes_memory verb ≡ false }
-    ensures { Tells table.asked_of result (table.told_at verb (map (λ text. text.now) texts.now)) }
+    ensures { Tells table.asked_of result (table.told_at verb (texts_of texts.now)) }
 {
     match verb {
         Verb::Getmsg => getmsg(texts),
@@ -265,7 +266,7 @@ pub fn request_at<M: PlayModule>(
 ) -> Result<Request<BoxedModule<M>>, ReadError>
 where
     M::Kind: ReadKind,
-    ensures asked { Gives table.asked_of result (table.request_at M.Kind.words serial verb (map (λ text. text.now) texts.now)) }
+    ensures asked { Gives table.asked_of result (table.request_at M.Kind.words serial verb (texts_of texts.now)) }
     ensures memory { IsErrOf result ReadError.Memory → table.takes_memory verb ≡ true }
 {
     match verb {

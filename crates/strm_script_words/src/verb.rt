@@ -1,5 +1,6 @@
 //! The calls of a script, by their words.
-ghost use Rattle.std.specs.Prelude.{◌≡◌, length, map};
+ghost use Rattle.std.specs.Prelude.{◌≡◌, length};
+ghost use Rattle.strm_script_text.specs.Text.{texts_of};
 ghost use Rattle.strm_script_words.specs.Fault.{Tells};
 ghost use Rattle.strm_script_words.specs.Table as table;
 
@@ -86,7 +87,7 @@ impl Verb {
     /// The number of fields of the call behind NAME:END. For a push it depends on the first of them. Refused
     /// if that is missing, or names no kind of module.
     pub fn arity<K: ReadKind>(self, texts: &[&[u8]]) -> Result<usize, Cause>
-        ensures { Tells (λ n. n) result (table.arity_at K.words self (map (λ text. text.now) texts.now)) }
+        ensures { Tells (λ n. n) result (table.arity_at K.words self (texts_of texts.now)) }
     {
         if matches!(self, Verb::Push) {
             return push_arity::<K>(texts);

@@ -60,29 +60,9 @@ module _ {K : Type 0} (means : Meaning K) where
       (none_behind (first_that_holds (common_refusals image e Requests.Pop)) (first_that_holds (pop_refusals image e)) (sym (first_of_all means image e Requests.Pop refl) ∙ none))
       replies comes
   hands_out image e Requests.Close answer back kept none replies comes = close_out (end_of image e).modules answer back replies comes
-  hands_out image e (Requests.Putmsg flag parts) answer back kept none replies comes = comes
-  hands_out image e (Requests.Putpmsg band flag parts) answer back kept none replies comes = comes
-  hands_out image e (Requests.Getmsg maxctl maxdat flag) answer back kept none replies comes = comes
-  hands_out image e (Requests.Getpmsg maxctl maxdat band flag) answer back kept none replies comes = comes
   hands_out image e (Requests.Read zero) answer back kept none replies comes = comes
-  hands_out image e (Requests.Read (suc n)) answer back kept none replies comes = comes
-  hands_out image e (Requests.Write dat) answer back kept none replies comes = comes
-  hands_out image e (Requests.Push shape) answer back kept none replies comes = comes
-  hands_out image e Requests.Nread answer back kept none replies comes = comes
-  hands_out image e (Requests.Peek maxctl maxdat flag) answer back kept none replies comes = comes
-  hands_out image e (Requests.SetRead mode prot) answer back kept none replies comes = comes
-  hands_out image e Requests.GetRead answer back kept none replies comes = comes
-  hands_out image e (Requests.Canput band) answer back kept none replies comes = comes
-  hands_out image e (Requests.Ckband band) answer back kept none replies comes = comes
-  hands_out image e Requests.Getband answer back kept none replies comes = comes
-  hands_out image e Requests.Look answer back kept none replies comes = comes
-  hands_out image e Requests.List answer back kept none replies comes = comes
-  hands_out image e (Requests.Find name) answer back kept none replies comes = comes
-  hands_out image e (Requests.Str cmd dat) answer back kept none replies comes = comes
-  hands_out image e (Requests.Flush r w) answer back kept none replies comes = comes
-  hands_out image e (Requests.FlushBand band r w) answer back kept none replies comes = comes
   hands_out image e Requests.Take answer back kept none replies comes = comes ∙ ap (λ out. handed_out out) (taken_none image e (end_of image e).drv)
-  hands_out image e Requests.Poll answer back kept none replies comes = comes
+  hands_out image e request answer back kept none replies comes = comes
 
   -- of a step that a call has made
   made_back : (image : Image K) (call : Call (Shape K)) (answer : Answer) (moves : List Place) (out : List ℕ) (after : Image K) (back : List (Option (Shape K))) → Step means image call.end (Asked call.request) answer moves out after → back ≡ back_of means image call.end call.request answer → HandsBackMade call answer back

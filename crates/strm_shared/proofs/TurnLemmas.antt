@@ -29,6 +29,8 @@ use Rattle.strm_shared.specs.Ending.{CountsAgree, Counted}
 use Rattle.strm_shared.specs.CallCounts.{counted, has_count, is_next, turned, ArePrefixOf, AreInTurn, CallCountsValue}
 use Rattle.strm_shared_ring.specs.StreamRunName.{IsNextOf}
 
+-- ---- one entry more
+
 -- the first elements, with one more
 pub take_next : {A : Type 0} (all : List A) (count : ℕ) (one : A) → slice_get all count ≡ Some one → take (suc count) all ≡ take count all ++ one ∷ []
 take_next [] count one at = absurd cc
@@ -85,6 +87,8 @@ module _ {K : Type 0} (calls : ℕ → Option (List (End × Event (Shape K)))) (
     first = λ caller. first_now caller (who == caller) refl;
   }
 
+-- ---- before the first step
+
 -- before the first step
 none_first : {K : Type 0} (calls : Option (List (End × Event (Shape K)))) → ArePrefixOf calls []
 none_first None = tt
@@ -96,6 +100,8 @@ none_in_turn calls callers = record {
   seated = λ i d below. absurd (omega arith);
   first = λ caller. none_first (calls caller);
 }
+
+-- ---- a call that is counted
 
 -- a call that was made is counted, by what its seat counts after it
 pub counted_is : (number : ℕ) (seat after : SeatValue) (shown : Bool) (turns new : CallCountsValue) (next : Bool) → next ≡ is_next number seat turns.counts → after ≡ record seat { calls = seat.calls + 1; shown = shown } → new ≡ (if next then record { counts = set turns.counts after.caller after.calls; in_turn = turns.in_turn } else record { counts = turns.counts; in_turn = false }) → new ≡ counted number seat turns
@@ -135,6 +141,8 @@ module _ {K : Type 0} (means : Meaning K) (calls : ℕ → ℕ → Option (List 
   call_keeps Agrees old new seat call (NoRoom same) turns after by is one was so =
       subst (λ (l : List (Entry K)). AreInTurn (calls number) after.counts l) (sym by.1.history) (subst (λ (t : CallCountsValue). AreInTurn (calls number) t.counts old.history) (sym is) (was (sym (ap (λ t. t.in_turn) is) ∙ so)))
 
+-- ---- counts and seats
+
 -- a call that was made, or not, is counted in the turns as the seat counts it
 pub done_turned : {P K A : Type 0} (number : ℕ) (seat after : SeatValue) (shown : Bool) (result : Called P K A) (turns new : CallCountsValue) (next : Bool) → true ≡ is_done result → next ≡ is_next number seat turns.counts → after ≡ record seat { calls = seat.calls + 1; shown = shown } → new ≡ (if next then record { counts = set turns.counts after.caller after.calls; in_turn = turns.in_turn } else record { counts = turns.counts; in_turn = false }) → new ≡ turned number seat result turns
 done_turned number seat after shown (Done answer back receipt) turns new next done same counts is = counted_is number seat after shown turns new next same counts is
@@ -159,6 +167,8 @@ counts_agree calls counts history seats are all i d below =
     let s = get_or seats i d in
     let has = and_parts _ _ (all i d below) in
     sym (are.counts_are s.caller (ltb-true s.caller (length counts) has.0)) ∙ eqb-true _ s.calls has.1
+
+-- ---- results
 
 -- a fault told by one function is that of another
 pub same_fault : {S T E : Type 0} (fault other : E) → IsErrOf {T = S} (Err fault) other → IsErrOf {T = T} (Err fault) other

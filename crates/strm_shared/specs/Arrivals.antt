@@ -1,5 +1,5 @@
 -- Messages that come in from a line before a call is made. No public clause cites the definitions here.
-use Rattle.std.specs.Prelude.{◌≡◌, ◌<◌, ◌≤◌, ℕ, Bool, true, false, List, [], ◌∷◌, Option, Some, IfSome, length, ◌⊎◌}
+use Rattle.std.specs.Prelude.{◌≡◌, ◌<◌, ◌≤◌, ◌+◌, ℕ, Bool, true, false, List, [], ◌∷◌, Option, Some, IfSome, length, ◌⊎◌}
 use Rattle.strm_msg.specs.Message.{Msg}
 use Rattle.strm_msg.specs.declared.words.End.TheVariants.{A}
 use Rattle.strm_module.specs.Driver.{is_line}
@@ -11,6 +11,8 @@ use Rattle.strm_head.specs.Step.{can_arrive}
 use Rattle.strm_shared_entry.specs.declared.call.Called.{Called}
 use Rattle.strm_shared_entry.specs.declared.call.Called.TheVariants.{Done, NoRoom}
 use Rattle.strm_shared_log.specs.Log.{LogValue, HasLanded, CallsBy, IsSameLog}
+use Rattle.strm_shared.specs.CallCounts.{SharedStateValue}
+use Rattle.strm_shared.specs.Seat.{SeatValue}
 use Rattle.strm_shared.specs.declared.state.Intake.{Intake}
 use Rattle.strm_shared.specs.declared.state.Intake.TheVariants.{Entered, HeldBack, NoMem}
 
@@ -70,3 +72,12 @@ module _ {K : Type 0} (means : Meaning K) where
     pub before : LogValue K
     pub finds : Finds old result before held
     pub calls : CallsBy means Agrees before caller number call result new
+
+  -- the next call of a seat is made
+  abbrev pub SeatCalls : {A : Type 0} → (A → Answer → Type 0) → SharedStateValue K → SeatValue → Call (Shape K) → Called (Shape K) K A → SharedStateValue K → Type 0
+  SeatCalls Agrees old seat call result new = CallsBy means Agrees old.log seat.caller (seat.calls + 1) call result new.log
+
+  -- behind messages that came in
+  abbrev pub SeatCallsAfter : {A : Type 0} → (A → Answer → Type 0) → SharedStateValue K → SeatValue → Call (Shape K) → Called (Shape K) K A → SharedStateValue K → Type 0
+  SeatCallsAfter Agrees old seat call result new =
+      CallsAfter Agrees old.log seat.caller (seat.calls + 1) call result new.log new.inlet.held

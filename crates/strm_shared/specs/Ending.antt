@@ -1,8 +1,9 @@
 -- A shared stream and its seats as a contract sees them, the modules that come back of a call, and the
 -- conditions of the end.
-use Rattle.std.specs.Prelude.{◌≡◌, ℕ, ◌+◌, ◌<◌, ◌==◌, zero, suc, not, ◌&&◌, Bool, true, Option, Some, None, IfSome, List, [], ◌∷◌, ◌++◌, length, map, flat_map, is_some, All, Any, ⊤}
+use Rattle.std.specs.Prelude.{◌≡◌, ℕ, ◌+◌, ◌<◌, ◌==◌, zero, suc, not, Bool, true, Option, Some, None, IfSome, List, [], ◌∷◌, ◌++◌, length, map, flat_map, is_some, All, Any, ⊤}
 use Rattle.strm_module.specs.declared.shape.Shape.{Shape}
 use Rattle.strm_module.specs.Driver.{is_line}
+use Rattle.strm_module.specs.Kinds.{Meaning}
 use Rattle.strm_head_calls.specs.declared.request.Request.{Request}
 use Rattle.strm_head_calls.specs.declared.request.Request.TheVariants as Requests
 use Rattle.strm_head_calls.specs.declared.answer.Reply.{Reply}
@@ -18,12 +19,15 @@ use Rattle.strm_shared_entry.specs.Entry.{Entry}
 use Rattle.strm_shared_entry.specs.declared.call.Called.{Called}
 use Rattle.strm_shared_entry.specs.declared.call.Called.TheVariants.{Done, NoRoom}
 use Rattle.strm_shared_entry.specs.Entry.{asked_of, serial_of}
+use Rattle.strm_shared_ended.specs.Ended.{EndedValue}
+use Rattle.strm_shared_log.specs.History.{Legal}
+use Rattle.strm_shared_log.specs.Opened.{opened}
 use Rattle.strm_shared_log.specs.Steps.{due_back}
-use Rattle.strm_shared_entry.specs.Own.{calls_of}
+use Rattle.strm_shared_entry.specs.Own.{calls_of, arrivals}
 use Rattle.strm_shared_entry.specs.Receipt.{ReceiptValue, EntryRoomValue}
-use Rattle.strm_shared_ring.specs.Feed.{FeedValue}
-use Rattle.strm_shared.specs.Seat.{SeatValue}
-use Rattle.strm_shared.specs.CallCounts.{SharedStateValue, has_count}
+use Rattle.strm_shared_ring.specs.Feed.{FeedValue, accepted_of}
+use Rattle.strm_shared.specs.Seat.{SeatValue, after_call}
+use Rattle.strm_shared.specs.CallCounts.{SharedStateValue, SeatsAgree}
 
 -- a shared stream: its number, its setup, and how many callers it has
 pub record SharedValue : Type 0 where
@@ -36,11 +40,15 @@ abbrev pub fresh_seats : ℕ → ℕ → List SeatValue
 fresh_seats number zero = []
 fresh_seats number (suc callers) = fresh_seats number callers ++ record { number = number; caller = callers; calls = 0; shown = true } ∷ []
 
+-- each caller has a seat
+abbrev pub HasEachCaller : ℕ → List SeatValue → Type 0
+HasEachCaller callers seats = (caller : ℕ) → caller < callers → Any (λ s. s.caller ≡ caller) seats
+
 -- as many seats as callers, all of one stream, and one for each caller
 pub record AreSeats (number callers : ℕ) (seats : List SeatValue) : Type 0 where
   pub many : length seats ≡ callers
   pub of_one : All (λ s. s.number ≡ number) seats
-  pub each : (caller : ℕ) → caller < callers → Any (λ s. s.caller ≡ caller) seats
+  pub each : HasEachCaller callers seats
 
 -- each call that was made from these seats has a receipt
 abbrev pub AreShown : List SeatValue → Type 0
@@ -52,7 +60,7 @@ room_of seat call = record { caller = seat.caller; number = seat.calls + 1; end 
 
 -- the seat counts a call that was made, and no other, and whether all have receipts
 abbrev pub Counted : {P K A : Type 0} → Call P → SeatValue → Called P K A → SeatValue → Type 0
-Counted call seat (Done answer back receipt) after = after ≡ record seat { calls = seat.calls + 1; shown = seat.shown && is_some receipt }
+Counted call seat (Done answer back receipt) after = after ≡ after_call seat (is_some receipt)
 Counted call seat (NoRoom same) after = after ≡ seat
 
 -- the answer has this reply, if it has one
@@ -109,8 +117,31 @@ abbrev pub is_fed : ℕ → Setup → Option FeedValue → Bool
 is_fed number setup None = not (is_line setup.driver)
 is_fed number setup (Some feed) = feed.number == number
 
+-- these are the seats, and a line's feeder has ended, but a call has no receipt
+abbrev pub LacksReceipt : SharedValue → List SeatValue → Option FeedValue → Type 0
+LacksReceipt shared seats feed =
+    AreSeats shared.number shared.seats seats × (is_fed shared.number shared.setup feed ≡ true) × (AreShown seats → ⊥)
+
+-- the history leads by steps from a stream that was just opened to the one that is there
+abbrev pub IsLegalEnd : {K : Type 0} → Meaning K → Setup → EndedValue K → Type 0
+IsLegalEnd means setup ended = Legal means (opened setup) ended.history ended.stream
+
+-- the messages that came in, and those that are left, are those that the feeder had accepted
+abbrev pub HasAccepted : {K : Type 0} → EndedValue K → Option FeedValue → Type 0
+HasAccepted ended feed = arrivals ended.history ++ ended.left ≡ accepted_of feed
+
 -- the state under the lock is the stream's; its calls are in turn, those of as many callers, and as many of
 -- each as its seat counts; and a line's feeder has ended (no public clause cites it)
 abbrev pub IsFinished : {K : Type 0} → ℕ → Setup → ℕ → SharedStateValue K → List SeatValue → Option FeedValue → Type 0
 IsFinished number setup callers locked seats feed =
-    ((locked.number ≡ number) × (locked.log.setup ≡ setup)) × (is_fed number setup feed ≡ true) × ((locked.turns.in_turn ≡ true) × (length locked.turns.counts ≡ callers) × All (λ seat. has_count seat locked.turns.counts ≡ true) seats)
+    ((locked.number ≡ number) × (locked.log.setup ≡ setup)) × (is_fed number setup feed ≡ true) × SeatsAgree locked.turns callers seats
+
+-- the seats are the stream's, which has not ended (no public clause cites it)
+abbrev pub IsUnfinished : {K : Type 0} → ℕ → Setup → ℕ → SharedStateValue K → List SeatValue → Option FeedValue → Type 0
+IsUnfinished number setup callers locked seats feed =
+    AreSeats number callers seats × (IsFinished number setup callers locked seats feed → ⊥)
+
+-- or it has, and a call has no receipt (no public clause cites it)
+abbrev pub IsUnshown : {K : Type 0} → ℕ → Setup → ℕ → SharedStateValue K → List SeatValue → Option FeedValue → Type 0
+IsUnshown number setup callers locked seats feed =
+    AreSeats number callers seats × IsFinished number setup callers locked seats feed × (AreShown seats → ⊥)

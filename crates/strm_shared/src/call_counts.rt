@@ -1,6 +1,6 @@
 //! The number of calls that each caller of a shared stream has made.
-ghost use Rattle.std.specs.Prelude.{◌≡◌, ◌↔◌, ◌<◌, true, false, All, IfOk, length, replicate, set, if◌then◌else◌};
-ghost use Rattle.strm_shared.specs.CallCounts.{has_count, is_next};
+ghost use Rattle.std.specs.Prelude.{◌≡◌, ◌↔◌, ◌<◌, true, IfOk, length};
+ghost use Rattle.strm_shared.specs.CallCounts.{has_count, is_next, fresh_counts, counts_after, SeatsAgree};
 
 use crate::seat::Seat;
 use std::alloc::Global;
@@ -36,7 +36,7 @@ fn has_count(seat: &Seat, counts: &[u64]) -> bool
 impl CallCounts {
     /// The counts before any caller has made a call. Fails only when memory runs out.
     pub(crate) fn new(alloc: Global, callers: u32) -> Result<CallCounts, NoMem>
-        ensures { IfOk result (λ turns. turns ≡ record { counts = replicate callers 0; in_turn = true }) }
+        ensures { IfOk result (λ turns. turns ≡ fresh_counts callers) }
     {
         let counts = vec![in alloc; 0; callers as usize]?;
         Ok(CallCounts {
@@ -55,7 +55,7 @@ impl CallCounts {
     /// Counts a call that was made, by a seat that was next or not, and that has counted it.
     pub(crate) fn count(&mut self, was_next: bool, seat: &Seat)
         requires { was_next ≡ true → seat.now.caller < length self.old.counts }
-        ensures { self.new ≡ (if was_next then record { counts = set self.old.counts seat.now.caller seat.now.calls; in_turn = self.old.in_turn } else record { counts = self.old.counts; in_turn = false }) }
+        ensures { self.new ≡ counts_after was_next seat.now self.old }
     {
         if was_next {
             self.counts[seat.caller() as usize] = seat.calls();
@@ -67,7 +67,7 @@ impl CallCounts {
     /// Whether the calls are in turn, those of as many callers, and each seat counts as many as its
     /// caller has made.
     pub(crate) fn seats_agree(&self, callers: u32, seats: &[Seat]) -> bool
-        ensures { result ≡ true ↔ (self.now.in_turn ≡ true) × (length self.now.counts ≡ callers) × All (λ seat. has_count seat self.now.counts ≡ true) seats.now }
+        ensures { result ≡ true ↔ SeatsAgree self.now callers seats.now }
     {
         let counts = self.counts.as_slice();
         self.in_turn

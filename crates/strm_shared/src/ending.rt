@@ -1,11 +1,7 @@
 //! Conditions under which a shared stream has ended.
-ghost use Rattle.std.specs.Prelude.{◌≡◌, ◌↔◌, ◌<◌, ◌++◌, ℕ, true, All, Any, IfErr, IfOk, OnOk, IsErrOf, length};
-ghost use Rattle.strm_shared_entry.specs.Own.{arrivals};
-ghost use Rattle.strm_shared_log.specs.History.{Legal};
-ghost use Rattle.strm_shared_log.specs.Opened.{opened};
-ghost use Rattle.strm_shared_ring.specs.Feed.{accepted_of};
-ghost use Rattle.strm_shared.specs.Ending.{is_fed, AreSeats, AreShown, IsFinished};
-ghost use Rattle.strm_shared.specs.CallCounts.{has_count, AreInTurn};
+ghost use Rattle.std.specs.Prelude.{◌≡◌, ◌↔◌, ◌<◌, true, Any, IfErr, IfOk, OnOk, IsErrOf, length};
+ghost use Rattle.strm_shared.specs.Ending.{is_fed, AreSeats, AreShown, HasEachCaller, IsUnfinished, IsUnshown, IsLegalEnd, HasAccepted};
+ghost use Rattle.strm_shared.specs.CallCounts.{AreInTurn, SeatsAgree};
 
 use crate::fault::EndFault;
 use crate::seat::Seat;
@@ -25,7 +21,7 @@ fn is_seated(caller: u32, seats: &[Seat]) -> bool
 
 /// Whether each caller has a seat among these.
 fn are_seated(callers: u32, seats: &[Seat]) -> bool
-    ensures { result ≡ true ↔ ((caller : ℕ) → caller < callers → Any (λ s. s.caller ≡ caller) seats.now) }
+    ensures { result ≡ true ↔ HasEachCaller callers seats.now }
 {
     for caller in 0..callers {
         if !is_seated(caller, seats) {
@@ -72,13 +68,13 @@ pub(crate) fn have_ended<M: ModuleOf, N: StreamRunName<M::Kind>>(
     feed: &Option<FeedEnd<M::Kind, N>>,
 ) -> Result<(), EndFault>
     ensures of { OnOk result ((locked.now.number ≡ number) × (locked.now.log.setup ≡ setup)) }
-    ensures agree { OnOk result ((locked.now.turns.in_turn ≡ true) × (length locked.now.turns.counts ≡ callers) × All (λ seat. has_count seat locked.now.turns.counts ≡ true) seats.now) }
+    ensures agree { OnOk result (SeatsAgree locked.now.turns callers seats.now) }
     ensures fed { OnOk result (is_fed number setup feed.now ≡ true) }
     ensures seated { OnOk result (AreSeats number callers seats.now) }
     ensures shown { OnOk result (AreShown seats.now) }
     ensures seats { IsErrOf result EndFault.Seats ↔ (AreSeats number callers seats.now → ⊥) }
-    ensures unfinished { IsErrOf result EndFault.Unfinished → (AreSeats number callers seats.now) × (IsFinished number setup callers locked.now seats.now feed.now → ⊥) }
-    ensures no_receipt { IsErrOf result EndFault.NoReceipt → (AreSeats number callers seats.now) × (IsFinished number setup callers locked.now seats.now feed.now) × (AreShown seats.now → ⊥) }
+    ensures unfinished { IsErrOf result EndFault.Unfinished → IsUnfinished number setup callers locked.now seats.now feed.now }
+    ensures no_receipt { IsErrOf result EndFault.NoReceipt → IsUnshown number setup callers locked.now seats.now feed.now }
     ensures memory { IsErrOf result EndFault.NoMem → ⊥ }
 {
     if !are_seats(number, callers, seats) {
@@ -106,9 +102,9 @@ pub(crate) fn left_of<M: ModuleOf, N: StreamRunName<M::Kind>>(
     requires in_turn { locked.turns.in_turn ≡ true }
     requires counts { length locked.turns.counts ≡ callers }
     requires fed { is_fed locked.number locked.log.setup feed ≡ true }
-    ensures legal { IfOk result (λ ended. Legal M.Kind.means (opened locked.log.setup) ended.history ended.stream) }
+    ensures legal { IfOk result (λ ended. IsLegalEnd M.Kind.means locked.log.setup ended) }
     ensures in_turn { IfOk result (λ ended. AreInTurn (N.calls locked.number) locked.turns.counts ended.history) }
-    ensures arrived { IfOk result (λ ended. arrivals ended.history ++ ended.left ≡ accepted_of feed) }
+    ensures arrived { IfOk result (λ ended. HasAccepted ended feed) }
     ensures memory { IfErr result (λ fault. fault ≡ EndFault.NoMem) }
 {
     let (log, turns, inlet) = locked.into_parts();

@@ -1,5 +1,6 @@
 //! The seat of a caller of a shared stream.
-ghost use Rattle.std.specs.Prelude.{◌≡◌, ◌+◌, ◌<◌, ◌^◌, ◌&&◌, true};
+ghost use Rattle.std.specs.Prelude.{◌≡◌, ◌+◌, ◌<◌, ◌^◌, true};
+ghost use Rattle.strm_shared.specs.Seat.{after_call};
 
 use std::marker::Model;
 
@@ -65,7 +66,7 @@ impl Seat {
     /// Counts one call more that was made, which has a receipt or has none.
     pub(crate) fn count(&mut self, has_receipt: bool)
         requires { self.old.calls + 1 < 2 ^ 64 }
-        ensures { self.new ≡ record self.old { calls = self.old.calls + 1; shown = self.old.shown && has_receipt } }
+        ensures { self.new ≡ after_call self.old has_receipt }
     {
         self.calls += 1;
         self.shown = self.shown && has_receipt;

@@ -1,17 +1,13 @@
 //! A stream that several callers share.
-ghost use Rattle.std.specs.Prelude.{◌≡◌, ◌↔◌, ◌++◌, ℕ, true, All, IfOk, OnOk, IsErrOf};
+ghost use Rattle.std.specs.Prelude.{◌≡◌, ◌↔◌, true, IfOk, OnOk, IsErrOf};
 ghost use Rattle.strm_head_calls.specs.Setup.{is_fit};
-ghost use Rattle.strm_head_calls.specs.declared.event.Event.TheVariants.{Asked};
-ghost use Rattle.strm_shared_entry.specs.Own.{arrivals, own};
-ghost use Rattle.strm_shared_log.specs.History.{Legal};
 ghost use Rattle.strm_shared_log.specs.Log.{Equals};
 ghost use Rattle.strm_shared_log.specs.Serials.{AreAccounted};
 ghost use Rattle.strm_shared_log.specs.Opened.{opened};
-ghost use Rattle.strm_shared_ring.specs.Feed.{accepted_of, fresh_feeder};
-ghost use Rattle.strm_shared_ring.specs.StreamRunName.{IsNextOf};
-ghost use Rattle.strm_shared.specs.Ending.{fresh_seats, is_fed, AreSeats, AreShown, CountsAgree, Counted, HandsBack, Shows};
-ghost use Rattle.strm_shared_entry.specs.Own.{has_seat};
-ghost use Rattle.strm_shared.specs.CallCounts.{ArePrefixOf};
+ghost use Rattle.strm_shared_ring.specs.Feed.{fresh_feeder};
+ghost use Rattle.strm_shared.specs.Ending.{fresh_seats, is_fed, AreSeats, AreShown, CountsAgree, Counted, HandsBack, Shows, LacksReceipt, IsLegalEnd, HasAccepted};
+ghost use Rattle.strm_shared_entry.specs.Own.{AreFromSeats};
+ghost use Rattle.strm_shared.specs.CallCounts.{FollowsCalls, IsNextCall};
 
 use crate::ending::{have_ended, left_of};
 use crate::fault::EndFault;
@@ -129,7 +125,7 @@ impl<M: ModuleOf, N: StreamRunName<M::Kind>> Shared<M, N> {
         call: Call<BoxedModule<M>>,
     ) -> Called<BoxedModule<M>, M::Kind>
         requires number { seat.old.number ≡ self.now.number }
-        requires next { IsNextOf (N.calls seat.old.number seat.old.caller) seat.old.calls (call.end, Asked call.request) }
+        requires next { IsNextCall N.calls seat.old call }
         ensures counts { Counted call seat.old result seat.new }
         ensures back { HandsBack Equals call result }
         ensures shown { Shows Equals seat.old call result }
@@ -146,7 +142,7 @@ impl<M: ModuleOf, N: StreamRunName<M::Kind>> Shared<M, N> {
         call: Call<BoxedModule<M>>,
     ) -> Called<BoxedModule<M>, M::Kind, A::CallerCopy>
         requires number { seat.old.number ≡ self.now.number }
-        requires next { IsNextOf (N.calls seat.old.number seat.old.caller) seat.old.calls (call.end, Asked call.request) }
+        requires next { IsNextCall N.calls seat.old call }
         ensures counts { Counted call seat.old result seat.new }
         ensures back { HandsBack A.Agrees call result }
         ensures shown { Shows A.Agrees seat.old call result }
@@ -174,17 +170,17 @@ impl<M: ModuleOf, N: StreamRunName<M::Kind>> Shared<M, N> {
         seats: Vec<Seat>,
         feed: Option<FeedEnd<M::Kind, N>>,
     ) -> Result<Ended<M>, EndFault>
-        ensures legal { IfOk result (λ ended. Legal M.Kind.means (opened self.setup) ended.history ended.stream) }
+        ensures legal { IfOk result (λ ended. IsLegalEnd M.Kind.means self.setup ended) }
         ensures accounts { IfOk result (λ ended. AreAccounted (opened self.setup) ended.history ended.stream) }
-        ensures callers { IfOk result (λ ended. All (λ entry. has_seat self.seats entry.who ≡ true) ended.history) }
+        ensures callers { IfOk result (λ ended. AreFromSeats self.seats ended.history) }
         ensures counts { IfOk result (λ ended. CountsAgree ended.history seats.items) }
-        ensures first { IfOk result (λ ended. (caller : ℕ) → ArePrefixOf (N.calls self.number caller) (own caller ended.history)) }
-        ensures arrived { IfOk result (λ ended. arrivals ended.history ++ ended.left ≡ accepted_of feed) }
+        ensures first { IfOk result (λ ended. FollowsCalls (N.calls self.number) ended.history) }
+        ensures arrived { IfOk result (λ ended. HasAccepted ended feed) }
         ensures fed { OnOk result (is_fed self.number self.setup feed ≡ true) }
         ensures seated { OnOk result (AreSeats self.number self.seats seats.items) }
         ensures shown { OnOk result (AreShown seats.items) }
         ensures seats { IsErrOf result EndFault.Seats ↔ (AreSeats self.number self.seats seats.items → ⊥) }
-        ensures no_receipt { IsErrOf result EndFault.NoReceipt → (AreSeats self.number self.seats seats.items) × (is_fed self.number self.setup feed ≡ true) × (AreShown seats.items → ⊥) }
+        ensures no_receipt { IsErrOf result EndFault.NoReceipt → LacksReceipt self seats.items feed }
         ensures memory { IsErrOf result EndFault.NoMem → AreShown seats.items }
     {
         let Shared {

@@ -1,17 +1,14 @@
 //! The state under the lock of a shared stream.
-ghost use Rattle.std.specs.Prelude.{◌≡◌, ◌↔◌, ◌+◌, ◌<◌, ◌^◌, true, [], All, IfOk, length, replicate};
+ghost use Rattle.std.specs.Prelude.{◌≡◌, ◌↔◌, ◌+◌, ◌<◌, ◌^◌, true, IfOk};
 ghost use Rattle.strm_module.specs.Driver.{is_line};
 ghost use Rattle.strm_head_calls.specs.Setup.{is_fit};
-ghost use Rattle.strm_head_calls.specs.declared.event.Event.TheVariants.{Asked};
 ghost use Rattle.strm_shared_entry.specs.Own.{arrivals};
 ghost use Rattle.strm_shared_entry.specs.Called.{is_done};
-ghost use Rattle.strm_shared_log.specs.Log.{CallsBy, LeavesRoom};
-ghost use Rattle.strm_shared_log.specs.Opened.{opened};
-ghost use Rattle.strm_shared_ring.specs.StreamRunName.{IsNextOf};
+ghost use Rattle.strm_shared_log.specs.Log.{fresh_log, LeavesRoom};
 ghost use Rattle.strm_shared_ring.specs.Inlet.{fresh_inlet};
 ghost use Rattle.strm_shared.specs.Ending.{room_of, Counted};
-ghost use Rattle.strm_shared.specs.CallCounts.{has_count, turned, AreInTurn};
-ghost use Rattle.strm_shared.specs.Arrivals.{Intakes, CallsAfter, TakesAll};
+ghost use Rattle.strm_shared.specs.CallCounts.{fresh_counts, turned, IsNextCall, KeepsTurns, SeatsAgree};
+ghost use Rattle.strm_shared.specs.Arrivals.{Intakes, SeatCalls, SeatCallsAfter, TakesAll};
 
 use crate::call_counts::CallCounts;
 use crate::seat::Seat;
@@ -71,8 +68,8 @@ impl<M: ModuleOf, N: StreamRunName<M::Kind>> SharedState<M, N> {
         requires marks { is_fit setup ≡ true }
         requires inlet { inlet ≡ fresh_inlet number (is_line setup.driver) }
         ensures number { IfOk result (λ all. all.number ≡ number) }
-        ensures log { IfOk result (λ all. all.log ≡ record { setup = setup; image = opened setup; history = []; room = 0 }) }
-        ensures turns { IfOk result (λ all. all.turns ≡ record { counts = replicate callers 0; in_turn = true }) }
+        ensures log { IfOk result (λ all. all.log ≡ fresh_log setup) }
+        ensures turns { IfOk result (λ all. all.turns ≡ fresh_counts callers) }
     {
         let turns = CallCounts::new(alloc, callers)?;
         let Ok(log) = Log::new(alloc, setup) else {
@@ -96,7 +93,7 @@ impl<M: ModuleOf, N: StreamRunName<M::Kind>> SharedState<M, N> {
     /// Whether the calls are in turn, those of as many callers, and each seat counts as many as its caller
     /// has made.
     pub(crate) fn seats_agree(&self, callers: u32, seats: &[Seat]) -> bool
-        ensures { result ≡ true ↔ (self.now.turns.in_turn ≡ true) × (length self.now.turns.counts ≡ callers) × All (λ seat. has_count seat self.now.turns.counts ≡ true) seats.now }
+        ensures { result ≡ true ↔ SeatsAgree self.now.turns callers seats.now }
     {
         self.turns.seats_agree(callers, seats)
     }
@@ -158,11 +155,11 @@ impl<M: ModuleOf, N: StreamRunName<M::Kind>> SharedState<M, N> {
         cell: EntryCell<M::Kind>,
     ) -> Called<BoxedModule<M>, M::Kind, A::CallerCopy>
         requires room { room ≡ room_of seat.old call }
-        requires next { IsNextOf (N.calls seat.old.number seat.old.caller) seat.old.calls (call.end, Asked call.request) }
+        requires next { IsNextCall N.calls seat.old call }
         requires counts { seat.old.calls + 1 < 2 ^ 64 }
         requires reserved { 0 < self.old.log.room }
         ensures number { self.new.number ≡ self.old.number }
-        ensures log { CallsBy M.Kind.means A.Agrees self.old.log seat.old.caller (seat.old.calls + 1) call result self.new.log }
+        ensures log { SeatCalls M.Kind.means A.Agrees self.old seat.old call result self.new }
         ensures made { is_done result ≡ true }
         ensures counts { Counted call seat.old result seat.new }
         ensures turns { self.new.turns ≡ turned self.old.number seat.old result self.old.turns }
@@ -188,10 +185,10 @@ impl<M: ModuleOf, N: StreamRunName<M::Kind>> SharedState<M, N> {
         room: EntryRoom<M::Kind>,
     ) -> Called<BoxedModule<M>, M::Kind, A::CallerCopy>
         requires room { room ≡ room_of seat.old call }
-        requires next { IsNextOf (N.calls seat.old.number seat.old.caller) seat.old.calls (call.end, Asked call.request) }
+        requires next { IsNextCall N.calls seat.old call }
         requires counts { seat.old.calls + 1 < 2 ^ 64 }
         ensures number { self.new.number ≡ self.old.number }
-        ensures log { CallsAfter M.Kind.means A.Agrees self.old.log seat.old.caller (seat.old.calls + 1) call result self.new.log self.new.inlet.held }
+        ensures log { SeatCallsAfter M.Kind.means A.Agrees self.old seat.old call result self.new }
         ensures counts { Counted call seat.old result seat.new }
         ensures turns { self.new.turns ≡ turned self.old.number seat.old result self.old.turns }
     {
@@ -212,9 +209,10 @@ impl<M: ModuleOf, N: StreamRunName<M::Kind>> SharedState<M, N> {
         ensures log { result.0 ≡ self.log }
         ensures turns { result.1 ≡ self.turns }
         ensures inlet { result.2 ≡ self.inlet }
-        ensures in_turn { self.turns.in_turn ≡ true → AreInTurn (N.calls self.number) self.turns.counts self.log.history }
+        ensures in_turn { KeepsTurns (N.calls self.number) self.turns self.log.history }
         ensures came_in { arrivals self.log.history ≡ self.inlet.came }
-        ensures of { (self.inlet.number ≡ self.number) × (self.inlet.is_fed ≡ is_line self.log.setup.driver) }
+        ensures of { self.inlet.number ≡ self.number }
+        ensures fed { self.inlet.is_fed ≡ is_line self.log.setup.driver }
     {
         let SharedState {
             number: _,

@@ -4,9 +4,10 @@ use Rattle.std.specs.Global.{Global}
 use Rattle.strm_msg.specs.Message.{Msg}
 use Rattle.strm_chain_ends.specs.Image.{Image}
 use Rattle.strm_shared_entry.specs.Entry.{Entry}
-use Rattle.strm_shared_entry.specs.Own.{arrivals, entry_at, has_seat, own}
+use Rattle.strm_shared_entry.specs.Own.{arrivals, entry_at, own, AreFromSeats}
 use Rattle.strm_shared_ended.specs.declared.ended.Index.{Index}
 use Rattle.strm_shared_ended.specs.declared.holding.Receipts.{Receipts}
+use Rattle.strm_shared_entry.specs.Receipt.{ReceiptValue}
 
 -- the history, the stream to which it leads, and the messages that were accepted and have not come in
 pub record EndedValue (K : Type 0) : Type 0 where
@@ -23,6 +24,10 @@ AreFirstCalls {K} history caller entries =
 abbrev pub AreHeld : {K : Type 0} → List (Entry K) → Receipts K → Type 0
 AreHeld history receipts = AreFirstCalls history receipts.caller receipts.entries.items
 
+-- the history has the entry of a receipt at its place among its caller's calls
+abbrev pub HasEntryOf : {K : Type 0} → List (Entry K) → ReceiptValue K → Type 0
+HasEntryOf history receipt = entry_at receipt.caller receipt.number history ≡ Some receipt.entry
+
 -- ---- definitions that no public clause cites
 
 -- these entries are in a history at these places
@@ -35,7 +40,7 @@ StandAt (place ∷ places) history (entry ∷ entries) = (slice_get history plac
 -- the places of each caller's calls, in order, for callers that make all the calls
 pub record AreIndexed {K : Type 0} (places : List (Vec ℕ Global)) (history : List (Entry K)) : Type 0 where
   pub each : (caller : ℕ) (d : Vec ℕ Global) → caller < length places → StandAt (get_or places caller d).items history (own caller history)
-  pub seated : All (λ entry. has_seat (length places) entry.who ≡ true) history
+  pub seated : AreFromSeats (length places) history
 
 -- the index of a history: these places, and the number of messages that came in
 pub record IsIndex {K : Type 0} (index : Index) (history : List (Entry K)) : Type 0 where

@@ -1,7 +1,7 @@
 //! The end of a shared stream.
-ghost use Rattle.std.specs.Prelude.{◌≡◌, ◌↔◌, true, [], Some, None, All, IfOk, MatchOption, length};
-ghost use Rattle.strm_shared_entry.specs.Own.{arrivals, entry_at, has_seat};
-ghost use Rattle.strm_shared_ended.specs.Ended.{IsIndex};
+ghost use Rattle.std.specs.Prelude.{◌≡◌, ◌↔◌, true, [], Some, All, IfOk, length, option_copied};
+ghost use Rattle.strm_shared_entry.specs.Own.{arrivals, entry_at, AreFromSeats};
+ghost use Rattle.strm_shared_ended.specs.Ended.{IsIndex, HasEntryOf};
 
 use std::alloc::Global;
 use std::marker::Model;
@@ -57,7 +57,7 @@ fn empty_index(alloc: Global, callers: u32, calls: usize) -> Result<Vec<Vec<usiz
 
 /// Makes the index of a history, which is looked through once. Fails only when memory runs out.
 fn build_index<K>(alloc: Global, callers: u32, history: &[Kept<K>]) -> Result<Index, NoMem>
-    requires { All (λ entry. has_seat callers entry.who ≡ true) history.now }
+    requires { AreFromSeats callers history.now }
     ensures { IfOk result (λ index. IsIndex index history.now) }
 {
     let mut places = empty_index(alloc, callers, history.len())?;
@@ -86,8 +86,8 @@ impl<M: ModuleOf> Ended<M> {
         stream: Stream<M>,
         left: Vec<Message>,
     ) -> Result<Ended<M>, NoMem>
-        requires { All (λ entry. has_seat callers entry.who ≡ true) history.items }
-        ensures { IfOk result (λ ended. ended ≡ record { history = history.items; stream = stream; left = left.items }) }
+        requires { AreFromSeats callers history.items }
+        ensures { IfOk result (λ e. e ≡ record { history = history.items; stream = stream; left = left.items }) }
     {
         let index = build_index(alloc, callers, history.as_slice())?;
         Ok(Ended {
@@ -130,7 +130,7 @@ impl<M: ModuleOf> Ended<M> {
     /// The entry of a caller's call of this number, counted from 1, if it has made as many. It is found
     /// without a look at the others.
     pub fn entry_at(&self, caller: u32, number: u64) -> Option<&Entry<M::Kind>>
-        ensures { MatchOption result (entry_at caller number self.now.history ≡ None) (λ entry. entry_at caller number self.now.history ≡ Some entry.now) }
+        ensures { entry_at caller number self.now.history ≡ option_copied result }
     {
         let places = self.index.places.get(caller as usize)?;
         let before = number.checked_sub(1)?;
@@ -143,7 +143,7 @@ impl<M: ModuleOf> Ended<M> {
     pub fn holds(&self, receipt: &Receipt<M::Kind>) -> bool
     where
         M::Kind: SameKind,
-        ensures { result ≡ true ↔ entry_at receipt.now.caller receipt.now.number self.now.history ≡ Some receipt.now.entry }
+        ensures { result ≡ true ↔ HasEntryOf self.now.history receipt.now }
     {
         self.has(receipt.caller(), receipt.number(), receipt.entry())
     }

@@ -23,6 +23,15 @@ pub record Entry (K : Type 0) : Type 0 where
   pub looks : ℕ
   pub out : ArrayVec ℕ
 
+-- a step after which no place was looked at, and which took no module out
+abbrev pub bare_entry : {K : Type 0} → Who → End → Event (Shape K) → Answer → Entry K
+bare_entry who end event answer =
+    record { who = who; end = end; event = event; answer = answer; moves = []; looks = 0; out = record { items = [] } }
+
+-- an entry with the outcome of its step
+abbrev pub with_outcome : {K : Type 0} → Entry K → Answer → List Place → ℕ → ArrayVec ℕ → Entry K
+with_outcome entry answer moves looks out = record entry { answer = answer; moves = moves; looks = looks; out = out }
+
 -- calls are made by callers, and messages come in from the line
 abbrev pub is_by : {P : Type 0} → Who → Event P → Bool
 is_by (Caller caller) (Asked request) = true

@@ -1,5 +1,5 @@
 -- The places of an entry's parts.
-use Rattle.std.specs.Prelude.{ℕ, Bool, true, false, []}
+use Rattle.std.specs.Prelude.{◌≡◌, ℕ, Bool, true, false, []}
 use Rattle.arrayvec.specs.ArrayVec.{ArrayVec}
 use Rattle.strm_msg.specs.declared.words.End.{End}
 use Rattle.strm_shared_entry.specs.declared.entry.Who.{Who}
@@ -33,7 +33,12 @@ abbrev pub out_in_box : Header → ArrayVec ℕ
 out_in_box (Plain end is_line caller looks) = record { items = [] }
 out_in_box (Taking end is_line caller taken_out) = taken_out.value.out
 
--- the same two, before they are in an entry
+-- two headers say the same
+abbrev pub IsSameHeader : Header → Header → Type 0
+IsSameHeader one other =
+    (who_in one ≡ who_in other) × (end_in one ≡ end_in other) × (looks_in one ≡ looks_in other) × (out_in_box one ≡ out_in_box other)
+
+-- the looks and the serials, before they are in an entry
 abbrev pub looks_before : ServiceInfo → ℕ
 looks_before (Looks looks) = looks
 looks_before (Out taken_out) = taken_out.value.looks

@@ -1,5 +1,5 @@
 -- The entries of a history by their makers: the calls of each caller, and the messages that came in.
-use Rattle.std.specs.Prelude.{ℕ, nat_lt, zero, suc, Bool, true, Option, None, List, filter, flat_map, length, slice_get}
+use Rattle.std.specs.Prelude.{◌≡◌, ℕ, nat_lt, zero, suc, Bool, true, Option, None, List, filter, flat_map, length, slice_get, All}
 use Rattle.strm_msg.specs.Message.{Msg}
 use Rattle.strm_shared_entry.specs.declared.entry.Who.{Who}
 use Rattle.strm_shared_entry.specs.declared.entry.Who.TheVariants.{Caller, Line}
@@ -27,3 +27,7 @@ arrivals history = flat_map (λ entry. came_in entry.event) history
 abbrev pub has_seat : ℕ → Who → Bool
 has_seat callers (Caller caller) = nat_lt caller callers
 has_seat callers Line = true
+
+-- each step of a history was
+abbrev pub AreFromSeats : {K : Type 0} → ℕ → List (Entry K) → Type 0
+AreFromSeats callers history = All (λ entry. has_seat callers entry.who ≡ true) history

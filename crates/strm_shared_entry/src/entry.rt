@@ -1,6 +1,6 @@
 //! The entries of a history.
-ghost use Rattle.std.specs.Prelude.{◌≡◌, []};
-ghost use Rattle.strm_shared_entry.specs.Entry.{is_caller};
+ghost use Rattle.std.specs.Prelude.{◌≡◌};
+ghost use Rattle.strm_shared_entry.specs.Entry.{is_caller, bare_entry, with_outcome};
 ghost use Rattle.strm_shared_entry.specs.Inside.{who_in, end_in, looks_in, out_in_box, looks_before, out_before};
 
 use crate::header::Header;
@@ -39,7 +39,15 @@ impl<K> Model for Entry<K> {
 
     ghost Value = { Entry K };
 
-    ghost view = { λ e. record { who = who_in e.header; end = end_in e.header; event = e.event; answer = e.answer; moves = e.moves; looks = looks_in e.header; out = out_in_box e.header } };
+    ghost view = { λ e. record {
+      who = who_in e.header;
+      end = end_in e.header;
+      event = e.event;
+      answer = e.answer;
+      moves = e.moves;
+      looks = looks_in e.header;
+      out = out_in_box e.header;
+    } };
 }
 
 impl Who {
@@ -56,7 +64,7 @@ impl<K> Entry<K> {
     /// memory.
     #[inline(always)]
     pub fn new(who: Who, end: End, event: Event<BoxedShape<K>>, answer: Answer) -> Entry<K>
-        ensures { result ≡ record { who = who; end = end; event = event; answer = answer; moves = []; looks = 0; out = record { items = [] } } }
+        ensures { result ≡ bare_entry who end event answer }
     {
         Entry {
             header: Header::new(who, end, ServiceInfo::Looks(Looks::none())),
@@ -130,7 +138,7 @@ impl<K> Entry<K> {
     /// Puts in the outcome of the step. Takes no memory.
     #[inline(always)]
     pub(crate) fn fill(&mut self, answer: Answer, moves: Moves, service: ServiceInfo)
-        ensures { self.new ≡ record self.old { answer = answer; moves = moves; looks = looks_before service; out = out_before service } }
+        ensures { self.new ≡ with_outcome self.old answer moves (looks_before service) (out_before service) }
     {
         self.answer = answer;
         self.moves = moves;

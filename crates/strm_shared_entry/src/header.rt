@@ -1,6 +1,6 @@
 //! The header of an entry: its parts in addition to request, answer and moves.
 ghost use Rattle.std.specs.Prelude.{◌≡◌, ◌↔◌, true};
-ghost use Rattle.strm_shared_entry.specs.Inside.{who_of, who_in, end_in, looks_in, out_in_box, looks_before, out_before};
+ghost use Rattle.strm_shared_entry.specs.Inside.{who_of, who_in, end_in, looks_in, out_in_box, looks_before, out_before, IsSameHeader};
 
 use crate::entry::Who;
 use crate::service_info::{RemovedModules, ServiceInfo};
@@ -38,7 +38,7 @@ fn who_of(is_line: bool, caller: u32) -> Who
 }
 
 /// The maker as two values: whether it is the line, and else the caller.
-fn header_looks(who: Who) -> (bool, u32)
+fn maker_parts(who: Who) -> (bool, u32)
     ensures { who_of result.0 result.1 ≡ who }
 {
     match who {
@@ -57,7 +57,7 @@ impl Header {
         ensures looks { looks_in result ≡ looks_before service }
         ensures out { out_in_box result ≡ out_before service }
     {
-        let (is_line, caller) = header_looks(who);
+        let (is_line, caller) = maker_parts(who);
         match service {
             ServiceInfo::Looks(looks) => Header::Plain {
                 end,
@@ -133,7 +133,7 @@ impl Header {
 
     /// Whether another says the same.
     pub(crate) fn is_same(&self, other: &Header) -> bool
-        ensures { result ≡ true ↔ (who_in self.now ≡ who_in other.now) × (end_in self.now ≡ end_in other.now) × (looks_in self.now ≡ looks_in other.now) × (out_in_box self.now ≡ out_in_box other.now) }
+        ensures { result ≡ true ↔ IsSameHeader self.now other.now }
     {
         self.who() == other.who()
             && self.end() == other.end()

@@ -1,5 +1,6 @@
 //! Receipts, which show a caller that its call is in the history.
-ghost use Rattle.std.specs.Prelude.{◌≡◌, unwrap_or};
+ghost use Rattle.std.specs.Prelude.{◌≡◌};
+ghost use Rattle.strm_shared_entry.specs.Receipt.{receipt_of};
 
 use crate::entry::Entry;
 use crate::shared::SharedEntry;
@@ -17,18 +18,17 @@ pub struct Receipt<K> {
 }
 
 impl<K> Model for Receipt<K> {
-    ghost use Rattle.std.specs.Prelude.{unwrap_or};
-    ghost use Rattle.strm_shared_entry.specs.Receipt.{ReceiptValue};
+    ghost use Rattle.strm_shared_entry.specs.Receipt.{ReceiptValue, receipt_of};
 
     ghost Value = { ReceiptValue K };
 
-    ghost view = { λ r. record { caller = unwrap_or r.held.owner 0; number = r.number; entry = r.held.value } };
+    ghost view = { λ r. receipt_of r.held r.number };
 }
 
 impl<K> Receipt<K> {
     /// A receipt of a call of this number, whose caller is next to its entry.
     pub(crate) fn new(number: u64, held: Held<Entry<K>>) -> Receipt<K>
-        ensures { result ≡ record { caller = unwrap_or held.owner 0; number = number; entry = held.value } }
+        ensures { result ≡ receipt_of held number }
     {
         Receipt { number, held }
     }

@@ -1,11 +1,9 @@
 //! Room for entries, found before there is something to enter.
-ghost use Rattle.std.specs.Prelude.{◌≡◌, false, [], IfOk, IfSome, is_some};
-ghost use Rattle.strm_head_calls.specs.declared.event.Event.TheVariants.{Asked};
+ghost use Rattle.std.specs.Prelude.{◌≡◌, false, [], IfOk, IfSome};
 ghost use Rattle.strm_head_calls.specs.declared.answer.Answer.TheVariants.{Broke, Done};
 ghost use Rattle.strm_head_calls.specs.declared.answer.Reply.TheVariants as Replies;
-ghost use Rattle.strm_shared_entry.specs.Entry.{out_in};
-ghost use Rattle.strm_shared_entry.specs.Receipt.{arrival_entry, filled, may_take_out};
-ghost use Rattle.strm_shared_entry.specs.declared.entry.Who.TheVariants.{Caller};
+ghost use Rattle.strm_shared_entry.specs.Entry.{out_in, with_outcome};
+ghost use Rattle.strm_shared_entry.specs.Receipt.{arrival_entry, filled, may_take_out, call_room, filled_receipt};
 
 use crate::entry::{Entry, Who};
 use crate::kept::Kept;
@@ -36,16 +34,19 @@ pub struct EntryRoom<K> {
 }
 
 impl<K> Model for EntryRoom<K> {
-    ghost use Rattle.std.specs.Prelude.{◌≡◌, false, is_some};
-    ghost use Rattle.strm_shared_entry.specs.declared.entry.Who.TheVariants.{Caller};
-    ghost use Rattle.strm_shared_entry.specs.Entry.{has_come_in};
-    ghost use Rattle.strm_shared_entry.specs.Receipt.{may_take_out, EntryRoomValue};
+    ghost use Rattle.std.specs.Prelude.{is_some};
+    ghost use Rattle.strm_shared_entry.specs.Receipt.{EntryRoomValue, IsCallEntry};
 
     ghost Value = { EntryRoomValue K };
 
-    ghost view = { λ r. record { caller = r.caller; number = r.number; end = r.entry.value.end; event = r.entry.value.event } };
+    ghost view = { λ r. record {
+      caller = r.caller;
+      number = r.number;
+      end = r.entry.value.end;
+      event = r.entry.value.event;
+    } };
 
-    ghost invariant = { λ r. (r.entry.value.who ≡ Caller r.caller) × (has_come_in r.entry.value.event ≡ false) × (is_some r.taken_out ≡ may_take_out r.entry.value.event) };
+    ghost invariant = { λ r. IsCallEntry r.caller r.entry.value (is_some r.taken_out) };
 }
 
 /// Room for the entry of a call, which is this caller's call of this number on the stream, counted from 1.
@@ -56,7 +57,7 @@ pub fn room_for<M: ModuleOf>(
     number: u64,
     call: &Call<BoxedModule<M>>,
 ) -> Result<EntryRoom<M::Kind>, NoMem>
-    ensures { IfOk result (λ room. room ≡ record { caller = caller; number = number; end = call.now.end; event = Asked call.now.request }) }
+    ensures { IfOk result (λ room. room ≡ call_room caller number call.now) }
 {
     let taken_out = room_for_taken_out(alloc, &call.request)?;
     let event = Event::Asked(copy_request(alloc, &call.request)?);
@@ -88,7 +89,7 @@ pub fn room_for_arrival<K: Drop>(alloc: Global, m: &Message) -> Result<Box<Entry
 
 /// The entry of a message that came in, which was taken, and took no module out. Takes no memory.
 pub fn taken<K: Drop>(mut entry: Box<Entry<K>>, moves: Moves, looks: Looks) -> Kept<K>
-    ensures { result ≡ record entry.value { answer = Done Replies.Line; moves = moves; looks = looks; out = record { items = [] } } }
+    ensures { result ≡ with_outcome entry.value (Done Replies.Line) moves looks (record { items = [] }) }
 {
     entry.fill(Answer::Done(Reply::Line), moves, ServiceInfo::Looks(looks));
     Kept::plain(entry)
@@ -108,7 +109,7 @@ impl<K: Drop> EntryRoom<K> {
     ) -> (Kept<K>, Option<Receipt<K>>)
         requires { may_take_out self.event ≡ false → out_in answer back.now.items ≡ [] }
         ensures kept { result.0 ≡ filled self answer moves looks (out_in answer back.now.items) }
-        ensures shown { IfSome result.1 (λ r. r ≡ record { caller = self.caller; number = self.number; entry = filled self answer moves looks (out_in answer back.now.items) }) }
+        ensures shown { IfSome result.1 (λ r. r ≡ filled_receipt self answer moves looks (out_in answer back.now.items)) }
     {
         let EntryRoom {
             caller,

@@ -1,5 +1,5 @@
 -- From what becomes of a call or a message to an entry of a history.
-use Rattle.std.proofs.Common.{◌≡◌, ℕ, zero, suc, ◌≤◌, false, Option, Some, None, List, [], ◌∷◌, ◌++◌, length, refl, sym, ◌∙◌, ap, subst, arith}
+use Rattle.std.proofs.Common.{◌≡◌, ℕ, ◌≤◌, false, Option, Some, None, List, [], ◌∷◌, ◌++◌, length, refl, sym, ◌∙◌, ap, subst, arith}
 use Rattle.std.specs.Prelude.{flat_map}
 use Rattle.strm_msg.specs.Message.{Msg}
 use Rattle.strm_msg.specs.declared.words.End.{End}
@@ -8,10 +8,8 @@ use Rattle.strm_module.specs.Kinds.{Meaning}
 use Rattle.strm_module.specs.Calm.{IsCalm}
 use Rattle.strm_module.specs.declared.shape.Shape.{Shape}
 use Rattle.strm_chain_ends.specs.declared.place.Place.{Place}
-use Rattle.strm_chain_ends.specs.Image.{Image, end_of}
-use Rattle.strm_head_ioctl.proofs.OutsideLemmas.{taken_none}
+use Rattle.strm_chain_ends.specs.Image.{Image}
 use Rattle.strm_head_calls.specs.declared.request.Request.{Request}
-use Rattle.strm_head_calls.specs.declared.request.Request.TheVariants.{Putmsg, Putpmsg, Getmsg, Getpmsg, Read, Write, Push, Nread, Peek, SetRead, GetRead, Canput, Ckband, Getband, Pop, Look, Find, Str, Flush, FlushBand, Close, Take, Poll}
 use Rattle.strm_head_calls.specs.declared.answer.Answer.{Answer}
 use Rattle.strm_head_calls.specs.declared.answer.Answer.TheVariants.{Done, Refused, Broke}
 use Rattle.strm_head_calls.specs.declared.event.Event.{Event}
@@ -20,6 +18,7 @@ use Rattle.strm_head.specs.StepResult.{StepValue, IsLooked, IsBounded}
 use Rattle.strm_head_calls.specs.Calls.{changes_modules}
 use Rattle.strm_head.specs.Effects.{effect_of, handed_out, back_of, out_of, serials_of}
 use Rattle.strm_head.specs.Step.{Step, Lands, arrived_of}
+use Rattle.strm_head.proofs.CallLemmas.{plain_out}
 use Rattle.strm_shared_entry.specs.Entry.{Entry}
 use Rattle.strm_shared_entry.specs.Entry.{serial_of, out_in}
 use Rattle.strm_shared_log.specs.Steps.{due_back, IsStep}
@@ -43,33 +42,6 @@ module _ {K : Type 0} (means : Meaning K) where
   out_serials [] = refl
   out_serials (s ∷ shapes) = ap (λ l. s.serial ∷ l) (out_serials shapes)
 
-  nothing_out : (image : Image K) (e : End) (request : Request (Shape K)) → changes_modules request ≡ false → (effect_of means image e request).out ≡ []
-  nothing_out image e (Putmsg flag parts) same = refl
-  nothing_out image e (Putpmsg band flag parts) same = refl
-  nothing_out image e (Getmsg maxctl maxdat flag) same = refl
-  nothing_out image e (Getpmsg maxctl maxdat band flag) same = refl
-  nothing_out image e (Read zero) same = refl
-  nothing_out image e (Read (suc n)) same = refl
-  nothing_out image e (Write dat) same = refl
-  nothing_out image e (Push shape) same = refl
-  nothing_out image e Nread same = refl
-  nothing_out image e (Peek maxctl maxdat flag) same = refl
-  nothing_out image e (SetRead mode prot) same = refl
-  nothing_out image e GetRead same = refl
-  nothing_out image e (Canput band) same = refl
-  nothing_out image e (Ckband band) same = refl
-  nothing_out image e Getband same = refl
-  nothing_out image e Pop same = cc
-  nothing_out image e Look same = refl
-  nothing_out image e Request.List same = refl
-  nothing_out image e (Find name) same = refl
-  nothing_out image e (Str cmd dat) same = refl
-  nothing_out image e (Flush r w) same = refl
-  nothing_out image e (FlushBand band r w) same = refl
-  nothing_out image e Close same = cc
-  nothing_out image e Take same = taken_none image e (end_of image e).drv
-  nothing_out image e Poll same = refl
-
   out_back : (image : Image K) (e : End) (request : Request (Shape K)) (answer : Answer) → out_in answer (back_of means image e request answer) ≡ out_of means image e request answer
   out_back image e request (Refused refusal) = refl
   out_back image e request (Done reply) = out_serials (effect_of means image e request).out
@@ -77,8 +49,8 @@ module _ {K : Type 0} (means : Meaning K) where
 
   none_out : (image : Image K) (e : End) (request : Request (Shape K)) (answer : Answer) → changes_modules request ≡ false → out_of means image e request answer ≡ []
   none_out image e request (Refused refusal) same = refl
-  none_out image e request (Done reply) same = ap serials_of (nothing_out image e request same)
-  none_out image e request Broke same = ap serials_of (nothing_out image e request same)
+  none_out image e request (Done reply) same = ap serials_of (plain_out means image e request same)
+  none_out image e request Broke same = ap serials_of (plain_out means image e request same)
 
   -- of a call that takes no module out there are no serials
   pub no_serials : (image : Image K) (e : End) (request : Request (Shape K)) (answer twin : Answer) (back : List (Option (Shape K))) (event : Event (Shape K)) → event ≡ Asked request → twin ≡ answer → back ≡ back_of means image e request answer → may_take_out event ≡ false → out_in twin back ≡ []

@@ -27,7 +27,6 @@ use Rattle.strm_head_msg.specs.Send.{sent_of, putmsg_message, putpmsg_message, o
 use Rattle.strm_head_ioctl.specs.Ioctl.{asked_of}
 use Rattle.strm_head_ioctl.specs.Close.{closed_image}
 use Rattle.strm_head_ioctl.specs.Outside.{taken_out}
-use Rattle.strm_head_ioctl.proofs.OutsideLemmas.{taken_none}
 use Rattle.strm_head_calls.specs.declared.event.Event.{Event}
 use Rattle.strm_head_calls.specs.declared.event.Event.TheVariants.{Asked, Arrived}
 use Rattle.strm_shared_entry.specs.Entry.{Entry}
@@ -37,6 +36,9 @@ use Rattle.strm_head.specs.Step.{Answers, IsDone, SettlesUnless, Lands, Step, an
 use Rattle.strm_shared_log.specs.History.{Legal}
 use Rattle.strm_shared_log.specs.Serials.{standing, pushed_by, pushed_in, taken_in, times_in, AreAccounted}
 use Rattle.strm_head.proofs.KeptLemmas.{after_keeps, arrived_keeps}
+use Rattle.strm_head.proofs.CallLemmas.{plain_out}
+
+-- ---- the modules that stand on a stream
 
 times-append : (serial : ℕ) (xs ys : List ℕ) → times_in serial (xs ++ ys) ≡ times_in serial xs + times_in serial ys
 times-append serial [] ys = omega arith
@@ -74,6 +76,8 @@ answered_standing false e image = refl
 answered_standing true e image =
     end_standing image e (record (end_of image e) { state = awaiting_none (end_of image e).state }) refl
 
+-- ---- a module that is put in or taken out
+
 -- a module that is put in stands there once more
 inserted_times : {K : Type 0} (image : Image K) (e : End) (shape : Shape K) (serial : ℕ) → times_in serial (standing image) + times_in serial (shape.serial ∷ []) ≡ times_in serial (standing (with_end image e (inserted (end_of image e) shape)))
 inserted_times image A shape serial = omega arith
@@ -107,6 +111,8 @@ closed_times image B serial =
     let old = times-append serial (serials_of (shapes_of image.a)) (serials_of (shapes_of image.b)) in
     let new = times-append serial (serials_of (shapes_of image.a)) [] in
     omega arith
+
+-- ---- a call that has begun
 
 -- for kinds of any meaning
 module _ {K : Type 0} (means : Meaning K) where
@@ -153,33 +159,6 @@ module _ {K : Type 0} (means : Meaning K) where
   plain_standing image e Take plain = taken_standing image e (end_of image e).drv
   plain_standing image e Poll plain = refl
 
-  plain_out : (image : Image K) (e : End) (request : Request (Shape K)) → changes_modules request ≡ false → (effect_of means image e request).out ≡ []
-  plain_out image e (Putmsg flag parts) plain = refl
-  plain_out image e (Putpmsg band flag parts) plain = refl
-  plain_out image e (Getmsg maxctl maxdat flag) plain = refl
-  plain_out image e (Getpmsg maxctl maxdat band flag) plain = refl
-  plain_out image e (Read zero) plain = refl
-  plain_out image e (Read (suc n)) plain = refl
-  plain_out image e (Write dat) plain = refl
-  plain_out image e (Push shape) plain = cc
-  plain_out image e Nread plain = refl
-  plain_out image e (Peek maxctl maxdat flag) plain = refl
-  plain_out image e (SetRead mode prot) plain = refl
-  plain_out image e GetRead plain = refl
-  plain_out image e (Canput band) plain = refl
-  plain_out image e (Ckband band) plain = refl
-  plain_out image e Getband plain = refl
-  plain_out image e Pop plain = cc
-  plain_out image e Look plain = refl
-  plain_out image e Requests.List plain = refl
-  plain_out image e (Find name) plain = refl
-  plain_out image e (Str cmd dat) plain = refl
-  plain_out image e (Flush r w) plain = refl
-  plain_out image e (FlushBand band r w) plain = refl
-  plain_out image e Close plain = cc
-  plain_out image e Take plain = taken_none image e (end_of image e).drv
-  plain_out image e Poll plain = refl
-
   -- the module that a call has put in
   abbrev pushed : Request (Shape K) → List ℕ
   pushed (Push shape) = shape.serial ∷ []
@@ -187,36 +166,18 @@ module _ {K : Type 0} (means : Meaning K) where
 
   plain_times : (image : Image K) (e : End) (request : Request (Shape K)) (serial : ℕ) → changes_modules request ≡ false → times_in serial (standing image) + 0 ≡ times_in serial (serials_of (effect_of means image e request).out) + times_in serial (standing (effect_of means image e request).image)
   plain_times image e request serial plain =
-      rw (plain_out image e request plain, plain_standing image e request plain) (let n = times_in serial (standing image) in omega arith)
+      rw (plain_out means image e request plain, plain_standing image e request plain) (let n = times_in serial (standing image) in omega arith)
 
   -- what a call has begun
   effect_times : (image : Image K) (e : End) (request : Request (Shape K)) (serial : ℕ) → times_in serial (standing image) + times_in serial (pushed request) ≡ times_in serial (serials_of (effect_of means image e request).out) + times_in serial (standing (effect_of means image e request).image)
-  effect_times image e (Putmsg flag parts) serial = plain_times image e (Putmsg flag parts) serial refl
-  effect_times image e (Putpmsg band flag parts) serial = plain_times image e (Putpmsg band flag parts) serial refl
-  effect_times image e (Getmsg maxctl maxdat flag) serial = plain_times image e (Getmsg maxctl maxdat flag) serial refl
-  effect_times image e (Getpmsg maxctl maxdat band flag) serial = plain_times image e (Getpmsg maxctl maxdat band flag) serial refl
-  effect_times image e (Read max) serial = plain_times image e (Read max) serial refl
-  effect_times image e (Write dat) serial = plain_times image e (Write dat) serial refl
   effect_times image e (Push shape) serial =
       let more = inserted_times image e shape serial in omega arith
-  effect_times image e Nread serial = plain_times image e Nread serial refl
-  effect_times image e (Peek maxctl maxdat flag) serial = plain_times image e (Peek maxctl maxdat flag) serial refl
-  effect_times image e (SetRead mode prot) serial = plain_times image e (SetRead mode prot) serial refl
-  effect_times image e GetRead serial = plain_times image e GetRead serial refl
-  effect_times image e (Canput band) serial = plain_times image e (Canput band) serial refl
-  effect_times image e (Ckband band) serial = plain_times image e (Ckband band) serial refl
-  effect_times image e Getband serial = plain_times image e Getband serial refl
   effect_times image e Pop serial = removed_times image e serial
-  effect_times image e Look serial = plain_times image e Look serial refl
-  effect_times image e Requests.List serial = plain_times image e Requests.List serial refl
-  effect_times image e (Find name) serial = plain_times image e (Find name) serial refl
-  effect_times image e (Str cmd dat) serial = plain_times image e (Str cmd dat) serial refl
-  effect_times image e (Flush r w) serial = plain_times image e (Flush r w) serial refl
-  effect_times image e (FlushBand band r w) serial = plain_times image e (FlushBand band r w) serial refl
-  effect_times image e Take serial = plain_times image e Take serial refl
-  effect_times image e Poll serial = plain_times image e Poll serial refl
   effect_times image e Close serial =
       rw (standing_same (closed_image image e) _ (after_keeps means image.broken (closed_image image e) e)) (closed_times image e serial)
+  effect_times image e request serial = plain_times image e request serial refl
+
+  -- ---- a call that is answered
 
   settled_standing : (broken : Bool) (old : Image K) (moves : List Place) (new : Image K) → SettlesUnless means broken old moves new → standing new ≡ standing old
   settled_standing true old moves new still = ap (λ (i : Image K). standing i) still.unchanged
@@ -229,82 +190,18 @@ module _ {K : Type 0} (means : Meaning K) where
       ∙ settled_standing effect.image.broken effect.image moves done.settled done.settles
 
   pushed_done : (request : Request (Shape K)) (reply : Reply) → pushed_by (Asked request) (Done reply) ≡ pushed request
-  pushed_done (Putmsg flag parts) reply = refl
-  pushed_done (Putpmsg band flag parts) reply = refl
-  pushed_done (Getmsg maxctl maxdat flag) reply = refl
-  pushed_done (Getpmsg maxctl maxdat band flag) reply = refl
-  pushed_done (Read max) reply = refl
-  pushed_done (Write dat) reply = refl
   pushed_done (Push shape) reply = refl
-  pushed_done Nread reply = refl
-  pushed_done (Peek maxctl maxdat flag) reply = refl
-  pushed_done (SetRead mode prot) reply = refl
-  pushed_done GetRead reply = refl
-  pushed_done (Canput band) reply = refl
-  pushed_done (Ckband band) reply = refl
-  pushed_done Getband reply = refl
-  pushed_done Pop reply = refl
-  pushed_done Look reply = refl
-  pushed_done Requests.List reply = refl
-  pushed_done (Find name) reply = refl
-  pushed_done (Str cmd dat) reply = refl
-  pushed_done (Flush r w) reply = refl
-  pushed_done (FlushBand band r w) reply = refl
-  pushed_done Close reply = refl
-  pushed_done Take reply = refl
-  pushed_done Poll reply = refl
+  pushed_done request reply = refl
 
   pushed_broke : (request : Request (Shape K)) → pushed_by (Asked request) Broke ≡ pushed request
-  pushed_broke (Putmsg flag parts) = refl
-  pushed_broke (Putpmsg band flag parts) = refl
-  pushed_broke (Getmsg maxctl maxdat flag) = refl
-  pushed_broke (Getpmsg maxctl maxdat band flag) = refl
-  pushed_broke (Read max) = refl
-  pushed_broke (Write dat) = refl
   pushed_broke (Push shape) = refl
-  pushed_broke Nread = refl
-  pushed_broke (Peek maxctl maxdat flag) = refl
-  pushed_broke (SetRead mode prot) = refl
-  pushed_broke GetRead = refl
-  pushed_broke (Canput band) = refl
-  pushed_broke (Ckband band) = refl
-  pushed_broke Getband = refl
-  pushed_broke Pop = refl
-  pushed_broke Look = refl
-  pushed_broke Requests.List = refl
-  pushed_broke (Find name) = refl
-  pushed_broke (Str cmd dat) = refl
-  pushed_broke (Flush r w) = refl
-  pushed_broke (FlushBand band r w) = refl
-  pushed_broke Close = refl
-  pushed_broke Take = refl
-  pushed_broke Poll = refl
+  pushed_broke request = refl
 
   pushed_none : (request : Request (Shape K)) (refusal : Refusal) → pushed_by (Asked request) (Refused refusal) ≡ []
-  pushed_none (Putmsg flag parts) refusal = refl
-  pushed_none (Putpmsg band flag parts) refusal = refl
-  pushed_none (Getmsg maxctl maxdat flag) refusal = refl
-  pushed_none (Getpmsg maxctl maxdat band flag) refusal = refl
-  pushed_none (Read max) refusal = refl
-  pushed_none (Write dat) refusal = refl
   pushed_none (Push shape) refusal = refl
-  pushed_none Nread refusal = refl
-  pushed_none (Peek maxctl maxdat flag) refusal = refl
-  pushed_none (SetRead mode prot) refusal = refl
-  pushed_none GetRead refusal = refl
-  pushed_none (Canput band) refusal = refl
-  pushed_none (Ckband band) refusal = refl
-  pushed_none Getband refusal = refl
-  pushed_none Pop refusal = refl
-  pushed_none Look refusal = refl
-  pushed_none Requests.List refusal = refl
-  pushed_none (Find name) refusal = refl
-  pushed_none (Str cmd dat) refusal = refl
-  pushed_none (Flush r w) refusal = refl
-  pushed_none (FlushBand band r w) refusal = refl
-  pushed_none Close refusal = refl
-  pushed_none Take refusal = refl
-  pushed_none Poll refusal = refl
+  pushed_none request refusal = refl
+
+  -- ---- each step of a history
 
   -- a call
   answered_times : (image : Image K) (e : End) (request : Request (Shape K)) (answer : Answer) (moves : List Place) (out : List ℕ) (after : Image K) (serial : ℕ) → Answers means image e request answer moves out after → times_in serial (standing image) + times_in serial (pushed_by (Asked request) answer) ≡ times_in serial out + times_in serial (standing after)

@@ -22,6 +22,7 @@ use Rattle.strm_shared_entry.specs.declared.call.Landed.{Landed}
 use Rattle.strm_shared_entry.specs.declared.call.Landed.TheVariants.{Entered, Full, NoMem}
 use Rattle.strm_shared_entry.specs.Entry.{serial_of}
 use Rattle.strm_shared_entry.specs.Receipt.{ReceiptValue}
+use Rattle.strm_shared_log.specs.Opened.{opened}
 use Rattle.strm_shared_log.specs.Steps.{due_back, IsStep}
 
 -- a stream with its history: its setup, its image, its history, and the number of further entries for which
@@ -31,6 +32,10 @@ pub record LogValue (K : Type 0) : Type 0 where
   pub image : Image K
   pub history : List (Entry K)
   pub room : ℕ
+
+-- a stream that was just made, without a history
+abbrev pub fresh_log : {K : Type 0} → Setup → LogValue K
+fresh_log setup = record { setup = setup; image = opened setup; history = []; room = 0 }
 
 -- the same stream with the same history, whatever room there is
 pub record IsSameLog {K : Type 0} (old new : LogValue K) : Type 0 where

@@ -1,10 +1,10 @@
 //! A stream that keeps its history.
-ghost use Rattle.std.specs.Prelude.{◌≡◌, ◌↔◌, ◌<◌, true, false, [], IfOk, OnOk, IsErrOf};
+ghost use Rattle.std.specs.Prelude.{◌≡◌, ◌↔◌, ◌<◌, true, false, IfOk, OnOk, IsErrOf};
 ghost use Rattle.strm_msg.specs.Kind.{is_from_line};
 ghost use Rattle.strm_head_calls.specs.Setup.{is_fit};
 ghost use Rattle.strm_shared_log.specs.History.{Legal};
 ghost use Rattle.strm_shared_entry.specs.Called.{is_done};
-ghost use Rattle.strm_shared_log.specs.Log.{CallsBy, Equals, IsSameLog, LeavesRoom, Lands};
+ghost use Rattle.strm_shared_log.specs.Log.{CallsBy, Equals, IsSameLog, LeavesRoom, Lands, fresh_log};
 ghost use Rattle.strm_head_calls.specs.declared.event.Event.TheVariants.{Asked};
 ghost use Rattle.strm_shared_log.specs.Serials.{AreAccounted};
 ghost use Rattle.strm_shared_log.specs.Opened.{opened};
@@ -43,7 +43,12 @@ impl<M: ModuleOf> Model for Log<M> {
 
     ghost Value = { LogValue M.Kind };
 
-    ghost view = { λ s. record { setup = s.setup; image = s.stream; history = s.history.items; room = vec_capacity s.history - vec_len s.history } };
+    ghost view = { λ s. record {
+      setup = s.setup;
+      image = s.stream;
+      history = s.history.items;
+      room = vec_capacity s.history - vec_len s.history;
+    } };
 
     ghost invariant = { λ s. Legal M.Kind.means (opened s.setup) s.history.items s.stream };
 }
@@ -54,7 +59,7 @@ impl<M: ModuleOf> Log<M> {
     /// Refused with `Marks` exactly where a low mark is not below its high one, and with `NoMem` when memory
     /// runs out.
     pub fn new(alloc: Global, setup: Setup) -> Result<Log<M>, NewFault>
-        ensures ok { IfOk result (λ log. log ≡ record { setup = setup; image = opened setup; history = []; room = 0 }) }
+        ensures ok { IfOk result (λ log. log ≡ fresh_log setup) }
         ensures marks { IsErrOf result NewFault.Marks ↔ (is_fit setup ≡ false) }
     {
         let stream = Stream::new(alloc, setup.driver, setup.head, setup.drv)?;

@@ -1,5 +1,5 @@
--- Values that are held, their places, and their holders. Public clauses cite `HeldValue` alone.
-use Rattle.std.specs.Prelude.{◌≡◌, ℕ, List, Option, Some, None, slice_get, ⊤}
+-- Values that are held, their places, and their holders. Public clauses cite `HeldValue` and `IsSharedBy` alone.
+use Rattle.std.specs.Prelude.{◌≡◌, ℕ, List, Option, Some, None, slice_get, ⊤, MatchOption}
 use Rattle.std.specs.Option.{option_map}
 use Rattle.std.specs.Arc.{arc_value}
 use Rattle.once_cell.specs.Once.{cell_name}
@@ -13,6 +13,14 @@ use Rattle.strm_shared_once.specs.declared.held.Place.TheVariants.{InCell, Alone
 pub record HeldValue (T : Type 0) : Type 0 where
   pub owner : Option ℕ
   pub value : T
+
+-- two hold the value, both with this owner; or one holds it alone
+abbrev pub IsSharedBy : {T : Type 0} → ℕ → HeldValue T → Option (HeldValue T) → Type 0
+IsSharedBy owner held other = MatchOption other (held.owner ≡ None) (λ again. (again ≡ held) × (held.owner ≡ Some owner))
+
+-- a value in a cell that two hold, with its owner
+abbrev pub owned_value : {T : Type 0} → ℕ → T → HeldValue T
+owned_value owner value = record { owner = Some owner; value = value }
 
 -- the note is of the cell at this index of a block
 abbrev pub IsNoteOf : {T : Type 0} → List (OnceBox T) → ℕ → Note T → Type 0

@@ -1,7 +1,8 @@
 //! Cells before they are set.
-ghost use Rattle.std.specs.Prelude.{◌≡◌, ◌<◌, Some, None, MatchOption, IfOk, length};
+ghost use Rattle.std.specs.Prelude.{◌≡◌, ◌<◌, Some, None, IfOk, length};
 ghost use Rattle.std.specs.Arc.{arc_value};
 ghost use Rattle.strm_shared_once.specs.declared.cells.TheConstants.{AT_ONCE};
+ghost use Rattle.strm_shared_once.specs.Held.{IsSharedBy};
 
 use crate::held::{Held, held_twice};
 use once_cell::race::OnceBox;
@@ -74,7 +75,7 @@ impl<T: Drop> Cell<T> {
     /// the cell does not take the value, there is one holder, which has the value alone.
     pub fn set(self, owner: u32, value: Box<T>) -> (Held<T>, Option<Held<T>>)
         ensures value { result.0.value ≡ value.value }
-        ensures shared { MatchOption result.1 (result.0.owner ≡ None) (λ other. (other ≡ result.0) × (result.0.owner ≡ Some owner)) }
+        ensures shared { IsSharedBy owner result.0 result.1 }
     {
         let Cell { one, other, at } = self;
         match held_twice(one, other, at, owner, value) {

@@ -1,7 +1,7 @@
 //! The holders of a value.
-ghost use Rattle.std.specs.Prelude.{◌≡◌, ◌<◌, length, Some, None, IsSome, MatchResult};
+ghost use Rattle.std.specs.Prelude.{◌≡◌, ◌<◌, length, Some, None, IsSome, IfOk, IfErr};
 ghost use Rattle.std.specs.Arc.{arc_value};
-ghost use Rattle.strm_shared_once.specs.Held.{IsNoteOf};
+ghost use Rattle.strm_shared_once.specs.Held.{IsNoteOf, owned_value};
 
 use crate::again::retold;
 use crate::cells::Block;
@@ -121,7 +121,8 @@ pub(crate) fn held_twice<T: Drop>(
 ) -> Result<(Held<T>, Held<T>), Box<T>>
     requires same { arc_value one ≡ arc_value other }
     requires there { at < length (arc_value one).items }
-    ensures { MatchResult result (λ both. (both.0 ≡ record { owner = Some owner; value = value.value }) × (both.1 ≡ record { owner = Some owner; value = value.value })) (λ same. same.value ≡ value.value) }
+    ensures ok { IfOk result (λ both. (both.0 ≡ owned_value owner value.value) × (both.1 ≡ owned_value owner value.value)) }
+    ensures err { IfErr result (λ same. same.value ≡ value.value) }
 {
     let cell = &one[usize::from(at)];
     let mut note = cell.note();

@@ -1,5 +1,6 @@
 -- A ring, a feeder and its feed, as a contract sees them.
-use Rattle.std.specs.Prelude.{ℕ, Option, Some, None, List, [], if◌then◌else◌}
+use Rattle.std.specs.Prelude.{ℕ, Option, Some, None, List, [], ◌∷◌, ◌++◌, if◌then◌else◌}
+use Rattle.strm_msg.specs.Count.{one_more}
 use Rattle.strm_msg.specs.Message.{Msg}
 use Rattle.strm_module.specs.Driver.{is_line}
 use Rattle.strm_head_calls.specs.declared.setup.Setup.{Setup}
@@ -21,10 +22,20 @@ pub record FeederValue : Type 0 where
   pub feed : FeedValue
   pub room : ℕ
 
+-- a feeder that has offered nothing
+abbrev pub new_feeder : ℕ → ℕ → FeederValue
+new_feeder number room = record { feed = record { number = number; offers = 0; accepted = [] }; room = room }
+
+-- a feed after one more offer, which was not accepted, or was
+abbrev pub with_offer : FeedValue → FeedValue
+with_offer feed = record feed { offers = one_more feed.offers }
+
+abbrev pub with_accepted : FeedValue → Msg → FeedValue
+with_accepted feed m = record feed { offers = one_more feed.offers; accepted = feed.accepted ++ m ∷ [] }
+
 -- the feeder of a line, that has offered nothing, with all of its ring free; the other drivers have none
 abbrev pub fresh_feeder : ℕ → Setup → Option FeederValue
-fresh_feeder number setup =
-    if is_line setup.driver then Some (record { feed = record { number = number; offers = 0; accepted = [] }; room = setup.ring }) else None
+fresh_feeder number setup = if is_line setup.driver then Some (new_feeder number setup.ring) else None
 
 -- the messages that the feeder had accepted, if there was one
 abbrev pub accepted_of : Option FeedValue → List Msg

@@ -1,5 +1,5 @@
 -- The stream's end of a ring, as a contract sees it.
-use Rattle.std.specs.Prelude.{◌≡◌, ℕ, ◌-◌, ◌++◌, Bool, true, false, Option, Some, None, List, [], length, take, IfSome, MatchOption}
+use Rattle.std.specs.Prelude.{◌≡◌, ℕ, ◌-◌, ◌++◌, Bool, true, false, Option, Some, None, List, [], length, take, IfSome, MatchOption, ◌∷◌}
 use Rattle.std.specs.Option.{option_map, option_to_list}
 use Rattle.std.specs.Global.{Global}
 use Rattle.rtrb.specs.declared.consumer.Consumer.{Consumer}
@@ -20,6 +20,18 @@ pub record InletValue : Type 0 where
 -- an inlet out of which nothing has come
 abbrev pub fresh_inlet : ℕ → Bool → InletValue
 fresh_inlet number is_fed = record { number = number; is_fed = is_fed; came = []; held = None }
+
+-- the message that leaves an inlet next
+abbrev pub LeavesNext : InletValue → Msg → InletValue → Type 0
+LeavesNext old m new = new ≡ record old { came = old.came ++ m ∷ []; held = None }
+
+-- the message that has left last is held back
+abbrev pub HoldsBack : InletValue → Msg → InletValue → Type 0
+HoldsBack old m new = (before : List Msg) → old.came ≡ before ++ m ∷ [] → new ≡ record old { came = before; held = Some m }
+
+-- what is left grows as the list of all does, whatever messages came before (no public clause cites it)
+abbrev pub GrowsWith : List Msg → List Msg → List Msg → List Msg → Type 0
+GrowsWith left all more every = (came : List Msg) → came ++ left ≡ all → came ++ more ≡ every
 
 -- all that was taken out of the ring, if there is one
 abbrev pub taken_of : {P : Type 0} → Option (Consumer Msg Global P) → List Msg

@@ -1,8 +1,8 @@
 //! The feeder of a line.
-ghost use Rattle.std.specs.Prelude.{◌≡◌, ◌≤◌, ◌<◌, ◌+◌, ◌∷◌, [], ◌++◌, true, Some, IfErr, IfSome, IsOk, OnOk, OnErr};
+ghost use Rattle.std.specs.Prelude.{◌≡◌, ◌≤◌, ◌<◌, ◌+◌, [], true, Some, IfErr, IfSome, IsOk, OnOk, OnErr};
 ghost use Rattle.strm_msg.specs.Kind.{is_from_line};
-ghost use Rattle.strm_msg.specs.Count.{one_more};
 ghost use Rattle.rtrb.specs.Ring.{sent, all_sent, known_free};
+ghost use Rattle.strm_shared_ring.specs.Feed.{new_feeder, with_accepted, with_offer};
 ghost use Rattle.strm_shared_ring.specs.Name.{producer_name, finished_name};
 ghost use Rattle.strm_shared_ring.specs.StreamRunName.{IsNextOf};
 
@@ -35,7 +35,10 @@ impl<K, N: StreamRunName<K>> Model for Feeder<K, N> {
 
     ghost Value = { FeederValue };
 
-    ghost view = { λ f. record { feed = record { number = f.number; offers = f.offers; accepted = sent f.producer }; room = known_free f.producer } };
+    ghost view = { λ f. record {
+      feed = record { number = f.number; offers = f.offers; accepted = sent f.producer };
+      room = known_free f.producer;
+    } };
 
     ghost invariant = { λ f. N.ring f.number ≡ Some (producer_name f.producer) };
 }
@@ -68,7 +71,7 @@ impl<K, N: StreamRunName<K>> Feeder<K, N> {
     pub(crate) fn new(number: u32, producer: Producer<Message, Global, FromLine>) -> Feeder<K, N>
         requires name { N.ring number ≡ Some (producer_name producer) }
         requires none { sent producer ≡ [] }
-        ensures { result ≡ record { feed = record { number = number; offers = 0; accepted = [] }; room = known_free producer } }
+        ensures { result ≡ new_feeder number (known_free producer) }
     {
         Feeder {
             number,
@@ -93,9 +96,9 @@ impl<K, N: StreamRunName<K>> Feeder<K, N> {
     pub fn arrive(&mut self, m: Message) -> Result<(), Message>
         requires line { is_from_line m.kind ≡ true }
         requires next { IsNextOf (N.feed self.old.feed.number) self.old.feed.offers m }
-        ensures accepted { OnOk result (self.new.feed ≡ record self.old.feed { offers = one_more self.old.feed.offers; accepted = self.old.feed.accepted ++ m ∷ [] }) }
+        ensures accepted { OnOk result (self.new.feed ≡ with_accepted self.old.feed m) }
         ensures back { IfErr result (λ same. same ≡ m) }
-        ensures none { OnErr result (self.new.feed ≡ record self.old.feed { offers = one_more self.old.feed.offers }) }
+        ensures none { OnErr result (self.new.feed ≡ with_offer self.old.feed) }
         ensures room { 0 < self.old.room → IsOk result }
         ensures spent { OnOk result (self.old.room ≤ self.new.room + 1) }
         ensures full { OnErr result (self.new.room ≡ 0) }

@@ -6,7 +6,7 @@ ghost use Rattle.strm_msg.specs.Kind.{is_from_line};
 ghost use Rattle.rtrb.specs.Ring.{received, all_sent, IsFinishedOf};
 ghost use Rattle.strm_shared_ring.specs.Name.{consumer_name};
 ghost use Rattle.strm_shared_ring.specs.Feed.{accepted_of};
-ghost use Rattle.strm_shared_ring.specs.Inlet.{fresh_inlet, taken_of, HasFed};
+ghost use Rattle.strm_shared_ring.specs.Inlet.{fresh_inlet, taken_of, HasFed, LeavesNext, HoldsBack, GrowsWith};
 
 use crate::feeder::FeedEnd;
 use crate::ring::FromLine;
@@ -34,7 +34,12 @@ impl<K, N: StreamRunName<K>> Model for Inlet<K, N> {
 
     ghost Value = { InletValue };
 
-    ghost view = { λ i. record { number = i.number; is_fed = is_some i.ring; came = came_of (taken_of i.ring) i.held; held = i.held } };
+    ghost view = { λ i. record {
+      number = i.number;
+      is_fed = is_some i.ring;
+      came = came_of (taken_of i.ring) i.held;
+      held = i.held;
+    } };
 
     ghost invariant = { λ i. IsInlet (N.ring i.number) i.ring i.held };
 }
@@ -47,7 +52,7 @@ fn drained(
     mut left: Vec<Message>,
 ) -> Result<Vec<Message>, NoMem>
     requires { IsFinishedOf finished.old ring.old }
-    ensures { IfOk result (λ all. (came : List Msg) → came ++ left.items ≡ received ring.old → came ++ all.items ≡ all_sent finished.old) }
+    ensures { IfOk result (λ all. GrowsWith left.items (received ring.old) all.items (all_sent finished.old)) }
 {
     let many = ring.slots_after(finished);
     for _at in 0..many {
@@ -81,7 +86,7 @@ impl<K, N: StreamRunName<K>> Inlet<K, N> {
     /// Takes the next message: the one that is held back, or else the first of the ring. `None` where the
     /// ring was found empty, or there is none.
     pub fn take(&mut self) -> Option<Message>
-        ensures next { IfSome result (λ m. self.new ≡ record self.old { came = self.old.came ++ m ∷ []; held = None }) }
+        ensures next { IfSome result (λ m. LeavesNext self.old m self.new) }
         ensures line { IfSome result (λ m. is_from_line m.kind ≡ true) }
         ensures none { IfNone result (self.new ≡ self.old) }
         ensures empty { self.new.held ≡ None }
@@ -100,7 +105,7 @@ impl<K, N: StreamRunName<K>> Inlet<K, N> {
         requires line { is_from_line m.kind ≡ true }
         requires empty { self.old.held ≡ None }
         requires last { (before : List Msg) × (self.old.came ≡ before ++ m ∷ []) }
-        ensures { (before : List Msg) → self.old.came ≡ before ++ m ∷ [] → self.new ≡ record self.old { came = before; held = Some m } }
+        ensures { HoldsBack self.old m self.new }
     {
         self.held = Some(m);
     }

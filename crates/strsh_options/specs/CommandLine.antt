@@ -1,5 +1,6 @@
 -- The accepted command line, and the options that its words ask for.
-use Rattle.std.specs.Prelude.{◌≡◌, ◌<◌, ◌^◌, ℕ, pos, Bool, true, false, List, [], ◌∷◌, Option, Some, None, codes, unwrap_or}
+use Rattle.std.specs.Prelude.{◌≡◌, ◌<◌, ◌^◌, ℕ, pos, Bool, true, false, List, [], ◌∷◌, map, String, string_bytes, Option, Some, None, codes, unwrap_or}
+use Rattle.std.specs.Global.{Global}
 use Rattle.std.specs.Str.Parse.{IsNumeral, digits_value, without_leading_plus}
 use Rattle.clap.specs.declared.builder.action.ArgAction.TheVariants.{SetTrue}
 use Rattle.clap.specs.declared.builder.arg.Arg.{Arg}
@@ -30,6 +31,10 @@ file_rule = record (new_rule (codes "FILE")) { required = true }
 -- the command line `strsh [--workers N] [--chart] FILE`
 abbrev pub command_line : App
 command_line = with_rule (with_rule (with_rule (new_app (codes "strsh")) workers_rule) chart_rule) file_rule
+
+-- the texts of words
+abbrev pub word_texts : List (String Global) → List Text
+word_texts words = map (λ word. string_bytes word) words
 
 -- the text behind `--workers`
 abbrev pub workers_text : List Text → Option Text

@@ -2,7 +2,8 @@
 ghost use Rattle.std.specs.Prelude.{◌≡◌};
 ghost use Rattle.strm_run_input.specs.declared.fault.RunFault.TheVariants as RunFaults;
 ghost use Rattle.strsh_options.specs.declared.fault.Fault.TheVariants as Faults;
-ghost use Rattle.strsh_options.specs.Fault.{EndsWith, IsFaultOf, IsFaultOfWords, fault_line, fault_of_load};
+ghost use Rattle.strsh_options.specs.Fault.{EndsWith, IsFaultOf, IsFaultOfWords};
+ghost use Rattle.strsh_options.specs.Fault.{fault_line, fault_of_load};
 
 use clap::error::ErrorKind;
 use std::alloc::AllocError;

@@ -1,9 +1,11 @@
 //! The command line.
-ghost use Rattle.std.specs.Prelude.{◌≡◌, ◌≤◌, map, string_bytes, IfOk, IfErr};
+ghost use Rattle.std.specs.Prelude.{◌≡◌, ◌≤◌, IfOk, IfErr};
 ghost use Rattle.clap.specs.Words.{FailsBy, app_of, fault_of, kind_of};
 ghost use Rattle.clap.specs.declared.error.kind.ErrorKind.TheVariants.{OutOfMemory};
 ghost use Rattle.strm_run_input.specs.declared.validation.TheConstants.{MOST_WORKERS};
-ghost use Rattle.strsh_options.specs.CommandLine.{AsksFor, AsksForChart, HasThree, IsArg, IsBare, chart_rule, chart_word, command_line, file_rule, file_text, workers_rule, workers_text};
+ghost use Rattle.strsh_options.specs.CommandLine.{AsksFor, AsksForChart, HasThree, IsArg, IsBare};
+ghost use Rattle.strsh_options.specs.CommandLine.{chart_rule, chart_word, command_line, file_rule};
+ghost use Rattle.strsh_options.specs.CommandLine.{file_text, word_texts, workers_rule, workers_text};
 
 use clap::{Arg, ArgAction, Command, Error, value_parser};
 use std::alloc::Global;
@@ -13,7 +15,7 @@ use strm_run_input::MOST_WORKERS;
 const DEFAULT_WORKERS: u32 = 4;
 
 /// The description of the program.
-const ABOUT: &str = "Plays a script of calls on STREAMS, and prints what became of each stream.";
+const ABOUT: &str = "Plays a script of calls on STREAMS, and prints a transcript of each stream.";
 
 /// A script that can be played.
 const EXAMPLE: &str = "\
@@ -98,11 +100,13 @@ impl<'a> Options<'a> {
     /// Refused, with the text to print, if they are no such command line, or ask for help; and when memory
     /// runs out.
     pub fn read(alloc: Global, words: &'a [String]) -> Result<Options<'a>, Error>
-        ensures path { IfOk result (λ options. options.path.now ≡ file_text (map (λ word. string_bytes word) words.entry.now)) }
-        ensures workers { IfOk result (λ options. AsksFor (workers_text (map (λ word. string_bytes word) words.entry.now)) options.workers) }
+        ensures path { IfOk result (λ options. options.path.now ≡ file_text (word_texts words.entry.now)) }
+        ensures workers { IfOk result
+            (λ options. AsksFor (workers_text (word_texts words.entry.now)) options.workers) }
         ensures range { IfOk result (λ options. (1 ≤ options.workers) × (options.workers ≤ MOST_WORKERS)) }
-        ensures chart { IfOk result (λ options. AsksForChart (chart_word (map (λ word. string_bytes word) words.entry.now)) options.chart) }
-        ensures kinds { FailsBy (fault_of command_line (map (λ word. string_bytes word) words.entry.now)) result }
+        ensures chart { IfOk result
+            (λ options. AsksForChart (chart_word (word_texts words.entry.now)) options.chart) }
+        ensures kinds { FailsBy (fault_of command_line (word_texts words.entry.now)) result }
     {
         let matches = command(alloc)?.try_get_matches_from(words)?;
         let workers = matches.get_one::<u32>("workers");

@@ -5,5 +5,5 @@ use Rattle.strm_head.proofs.effects.begin_flush_band.Goals as goal
 
 pub returns : goal.returns
 returns g c =
-    rw c.flushed_reply.ensures
+    rw c.reply_of_sending.ensures
     (done_begins g.M.Kind.Kinds.means c.args.chain.now.image c.args.end (Requests.FlushBand c.args.band c.args.r c.args.w) c.flush.result (g.A.ReplyForm.says c.plain.result) c.flush.new.chain.image c.plain.ensures c.flush.ensures.image c.flush.ensures.failed refl refl refl refl c.requires.whole)

@@ -1,13 +1,11 @@
 use Rattle.std.proofs.Common.{◌≡◌, All, append_assoc, arith, sym, ap, subst, ◌∙◌, length}
-use Rattle.std.specs.List.{flat_map}
-use Rattle.std.specs.Str.Lines.{lines}
 use Rattle.std.proofs.lemmas.List.{length-append, length-map, nil_from_length}
 use Rattle.std.proofs.lemmas.List.Elements.{All-head, All-tail}
 use Rattle.std.specs.Vec.Iter.{into_iter_items}
 use Rattle.strm_run_input.proofs.LoopLemmas.{rest_shorter}
 use Rattle.strm_script_parse.specs.Plan.{draft_view}
 use Rattle.strm_script_parse.specs.Reading.{lines_onto}
-use Rattle.strm_script_parse.specs.Section.{IsSection}
+use Rattle.strm_script_parse.specs.Section.{IsSection, whole_lines, whole_text}
 use Rattle.strm_script_parse.proofs.ReadLemmas.{first_stay, more_of_more, spells_all}
 use Rattle.strm_script_parse.proofs.parsing.add_sections.Goals as goal
 
@@ -30,11 +28,11 @@ loop-section-preserved g c =
     let next = c.in-Some.ensures.steps.0 in
     let read = c.in_ok-many.ensures.read in
     let rest = into_iter_items c.next.new.self in
-    let bytes = ap (λ all. length (flat_map (λ section. section.text.now) all)) next ∙ length-append c.in-Some.section.text.now (flat_map (λ section. section.text.now) rest) in
+    let bytes = ap (λ all. length (whole_text all)) next ∙ length-append c.in-Some.section.text.now (whole_text rest) in
     record {
       left = rest_shorter _ _ _ _ _ was.left next c.in-Some.ensures.steps.1;
       rest = rw (append_assoc, ← next) was.rest;
-      onto = was.onto ∙ ap (λ all. lines_onto words c.loop-section.many (draft_view c.loop-section.draft) (flat_map (λ section. lines section.text.now) all)) next ∙ read.onto (flat_map (λ section. lines section.text.now) rest);
+      onto = was.onto ∙ ap (λ all. lines_onto words c.loop-section.many (draft_view c.loop-section.draft) (whole_lines all)) next ∙ read.onto (whole_lines rest);
       few = omega (arith, was.few, read.few, bytes);
       stands = read.stands;
       streams = more_of_more some (draft_view c.loop-section.draft).streams (draft_view c.add_section.new.draft).streams was.streams read.streams;
@@ -46,5 +44,5 @@ returns g c =
     let was = c.loop-section.invariant in
     let rest = into_iter_items c.loop-section.section-iterator in
     let none : length rest ≡ 0 = sym was.left ∙ c.in-None.ensures.steps.0 in
-    let empty = ap (λ all. length (flat_map (λ section. lines section.text.now) all)) (nil_from_length rest none) in
-    spells_all g.M.Kind.ReadKind.words c.args.before c.loop-section.many (draft_view c.args.draft) (draft_view c.loop-section.draft) (flat_map (λ section. lines section.text.now) c.args.sections.items) (flat_map (λ section. lines section.text.now) rest) c.finished.result was.onto empty c.finished.ensures
+    let empty = ap (λ all. length (whole_lines all)) (nil_from_length rest none) in
+    spells_all g.M.Kind.ReadKind.words c.args.before c.loop-section.many (draft_view c.args.draft) (draft_view c.loop-section.draft) (whole_lines c.args.sections.items) (whole_lines rest) c.finished.result was.onto empty c.finished.ensures

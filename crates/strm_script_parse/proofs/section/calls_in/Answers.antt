@@ -1,7 +1,7 @@
 use Rattle.std.proofs.Common.{[], ◌∷◌, map, subst, arith}
 use Rattle.std.specs.Str.Lines.{lines}
 use Rattle.std.proofs.lemmas.List.{length_push, map-append}
-use Rattle.strm_script_parse.specs.Plan.{call_view, streams_view}
+use Rattle.strm_script_parse.specs.Plan.{call_view, streams_of}
 use Rattle.strm_script_parse.specs.Reading.{line_onto}
 use Rattle.strm_script_parse.specs.Section.{Says}
 use Rattle.strm_script_parse.proofs.SectionLemmas.{nothing_said, one_said, said_there}
@@ -11,7 +11,7 @@ use Rattle.strm_script_parse.proofs.section.calls_in.Goals as goal
 pub loop-rest-preserved : goal.loop-rest-preserved
 loop-rest-preserved g c =
     let words = g.M.Kind.ReadKind.words in
-    let streams = streams_view c.args.streams.now.entries in
+    let streams = streams_of c.args.streams.now in
     let was = c.loop-rest.invariant in
     let all = lines c.args.text.now in
     let rest = lines c.loop-rest.rest.now in

@@ -1,7 +1,7 @@
-use Rattle.std.proofs.Common.{◌≡◌, ◌+◌, ◌++◌, List, length}
+use Rattle.std.proofs.Common.{◌≡◌, ◌+◌, ◌++◌, length}
 use Rattle.rtrb.specs.Ring.{received, known_items}
-use Rattle.strm_msg.specs.Message.{Msg}
 use Rattle.strm_shared_ring.proofs.inlet.drained.Given as goal
+use Rattle.strm_shared_ring.specs.Inlet.{GrowsWith}
 
 -- what was popped is left behind what was left before, and the rest is still in the ring
 abbrev pub invariant-loop-at : goal.invariant-loop-at
@@ -9,5 +9,5 @@ invariant-loop-at l = record {
   many : length (known_items l.ring) + l._at ≡ l.many;
   all : received l.ring ++ known_items l.ring ≡ received l.initial.ring ++ known_items l.initial.ring;
   same : received l.initial.ring ≡ received l.fn.ring;
-  left : (came : List Msg) → came ++ l.fn.left.items ≡ received l.fn.ring → came ++ l.left.items ≡ received l.ring;
+  left : GrowsWith l.fn.left.items (received l.fn.ring) l.left.items (received l.ring);
 }

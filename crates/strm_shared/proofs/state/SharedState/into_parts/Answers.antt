@@ -7,4 +7,7 @@ pub returns-clause-came_in : goal.returns-clause-came_in
 returns-clause-came_in g c = rw (← c.self.view_is) c.self.invariant.came_in
 
 pub returns-clause-of : goal.returns-clause-of
-returns-clause-of g c = rw (← c.self.view_is) (c.self.invariant.of, c.self.invariant.fed)
+returns-clause-of g c = rw (← c.self.view_is) c.self.invariant.of
+
+pub returns-clause-fed : goal.returns-clause-fed
+returns-clause-fed g c = rw (← c.self.view_is) c.self.invariant.fed

@@ -1,16 +1,16 @@
-use Rattle.std.proofs.Common.{◌≡◌, ◌∙◌, ap, map, string_bytes, List, ℕ, codes, sym, subst}
+use Rattle.std.proofs.Common.{◌≡◌, ◌∙◌, ap, codes, sym, subst}
 use Rattle.std.specs.Str.Parse.{ParsesUnsigned, ExplainsUnsignedError, HasUnsignedDigitsIfOk}
 use Rattle.clap.specs.Words.{HasKind, fault_of, first_of, found_of, is_simple, matches_of, one_of, one_text, rows_of}
 use Rattle.clap.specs.Faults.{is_simple_and_free}
 use Rattle.clap.proofs.WalkLemmas.{first_value-rows, one_text-rows}
-use Rattle.strsh_options.specs.CommandLine.{command_line}
+use Rattle.strsh_options.specs.CommandLine.{command_line, word_texts}
 use Rattle.strsh_options.proofs.ReadLemmas.{asked, chart_asked, passed_on, within, path_asked, is_simple_line, is_free_line}
 use Rattle.strsh_options.proofs.CrewLemmas.{in_range}
 use Rattle.strsh_options.proofs.options.Options.read.Goals as goal
 
 pub returns-clause-path : goal.returns-clause-path
 returns-clause-path c =
-    let words : List (List ℕ) = map (λ word. string_bytes word) c.args.words.now in
+    let words = word_texts c.args.words.now in
     let line = c.in_ok-command.ensures.line in
     let rows : rows_of (found_of c.in_ok-matches.matches) ≡ matches_of command_line words = (c.in_ok-matches.ensures.matches (ap is_simple line ∙ is_simple_line)).0 ∙ ap (λ a. matches_of a words) line in
     let text = c.get_str.ensures ∙ first_value-rows (found_of c.in_ok-matches.matches) (codes "FILE") ∙ ap (first_of (codes "FILE")) rows in
@@ -18,7 +18,7 @@ returns-clause-path c =
 
 pub returns-clause-workers : goal.returns-clause-workers
 returns-clause-workers c =
-    let words : List (List ℕ) = map (λ word. string_bytes word) c.args.words.now in
+    let words = word_texts c.args.words.now in
     let line = c.in_ok-command.ensures.line in
     let rows : rows_of (found_of c.in_ok-matches.matches) ≡ matches_of command_line words = (c.in_ok-matches.ensures.matches (ap is_simple line ∙ is_simple_line)).0 ∙ ap (λ a. matches_of a words) line in
     let same = one_text-rows (found_of c.in_ok-matches.matches) (codes "workers") ∙ ap (one_of (codes "workers")) rows in
@@ -28,7 +28,7 @@ returns-clause-workers c =
 
 pub returns-clause-chart : goal.returns-clause-chart
 returns-clause-chart c =
-    let words : List (List ℕ) = map (λ word. string_bytes word) c.args.words.now in
+    let words = word_texts c.args.words.now in
     let line = c.in_ok-command.ensures.line in
     let rows : rows_of (found_of c.in_ok-matches.matches) ≡ matches_of command_line words = (c.in_ok-matches.ensures.matches (ap is_simple line ∙ is_simple_line)).0 ∙ ap (λ a. matches_of a words) line in
     let same = one_text-rows (found_of c.in_ok-matches.matches) (codes "chart") ∙ ap (one_of (codes "chart")) rows in
@@ -37,7 +37,7 @@ returns-clause-chart c =
 
 pub returns-clause-kinds : goal.returns-clause-kinds
 returns-clause-kinds c =
-    let words : List (List ℕ) = map (λ word. string_bytes word) c.args.words.now in
+    let words = word_texts c.args.words.now in
     let line = c.in_ok-command.ensures.line in
     let kinds = c.in_ok-matches.ensures.kinds (ap is_simple_and_free line ∙ is_free_line) in
     ap (λ a. fault_of a words) (sym line) ∙ kinds
@@ -50,7 +50,7 @@ returns-clause-range c =
 
 pub returns-in_err-matches-clause-kinds : goal.returns-in_err-matches-clause-kinds
 returns-in_err-matches-clause-kinds c =
-    let words : List (List ℕ) = map (λ word. string_bytes word) c.args.words.now in
+    let words = word_texts c.args.words.now in
     let line = c.in_ok-command.ensures.line in
     let kinds = c.in_err-matches.ensures.kinds (ap is_simple_and_free line ∙ is_free_line) in
     passed_on (fault_of command_line words) c.from_residual-in_err-matches.result c.in_err-matches.field-0.0 c.from_residual-in_err-matches.ensures.1 (subst (λ a. HasKind (fault_of a words) c.in_err-matches.field-0.0) line kinds)

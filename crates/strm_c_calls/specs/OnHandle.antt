@@ -1,0 +1,43 @@
+-- The exported calls, on the stream to which a handle leads.
+use Rattle.std.specs.Prelude.{◌≡◌, ◌||◌, ℕ, Bool, Option, List, ℤ}
+use Rattle.strm_module.specs.declared.driver.Driver.{Driver}
+use Rattle.strm_head_calls.specs.declared.answer.Answer.{Answer}
+use Rattle.strm_c_numbers.specs.Messages.{message_of}
+use Rattle.strm_c_numbers.specs.Numbers.{end_of}
+use Rattle.strm_c_calls.specs.Arguments.{RequestOrRefusal, part_argument}
+use Rattle.strm_c_calls.specs.Arrival.{CopiesAndHandsIn, arrival_refusal}
+use Rattle.strm_c_calls.specs.Call.{Calls, CopiesAndCalls, Opens}
+use Rattle.strm_c_calls.specs.Judged.{IsMade}
+use Rattle.strm_c_calls.specs.Outside.{TakesWhole, TellsNext, stays_for_room}
+use Rattle.strm_c_calls.specs.declared.handle.Handle.{Handle}
+use Rattle.strm_c_calls.specs.declared.returned.Returned.{Returned}
+
+-- an open, which leaves the handle as it was if it fails
+abbrev pub OpensOn : Handle → Option Driver → ℕ × ℕ → ℕ × ℕ → ℤ → Handle → Type 0
+OpensOn old driver head drv code new = Opens driver head drv code (new ≡ old) new.is_open new.held.stream
+
+-- the request of arguments, whole and with its bytes, or the answer in its place
+abbrev pub IsMadeOn : Handle → ℕ → RequestOrRefusal → RequestOrRefusal → Type 0
+IsMadeOn s end asked made = IsMade s.held.stream (end_of end) asked made
+
+-- a call
+abbrev pub CallsOn : Handle → ℕ → RequestOrRefusal → (Answer → Type 0) → ℤ → Handle → Type 0
+CallsOn old end asked writes code new = Calls old.held.stream end asked writes code new.held.stream
+
+-- a call in which memory may run out for a copy
+abbrev pub CopiesAndCallsOn : Handle → ℕ → RequestOrRefusal → (Answer → Type 0) → ℤ → Handle → Type 0
+CopiesAndCallsOn old end asked writes code new = CopiesAndCalls old.held.stream end asked writes code new.held.stream
+
+-- a message of a kind and a band, with these parts and this number, is handed in
+abbrev pub ArrivesOn : Handle → ℕ → ℕ → Bool → List ℕ → Bool → List ℕ → ℕ → ℤ → Handle → Type 0
+ArrivesOn old kind band has_ctl ctl has_dat dat number code new =
+    CopiesAndHandsIn (arrival_refusal old.held.stream has_ctl ctl has_dat dat) (has_ctl || has_dat) old.held.stream (message_of kind band (part_argument has_ctl ctl) (part_argument has_dat dat) number) code new.held.stream
+
+-- a take of a whole message, by the room for its parts
+abbrev pub TakesWholeOn : Handle → ℕ → Option ℕ → Option ℕ → (Answer → Type 0) → ℤ → Handle → Type 0
+TakesWholeOn old end ctl dat writes code new =
+    TakesWhole (stays_for_room old.held.stream (end_of end) ctl dat) old.held.stream end writes code new.held.stream
+
+-- the message that a take would return is described, and stays
+abbrev pub TellsNextOn : Handle → ℕ → Returned → Returned → ℤ → Handle → Type 0
+TellsNextOn old end told told' code new = TellsNext old.held.stream (end_of end) told told' code new.held.stream

@@ -9,7 +9,7 @@ ghost use Rattle.strm_chain_settling.specs.Orderly.{IsOrderly};
 ghost use Rattle.port_echo.specs.Echoing.{owing, echoing_own, echoing, debt};
 ghost use Rattle.port_echo.specs.declared.echoing.Echoing.{Echoing};
 
-use std::alloc::{AllocError, Global};
+use std::alloc::Global;
 use strm_module::{Instance, Kinds, MakeFault, ModuleOf, Outs, Shape, Turn, pass_on};
 use strm_msg::{BoxedMessage, Bytes, Message, MsgKind, NoMem, Side as Sides};
 
@@ -25,7 +25,7 @@ pub struct Echoing {
 }
 
 /// The bytes with those of a data part behind them.
-fn joined(alloc: Global, bytes: &Bytes, part: &Option<Bytes>) -> Result<Bytes, AllocError>
+fn joined(alloc: Global, bytes: &Bytes, part: &Option<Bytes>) -> Result<Bytes, NoMem>
     ensures { IfOk result (λ all. all ≡ bytes.now ++ unwrap_or part.now []) }
 {
     let mut all = Vec::from_slice(alloc, bytes.as_slice())?;
@@ -33,7 +33,7 @@ fn joined(alloc: Global, bytes: &Bytes, part: &Option<Bytes>) -> Result<Bytes, A
         Some(more) => all.extend_from_slice(more.as_slice())?,
         None => {}
     }
-    Ok(all.into())
+    Bytes::from_vec(alloc, all)
 }
 
 impl Echoing {
@@ -43,8 +43,8 @@ impl Echoing {
         ensures kept { OnOk result (self.new ≡ (echoing_own self.old.owed Side.Wr).kind) }
         ensures err { OnErr result (self.new ≡ self.old) }
     {
-        let m = BoxedMessage::new(alloc, Message::of_data(alloc, 0, self.owed.as_slice())?)?;
-        self.owed = Vec::new(alloc).into();
+        let m = BoxedMessage::new(alloc, Message::of_bytes(0, self.owed.copy()?))?;
+        self.owed = Bytes::empty();
         Ok(pass_on(Sides::Wr, m))
     }
 }
@@ -87,7 +87,7 @@ impl Kinds for Echoing {
 
     fn copy(&self, alloc: Global) -> Result<Echoing, NoMem> {
         Ok(Echoing {
-            owed: self.owed.copy(alloc)?,
+            owed: self.owed.copy()?,
         })
     }
 }
@@ -116,7 +116,7 @@ impl ByShape {
         ensures variant { is_ok result ≡ is_none (make_fault name.now (Some marks) (Some marks)) }
     {
         let kind = Echoing {
-            owed: Vec::new(alloc).into(),
+            owed: Bytes::empty(),
         };
         let shape = Shape::new(serial, name, Some(marks), Some(marks), kind)?;
         Ok(Instance::new(shape, ByShape))

@@ -42,8 +42,8 @@ impl Sequence {
     {
         let mut bytes = Vec::from_slice(alloc, &[self.down])?;
         bytes.extend_from_slice(bytes_of(&m.dat))?;
+        let dat = Some(Bytes::from_vec(alloc, bytes)?);
         self.down = self.down.wrapping_add(1);
-        let dat = Some(bytes.into());
         Ok(pass_on(Side::Wr, m.with_dat(dat)))
     }
 

@@ -48,7 +48,7 @@ pub fn play_calls<R: Print>(rt: &R, alloc: Global) -> Option<()> {
         let _ = stream.arrive(Message::of_data(alloc, 0, bytes).ok()?);
     }
     ask(rt, &mut stream, "read", Request::Read { max: 16 })?;
-    ask(rt, &mut stream, "str", Request::str(alloc, 1, None).ok()?)?;
+    ask(rt, &mut stream, "str", Request::Str { cmd: 1, dat: None })?;
     take_out(rt, &mut stream)
 }
 

@@ -58,7 +58,10 @@ fn framed_part(alloc: Global, part: &Option<Bytes>) -> Result<Option<Bytes>, NoM
     ensures { IfOk result (λ out. out ≡ option_map framed part.now) }
 {
     match part {
-        Some(bytes) => Ok(Some(frame(alloc, bytes.as_slice())?.into())),
+        Some(bytes) => {
+            let framed = frame(alloc, bytes.as_slice())?;
+            Ok(Some(Bytes::from_vec(alloc, framed)?))
+        }
         None => Ok(None),
     }
 }
@@ -80,7 +83,7 @@ fn data_up(alloc: Global, band: u8, datagram: Vec<u8>) -> Result<(Sides, BoxedMe
         kind: MsgKind::MData,
         band,
         ctl: None,
-        dat: Some(datagram.into()),
+        dat: Some(Bytes::from_vec(alloc, datagram)?),
     };
     Ok((Sides::Rd, BoxedMessage::new(alloc, m)?))
 }
@@ -116,7 +119,7 @@ fn receive_behind(
     let mut bytes = Vec::from_slice(alloc, kept.as_slice())?;
     bytes.extend_from_slice(bytes_of(&m.dat))?;
     let (outs, rest) = receive(alloc, m.band, &bytes)?;
-    *kept = rest.into();
+    *kept = Bytes::from_vec(alloc, rest)?;
     *band = m.band;
     Ok(outs)
 }
@@ -128,7 +131,7 @@ fn receive_more(alloc: Global, kept: &mut Bytes, band: u8) -> Result<Outs, NoMem
     ensures err { OnErr result (kept.new ≡ kept.old) }
 {
     let (outs, rest) = receive(alloc, band, kept.as_slice())?;
-    *kept = rest.into();
+    *kept = Bytes::from_vec(alloc, rest)?;
     Ok(outs)
 }
 
@@ -137,7 +140,7 @@ fn let_by(alloc: Global, kept: &mut Bytes, kind: MsgKind)
     ensures { kept.new ≡ kept_after kept.old kind }
 {
     match kind {
-        MsgKind::MFlush { r: true, .. } | MsgKind::MHangup => *kept = Vec::new(alloc).into(),
+        MsgKind::MFlush { r: true, .. } | MsgKind::MHangup => *kept = Bytes::empty(),
         _ => {}
     }
 }
@@ -210,7 +213,7 @@ impl Kinds for SlipKind {
                 kind: kind.copy(alloc)?,
             },
             SlipKind::Slip { kept, band } => SlipKind::Slip {
-                kept: kept.copy(alloc)?,
+                kept: kept.copy()?,
                 band: *band,
             },
         })

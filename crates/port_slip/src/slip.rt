@@ -6,6 +6,7 @@ ghost use Rattle.port_slip.specs.declared.kinds.SlipKind.TheVariants as SlipKind
 use crate::kinds::SlipKind as Kinds;
 use std::alloc::Global;
 use strm_module::{Instance, Kind, MakeFault, ModuleOf, Shape};
+use strm_msg::Bytes;
 
 /// An object that acts by its shape and has no state of its own, for SLIP and for the built-in kinds in the
 /// same chain.
@@ -32,7 +33,7 @@ impl ByShape {
         ensures err { IfErr result (λ fault. make_fault name.now rd wr ≡ Some fault) }
         ensures variant { is_ok result ≡ is_none (make_fault name.now rd wr) }
     {
-        let kept = Vec::new(alloc).into();
+        let kept = Bytes::empty();
         let shape = Shape::new(serial, name, rd, wr, Kinds::Slip { kept, band: 0 })?;
         Ok(Instance::new(shape, ByShape))
     }

@@ -4,7 +4,7 @@ use std::alloc::Global;
 use std::process::Abort;
 use strm_chain::{Chain, Driver, Spot};
 use strm_module::{BoxedModule, Instance, Kind, Kinds, MakeFault, ModuleOf};
-use strm_msg::{End, Marks, Message, NoMem};
+use strm_msg::{Bytes, End, Marks, Message, NoMem};
 
 /// A step in a loop.
 #[derive(Clone, Copy, Drop)]
@@ -213,7 +213,7 @@ fn is_read(alloc: Global, bytes: &[u8], want: &[u8]) -> bool {
 /// Whether a copy of a kind that keeps these bytes is equal to it.
 fn is_copied(rt: &impl Abort, alloc: Global, kept: Vec<u8>) -> bool {
     let kind = SlipKind::Slip {
-        kept: kept.into(),
+        kept: Bytes::from_vec(alloc, kept).expect(rt, "no memory for bytes"),
         band: 3,
     };
     let copy = kind.copy(alloc).expect(rt, "no memory for a copy");

@@ -9,7 +9,7 @@ use crate::handle::Handle;
 use crate::judged::{find_refusal, putmsg_refusal, putpmsg_refusal, str_refusal, write_refusal};
 use std::alloc::Global;
 use strm_c_numbers::{end_of, mode_of, prot_of, sides_of};
-use strm_head_calls::{BoxedParts, Part, Refusal, Request};
+use strm_head_calls::{BoxedParts, Refusal, Request};
 use strm_module::{BoxedModule, Instance, Kind, MOST_SPLIT, Plain, Shape};
 use strm_msg::{Bytes, NoMem};
 
@@ -241,14 +241,6 @@ pub fn find_of(alloc: Global, s: &mut Handle, end: u8, name: &[u8]) -> Asked
     }
 }
 
-/// A copy of the data of an ioctl, if it has any, in a box. Fails only when memory runs out.
-fn data_of(alloc: Global, has: bool, bytes: &[u8]) -> Result<Part, NoMem>
-    ensures { IfOk result (λ part. part ≡ asks.part_argument has bytes.now) }
-{
-    let bytes = part_of(alloc, has, bytes)?;
-    Part::new(alloc, bytes)
-}
-
 /// The ioctl of this command and these data, as `putmsg_of`.
 pub fn str_of(alloc: Global, s: &mut Handle, end: u8, cmd: u32, has_dat: bool, dat: &[u8]) -> Asked
     requires { s.old.is_open ≡ true }
@@ -265,7 +257,7 @@ pub fn str_of(alloc: Global, s: &mut Handle, end: u8, cmd: u32, has_dat: bool, d
     if let Some(refusal) = refusal {
         return Err(refusal);
     }
-    match data_of(alloc, has_dat, dat) {
+    match part_of(alloc, has_dat, dat) {
         Ok(dat) => Ok(Request::Str { cmd, dat }),
         Err(_) => Err(Refusal::NoMemory),
     }
@@ -334,7 +326,7 @@ pub fn kind_of(alloc: Global, kind: u32, number: u32, table: &[u8]) -> Option<Ki
         1 => table_of(table),
         2 => Some(Kind::CrNl),
         3 => Some(Kind::Line {
-            partial: Bytes::from(Vec::new(alloc)),
+            partial: Bytes::empty(),
         }),
         4 => Some(Kind::Count { n: 0 }),
         5 => Some(Kind::Band {

@@ -13,7 +13,7 @@ ghost use Rattle.strm_c_calls.specs.Judged as judged;
 
 use std::alloc::Global;
 use strm_head::Stream;
-use strm_head_calls::{MAX_CONTROL, MAX_DATA, Part, Parts, Priority, PutFlag, Refusal, Request};
+use strm_head_calls::{MAX_CONTROL, MAX_DATA, Parts, Priority, PutFlag, Refusal, Request};
 use strm_module::{LONGEST_NAME, Plain};
 use strm_msg::{Bytes, End};
 
@@ -73,11 +73,7 @@ fn is_wrong_name(name: &[u8]) -> bool
 fn emptied(alloc: Global, has: bool) -> Option<Bytes>
     ensures { result ≡ asks.part_argument has [] }
 {
-    if has {
-        Some(Bytes::from(Vec::new(alloc)))
-    } else {
-        None
-    }
+    if has { Some(Bytes::empty()) } else { None }
 }
 
 /// The refusal of a putmsg of these parts.
@@ -137,7 +133,7 @@ pub fn write_refusal(
     ensures { result ≡ refusal_of builtin stream.now end (Requests.Write bytes.now) }
 {
     let request = Request::Write {
-        dat: Bytes::from(Vec::new(alloc)),
+        dat: Bytes::empty(),
     };
     let refusal = stream.refusal(end, &request);
     drop(request);
@@ -155,10 +151,7 @@ pub fn str_refusal(
 ) -> Option<Refusal>
     ensures { result ≡ refusal_of builtin stream.now end (asks.ioctl cmd has_dat dat.now) }
 {
-    let request = Request::Str {
-        cmd,
-        dat: Part::none(),
-    };
+    let request = Request::Str { cmd, dat: None };
     let refusal = stream.refusal(end, &request);
     drop(request);
     let is_wrong = are_too_long(false, &[], has_dat, dat);

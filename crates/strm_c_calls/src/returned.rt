@@ -153,8 +153,8 @@ fn write_reply(reply: &Reply, ctl: &mut [u8], dat: &mut [u8]) -> Returned
         }
         Reply::Peek { found } => match found {
             Some(seen) => lengths(
-                fill_part(ctl, seen.ctl()),
-                fill_part(dat, seen.dat()),
+                fill_part(ctl, seen.ctl.as_ref()),
+                fill_part(dat, seen.dat.as_ref()),
                 priority_number(seen.flag),
             ),
             None => nothing(0),

@@ -32,7 +32,7 @@ fn send_up<M: ModuleOf>(chain: &mut Chain<M>, m: Message) -> Result<(), Arrived>
     ensures err { StaysOut M.Kind.means chain.old m result chain.new }
 {
     let i = chain.count(End::A) as u8;
-    let copy = match m.copy(chain.alloc()) {
+    let copy = match m.copy() {
         Ok(copy) => copy,
         Err(_) => return Err(Arrived::NoMem(m)),
     };

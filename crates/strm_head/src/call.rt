@@ -251,7 +251,7 @@ fn answer_of(alloc: Global, kept: &Option<BoxedMessage>) -> Result<Acknowledged,
     ensures { IfOk result (λ answer. answer ≡ acknowledged kept.now) }
 {
     match kept {
-        Some(m) => Ok(acknowledged(Some(Message::copy(m, alloc)?))),
+        Some(m) => Ok(acknowledged(Some(Message::copy(m)?))),
         None => Ok(Acknowledged::Timeout),
     }
 }

@@ -362,7 +362,7 @@ pub(crate) fn begin<M: ModuleOf, A: ReplyForm>(
             flag,
         } => begin_peek(chain, end, maxctl, maxdat, flag),
         Request::Pop => begin_pop(chain, end, back),
-        Request::Str { cmd, dat } => begin_str(chain, end, cmd, dat.into_bytes()),
+        Request::Str { cmd, dat } => begin_str(chain, end, cmd, dat),
         Request::Flush { r, w } => begin_flush(chain, end, r, w),
         Request::FlushBand { band, r, w } => begin_flush_band(chain, end, band, r, w),
         Request::Close => begin_close(chain, end, back),

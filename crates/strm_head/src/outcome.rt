@@ -6,7 +6,7 @@ use crate::call::Back;
 use crate::step_result::StepResult;
 use arrayvec::ArrayVec;
 use strm_chain::{Looks, MOST_MODULES, Moves};
-use strm_head_calls::{Answer, Request};
+use strm_head_calls::{Answer, ReplyForm, Request};
 use strm_module::{BoxedModule, ModuleOf};
 use strm_msg::Message;
 
@@ -60,19 +60,25 @@ pub(crate) fn pushed<M: ModuleOf>(request: Request<BoxedModule<M>>) -> Back<M>
 }
 
 impl<M: ModuleOf> Outcome<M> {
-    /// Makes the outcome of a call from its answer and the modules that come back.
-    pub(crate) fn of(answered: StepResult, back: Back<M>) -> Outcome<M>
-        ensures answer { result.answer ≡ answered.answer }
-        ensures moves { result.moves ≡ answered.moves }
-        ensures back { result.back ≡ back }
-        ensures looks { result.looks ≡ answered.looks }
+    /// The outcome of a call from its answer and the modules that come back, and the copy that comes with the
+    /// answer.
+    pub(crate) fn of<A: ReplyForm>(
+        answered: StepResult<A>,
+        back: Back<M>,
+    ) -> (Outcome<M>, A::CallerCopy)
+        ensures answer { result.0.answer ≡ answered.answer }
+        ensures beside { A.Agrees result.1 answered.answer }
+        ensures moves { result.0.moves ≡ answered.moves }
+        ensures back { result.0.back ≡ back }
+        ensures looks { result.0.looks ≡ answered.looks }
     {
-        let (answer, (), settled) = answered.into_parts();
-        Outcome {
+        let (answer, beside, settled) = answered.into_parts();
+        let outcome = Outcome {
             answer,
             back,
             moves: settled.moves,
             looks: settled.looks.count(),
-        }
+        };
+        (outcome, beside)
     }
 }

@@ -26,7 +26,9 @@ use arrayvec::ArrayVec;
 use std::alloc::Global;
 use std::marker::Model;
 use strm_chain::{Chain, Driver, MOST_MODULES};
-use strm_head_calls::{Name, Parts, Priority, PutFlag, Refusal, ReplyForm, Request};
+use strm_head_calls::{
+    Answer, Name, Parts, Priority, PutFlag, Refusal, ReplyAndCopy, ReplyForm, Request,
+};
 use strm_head_ioctl::{first_output, names_of};
 use strm_module::{BoxedModule, ModuleOf, Shape};
 use strm_msg::{End, Marks, Message};
@@ -196,6 +198,29 @@ impl<M: ModuleOf> Stream<M> {
     {
         let mut back = ArrayVec::new();
         let answered: StepResult = self.call(end, request, &mut back);
+        let (outcome, ()) = Outcome::of(answered, back);
+        outcome
+    }
+
+    /// Makes one call on an end, as `apply` makes it, and returns an equal answer too, as for a record of the
+    /// call. It shares the bytes of the other, and is made before the call changes anything; for an ioctl, when
+    /// its answer has come.
+    pub fn apply_with_twin(
+        &mut self,
+        end: End,
+        request: Request<BoxedModule<M>>,
+    ) -> (Outcome<M>, Answer)
+        ensures step { IsAnswered M.Kind.means self.old end request result.0.answer result.0.moves self.new }
+        ensures twin { result.1 ≡ result.0.answer }
+        ensures back { result.0.back.items ≡ back_of M.Kind.means self.old end request result.0.answer }
+        ensures looks { IsLooked result.0.answer result.0.moves result.0.looks }
+        ensures bound { IsCalm M.Kind.means
+            → IsBounded (begun_of M.Kind.means self.old end request) result.0.answer result.0.moves result.0.looks self.new }
+        ensures memory { HasItsMemory self.old end request result.0.answer }
+        ensures still { BreaksNone M.Kind.means self.old end request result.0.answer }
+    {
+        let mut back = ArrayVec::new();
+        let answered: StepResult<ReplyAndCopy> = self.call(end, request, &mut back);
         Outcome::of(answered, back)
     }
 

@@ -1,11 +1,10 @@
 //! Answers of calls.
-ghost use Rattle.std.specs.Prelude.{◌≡◌, false, IfOk, IsOk, option_copied};
+ghost use Rattle.std.specs.Prelude.{◌≡◌, false, IfOk, IsOk};
 ghost use Rattle.strm_head_calls.specs.Polled.{is_in, is_rdnorm, is_rdband, is_pri};
 ghost use Rattle.strm_head_calls.specs.Reply.{has_bytes, received_of};
 
 use crate::name::Name;
 use crate::name_list::NameList;
-use crate::part::Part;
 use crate::refusal::Refusal;
 use crate::request::Priority;
 use std::alloc::Global;
@@ -102,9 +101,9 @@ impl Polled {
 #[derive(Debug, Drop, PartialEq, Eq)]
 pub struct Peeked {
     /// Control, or none for length -1: there was none, or it was not asked for.
-    pub ctl: Part,
+    pub ctl: Option<Bytes>,
     /// Data, or none for length -1: there was none, or it was not asked for.
-    pub dat: Part,
+    pub dat: Option<Bytes>,
     /// The priority of the message.
     pub flag: Priority,
 }
@@ -257,52 +256,39 @@ pub enum Reply {
     },
 }
 
-/// A copy of a part that may be missing. Fails only when memory runs out.
-pub fn copy_part(alloc: Global, part: &Option<Bytes>) -> Result<Option<Bytes>, NoMem>
+/// A copy of a part that may be missing, which shares the bytes. Takes no memory, and fails only where the
+/// bytes have more owners than can be counted.
+pub fn copy_part(part: &Option<Bytes>) -> Result<Option<Bytes>, NoMem>
     ensures { IfOk result (λ copy. copy ≡ part.now) }
 {
     match part {
-        Some(bytes) => Ok(Some(bytes.copy(alloc)?)),
+        Some(bytes) => Ok(Some(bytes.copy()?)),
         None => Ok(None),
     }
 }
 
 impl Peeked {
-    /// The bytes of control, if it was shown.
-    pub fn ctl(&self) -> Option<&Bytes>
-        ensures { option_copied result ≡ self.now.ctl }
-    {
-        self.ctl.as_bytes()
-    }
-
-    /// The bytes of data, if they were shown.
-    pub fn dat(&self) -> Option<&Bytes>
-        ensures { option_copied result ≡ self.now.dat }
-    {
-        self.dat.as_bytes()
-    }
-
-    /// An equal one. Fails only when memory runs out.
-    pub fn copy(&self, alloc: Global) -> Result<Peeked, NoMem>
+    /// An equal one, as `copy_part` makes its parts.
+    pub fn copy(&self) -> Result<Peeked, NoMem>
         ensures { IfOk result (λ copy. copy ≡ self.now) }
     {
         Ok(Peeked {
-            ctl: self.ctl.copy(alloc)?,
-            dat: self.dat.copy(alloc)?,
+            ctl: copy_part(&self.ctl)?,
+            dat: copy_part(&self.dat)?,
             flag: self.flag,
         })
     }
 }
 
 impl Acknowledged {
-    /// An equal one. Fails only when memory runs out.
-    pub fn copy(&self, alloc: Global) -> Result<Acknowledged, NoMem>
+    /// An equal one, as `copy_part` makes its data.
+    pub fn copy(&self) -> Result<Acknowledged, NoMem>
         ensures { IfOk result (λ copy. copy ≡ self.now) }
     {
         match self {
             Acknowledged::Ack { rval, dat } => Ok(Acknowledged::Ack {
                 rval: *rval,
-                dat: copy_part(alloc, dat)?,
+                dat: copy_part(dat)?,
             }),
             Acknowledged::Nak { errno } => Ok(Acknowledged::Nak { errno: *errno }),
             Acknowledged::Timeout => Ok(Acknowledged::Timeout),
@@ -311,7 +297,8 @@ impl Acknowledged {
 }
 
 impl Reply {
-    /// An equal one. Fails only when memory runs out, which a reply without bytes does not meet.
+    /// An equal one, which shares the bytes. Takes no memory but for a message in a box, and else fails only
+    /// where bytes have more owners than can be counted.
     pub fn copy(&self, alloc: Global) -> Result<Reply, NoMem>
         ensures ok { IfOk result (λ copy. copy ≡ self.now) }
         ensures plain { has_bytes self.now ≡ false → IsOk result }
@@ -323,8 +310,8 @@ impl Reply {
                 flag,
                 more,
             } => Ok(Reply::Getmsg {
-                ctl: copy_part(alloc, ctl)?,
-                dat: copy_part(alloc, dat)?,
+                ctl: copy_part(ctl)?,
+                dat: copy_part(dat)?,
                 flag: *flag,
                 more: *more,
             }),
@@ -334,19 +321,17 @@ impl Reply {
                 flag,
                 more,
             } => Ok(Reply::Getpmsg {
-                ctl: copy_part(alloc, ctl)?,
-                dat: copy_part(alloc, dat)?,
+                ctl: copy_part(ctl)?,
+                dat: copy_part(dat)?,
                 flag: *flag,
                 more: *more,
             }),
-            Reply::Read { dat } => Ok(Reply::Read {
-                dat: dat.copy(alloc)?,
-            }),
+            Reply::Read { dat } => Ok(Reply::Read { dat: dat.copy()? }),
             Reply::Peek { found: Some(seen) } => Ok(Reply::Peek {
-                found: Some(seen.copy(alloc)?),
+                found: Some(seen.copy()?),
             }),
             Reply::Str { answer } => Ok(Reply::Str {
-                answer: answer.copy(alloc)?,
+                answer: answer.copy()?,
             }),
             Reply::Message { m } => Ok(Reply::Message { m: m.copy(alloc)? }),
             plain => Ok(plain.copy_plain()),

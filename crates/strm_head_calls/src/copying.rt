@@ -2,7 +2,7 @@
 ghost use Rattle.std.specs.Prelude.{◌≡◌, IfOk};
 ghost use Rattle.strm_head_calls.specs.declared.request.Request.TheVariants as Requests;
 
-use crate::part::Part;
+use crate::answer::copy_part;
 use crate::parts::BoxedParts;
 use crate::request::{Priority, PutFlag, Request};
 use std::alloc::Global;
@@ -31,10 +31,10 @@ fn copy_putpmsg<P>(
 }
 
 /// A write of a copy. Fails only when memory runs out.
-fn copy_write<P>(alloc: Global, dat: &Bytes) -> Result<Request<P>, NoMem>
+fn copy_write<P>(dat: &Bytes) -> Result<Request<P>, NoMem>
     ensures { IfOk result (λ copy. copy ≡ Requests.Write dat.now) }
 {
-    let dat = dat.copy(alloc)?;
+    let dat = dat.copy()?;
     Ok(Request::Write { dat })
 }
 
@@ -51,18 +51,18 @@ fn copy_push<M: ModuleOf>(
 }
 
 /// A find of a copy of the name. Fails only when memory runs out.
-fn copy_find<P>(alloc: Global, name: &Bytes) -> Result<Request<P>, NoMem>
+fn copy_find<P>(name: &Bytes) -> Result<Request<P>, NoMem>
     ensures { IfOk result (λ copy. copy ≡ Requests.Find name.now) }
 {
-    let name = name.copy(alloc)?;
+    let name = name.copy()?;
     Ok(Request::Find { name })
 }
 
 /// An ioctl of copies. Fails only when memory runs out.
-fn copy_str<P>(alloc: Global, cmd: u32, dat: &Part) -> Result<Request<P>, NoMem>
+fn copy_str<P>(cmd: u32, dat: &Option<Bytes>) -> Result<Request<P>, NoMem>
     ensures { IfOk result (λ copy. copy ≡ Requests.Str cmd dat.now) }
 {
-    let dat = dat.copy(alloc)?;
+    let dat = copy_part(dat)?;
     Ok(Request::Str { cmd, dat })
 }
 
@@ -98,7 +98,7 @@ pub fn copy_request<M: ModuleOf>(
             flag: *flag,
         }),
         Request::Read { max } => Ok(Request::Read { max: *max }),
-        Request::Write { dat } => copy_write(alloc, dat),
+        Request::Write { dat } => copy_write(dat),
         Request::Push { instance } => copy_push(alloc, instance),
         Request::Nread => Ok(Request::Nread),
         Request::Peek {
@@ -123,8 +123,8 @@ pub fn copy_request<M: ModuleOf>(
         Request::Pop => Ok(Request::Pop),
         Request::Look => Ok(Request::Look),
         Request::List => Ok(Request::List),
-        Request::Find { name } => copy_find(alloc, name),
-        Request::Str { cmd, dat } => copy_str(alloc, *cmd, dat),
+        Request::Find { name } => copy_find(name),
+        Request::Str { cmd, dat } => copy_str(*cmd, dat),
         Request::Flush { r, w } => Ok(Request::Flush { r: *r, w: *w }),
         Request::FlushBand { band, r, w } => Ok(Request::FlushBand {
             band: *band,

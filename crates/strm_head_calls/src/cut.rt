@@ -4,7 +4,7 @@ ghost use Rattle.strm_head_calls.specs.Cut.{cut_of, given, left_of, more_of, rem
 
 use crate::More;
 use std::alloc::Global;
-use strm_msg::{Bytes, Message, MsgKind, NoMem};
+use strm_msg::{Bytes, Message, NoMem};
 
 /// The bytes that are given of a message, the parts that stay, and the message that they make.
 #[derive(Drop)]
@@ -26,8 +26,7 @@ fn given(alloc: Global, most: Option<u16>, part: &Option<Bytes>) -> Result<Optio
     let Some(most) = most else { return Ok(None) };
     let Some(bytes) = part else { return Ok(None) };
     let end = bytes.len().min(usize::from(most));
-    let bytes = Bytes::from_slice(alloc, &bytes.as_slice()[..end])?;
-    Ok(Some(bytes))
+    Ok(Some(bytes.slice(alloc, 0, end)?))
 }
 
 /// The rest of a part.
@@ -36,14 +35,13 @@ fn left_of(alloc: Global, most: Option<u16>, part: &Option<Bytes>) -> Result<Opt
 {
     let Some(bytes) = part else { return Ok(None) };
     let Some(most) = most else {
-        return Ok(Some(bytes.copy(alloc)?));
+        return Ok(Some(bytes.copy()?));
     };
     let most = usize::from(most);
     if bytes.len() <= most {
         return Ok(None);
     }
-    let bytes = Bytes::from_slice(alloc, &bytes.as_slice()[most..])?;
-    Ok(Some(bytes))
+    Ok(Some(bytes.slice(alloc, most, bytes.len())?))
 }
 
 fn more_of(ctl: &Option<Bytes>, dat: &Option<Bytes>) -> More
@@ -70,12 +68,7 @@ fn remainder(m: &Message, ctl: Option<Bytes>, dat: Option<Bytes>) -> Option<Mess
             dat,
         });
     }
-    dat.map(|dat| Message {
-        kind: MsgKind::MData,
-        band: m.band,
-        ctl: None,
-        dat: Some(dat),
-    })
+    dat.map(|dat| Message::of_bytes(m.band, dat))
 }
 
 impl Cut {

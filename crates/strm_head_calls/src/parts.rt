@@ -65,8 +65,8 @@ impl BoxedParts {
     pub fn copy(&self, alloc: Global) -> Result<Self, NoMem>
         ensures { IfOk result (λ copy. copy ≡ self.now) }
     {
-        let ctl = copy_part(alloc, &self.ctl)?;
-        let dat = copy_part(alloc, &self.dat)?;
+        let ctl = copy_part(&self.ctl)?;
+        let dat = copy_part(&self.dat)?;
         BoxedParts::new(alloc, ctl, dat)
     }
 

@@ -1,8 +1,7 @@
 //! Requests of a stream.
-ghost use Rattle.std.specs.Prelude.{◌≡◌, IfOk, IsNone, IsOk};
+ghost use Rattle.std.specs.Prelude.{◌≡◌, IfOk};
 ghost use Rattle.strm_head_calls.specs.declared.request.Request.TheVariants as Requests;
 
-use crate::part::Part;
 use crate::parts::BoxedParts;
 use std::alloc::Global;
 use strm_msg::{Bytes, NoMem, Prot, ReadMode};
@@ -207,7 +206,7 @@ pub enum Request<P> {
         /// The command, as the modules and the driver know it.
         cmd: u32,
         /// The data that goes with it, if any.
-        dat: Part,
+        dat: Option<Bytes>,
     },
     /// Sends a flush of all bands down (I_FLUSH).
     ///
@@ -273,15 +272,5 @@ impl<P> Request<P> {
     {
         let parts = BoxedParts::new(alloc, ctl, dat)?;
         Ok(Request::Putpmsg { band, flag, parts })
-    }
-
-    /// An ioctl of this command and these data. Fails only when memory runs out, and not where there are no
-    /// data.
-    pub fn str(alloc: Global, cmd: u32, dat: Option<Bytes>) -> Result<Self, NoMem>
-        ensures str { IfOk result (λ request. request ≡ Requests.Str cmd dat) }
-        ensures nothing { IsNone dat → IsOk result }
-    {
-        let dat = Part::new(alloc, dat)?;
-        Ok(Request::Str { cmd, dat })
     }
 }

@@ -60,7 +60,9 @@ impl Peeked {
     fn is_same(&self, other: &Peeked) -> bool
         ensures { result ≡ true ↔ self.now ≡ other.now }
     {
-        self.ctl.is_same(&other.ctl) && self.dat.is_same(&other.dat) && self.flag == other.flag
+        is_same_part(&self.ctl, &other.ctl)
+            && is_same_part(&self.dat, &other.dat)
+            && self.flag == other.flag
     }
 }
 

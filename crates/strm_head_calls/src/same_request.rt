@@ -3,11 +3,11 @@ ghost use Rattle.std.specs.Prelude.{◌≡◌, ◌↔◌, true};
 ghost use Rattle.strm_head_calls.specs.declared.request.Request.TheVariants as Requests;
 ghost use Rattle.strm_head_calls.specs.Request.{changes_no_queue};
 
-use crate::part::Part;
 use crate::parts::BoxedParts;
 use crate::request::{GetFlag, Priority, PutFlag, Request, Wanted};
+use crate::same::is_same_part;
 use strm_module::{BoxedShape, Kind, Shape};
-use strm_msg::Marks;
+use strm_msg::{Bytes, Marks};
 
 /// Comparison of kinds of module, as they must be compared where the entry of a push is compared with a
 /// receipt's.
@@ -135,11 +135,11 @@ fn is_getpmsg<P>(
 }
 
 /// Whether a request is an ioctl of this command and data.
-fn is_str<P>(request: &Request<P>, cmd: u32, dat: &Part) -> bool
+fn is_str<P>(request: &Request<P>, cmd: u32, dat: &Option<Bytes>) -> bool
     ensures { result ≡ true ↔ Requests.Str cmd dat.now ≡ request.now }
 {
     match request {
-        Request::Str { cmd: c, dat: d } => cmd == *c && dat.is_same(d),
+        Request::Str { cmd: c, dat: d } => cmd == *c && is_same_part(dat, d),
         _ => false,
     }
 }

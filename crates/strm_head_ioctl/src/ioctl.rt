@@ -10,17 +10,17 @@ ghost use Rattle.strm_head_ioctl.specs.Ioctl.{str_refusals, str_effect};
 ghost use Rattle.strm_head_ioctl.specs.Outcome.{FailsIn, EndsIn};
 
 use strm_chain::{Chain, ChainFault, Spot, deliver};
-use strm_head_calls::{Acknowledged, MAX_DATA, Part, Refusal};
+use strm_head_calls::{Acknowledged, MAX_DATA, Refusal};
 use strm_module::ModuleOf;
 use strm_msg::{Bytes, End, Message, MsgKind};
 
 /// The first of an ioctl's own refusals that holds: EINVAL for data over its greatest size, ENXIO for
 /// an end that is hung up, and EAGAIN where the greatest id was given out (streamio(7), I_STR).
-pub fn str_refusal<M: ModuleOf>(chain: &Chain<M>, end: End, dat: &Part) -> Option<Refusal>
+pub fn str_refusal<M: ModuleOf>(chain: &Chain<M>, end: End, dat: &Option<Bytes>) -> Option<Refusal>
     ensures { result ≡ first_that_holds (str_refusals chain.now.image end dat.now) }
 {
     let state = chain.state(end);
-    match dat.as_bytes() {
+    match dat {
         Some(dat) if dat.len() > MAX_DATA => Some(Refusal::Invalid),
         _ if state.hung => Some(Refusal::HungUp),
         _ if state.next.is_none() => Some(Refusal::WouldWait),

@@ -58,7 +58,7 @@ pub fn take_refusal<M: ModuleOf>(chain: &Chain<M>, end: End) -> Option<Refusal>
 fn copy_of(alloc: Global, m: &Message) -> Result<BoxedMessage, NoMem>
     ensures { IfOk result (λ copy. copy ≡ m.now) }
 {
-    BoxedMessage::new(alloc, m.copy(alloc)?)
+    BoxedMessage::new(alloc, m.copy()?)
 }
 
 /// Takes the first message of the output of a wire, where one is.

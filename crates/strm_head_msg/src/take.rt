@@ -12,7 +12,7 @@ ghost use Rattle.strm_head_msg.specs.Take.{shows_nothing, matches_getmsg, matche
 use std::alloc::Global;
 use strm_chain::Chain;
 use strm_head_calls::{
-    Cut, GetFlag, More, Part, Peeked, Priority, Received, Refusal, Reply, ReplyForm, Wanted,
+    Cut, GetFlag, More, Peeked, Priority, Received, Refusal, Reply, ReplyForm, Wanted,
 };
 use strm_module::ModuleOf;
 use strm_msg::{BoxedMessage, Bytes, End, Message, NoMem};
@@ -56,32 +56,25 @@ fn priority_of(m: &Message) -> Priority
     }
 }
 
-/// No bytes. Takes no memory.
-fn no_bytes(alloc: Global) -> Bytes
-    ensures { result ≡ [] }
-{
-    Bytes::from(Vec::new(alloc))
-}
-
 /// The reply of a getmsg at a hung up end without messages. Takes no memory.
-fn empty_getmsg_reply(alloc: Global) -> Reply
+fn empty_getmsg_reply() -> Reply
     ensures { result ≡ Replies.Getmsg (Some []) (Some []) Priorities.Norm Mores.Nothing }
 {
     Reply::Getmsg {
-        ctl: Some(no_bytes(alloc)),
-        dat: Some(no_bytes(alloc)),
+        ctl: Some(Bytes::empty()),
+        dat: Some(Bytes::empty()),
         flag: Priority::Norm,
         more: More::Nothing,
     }
 }
 
 /// The reply of a getpmsg at a hung up end without messages. Takes no memory.
-fn empty_getpmsg_reply(alloc: Global) -> Reply
+fn empty_getpmsg_reply() -> Reply
     ensures { result ≡ Replies.Getpmsg (Some []) (Some []) (Receivers.Band 0) Mores.Nothing }
 {
     Reply::Getpmsg {
-        ctl: Some(no_bytes(alloc)),
-        dat: Some(no_bytes(alloc)),
+        ctl: Some(Bytes::empty()),
+        dat: Some(Bytes::empty()),
         flag: Received::Band { band: 0 },
         more: More::Nothing,
     }
@@ -242,7 +235,7 @@ pub fn getmsg<M: ModuleOf, A: ReplyForm>(
 {
     let alloc = chain.alloc();
     let Some(first) = chain.head(end).first() else {
-        return Ok(A::new(empty_getmsg_reply(alloc), empty_getmsg_reply(alloc)));
+        return Ok(A::new(empty_getmsg_reply(), empty_getmsg_reply()));
     };
     let taken = cut_of_first(alloc, first, maxctl, maxdat)?;
     take_first(chain, end, taken)
@@ -265,7 +258,7 @@ pub fn getpmsg<M: ModuleOf, A: ReplyForm>(
 {
     let alloc = chain.alloc();
     let Some(first) = chain.head(end).first() else {
-        return Ok(A::new(empty_getpmsg_reply(alloc), empty_getpmsg_reply(alloc)));
+        return Ok(A::new(empty_getpmsg_reply(), empty_getpmsg_reply()));
     };
     let taken = cut_with_band(alloc, first, maxctl, maxdat)?;
     take_first(chain, end, taken)
@@ -290,8 +283,8 @@ pub fn peek<M: ModuleOf>(
             let alloc = chain.alloc();
             let taken = Cut::of(alloc, first, maxctl, maxdat)?;
             Some(Peeked {
-                ctl: Part::new(alloc, taken.ctl)?,
-                dat: Part::new(alloc, taken.dat)?,
+                ctl: taken.ctl,
+                dat: taken.dat,
                 flag: priority_of(first),
             })
         }

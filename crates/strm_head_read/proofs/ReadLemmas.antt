@@ -1,7 +1,7 @@
 -- What a read finds, message by message.
 use Rattle.std.proofs.Common.{◌≡◌, ◌∙◌, inl, inr, ℕ, ◌+◌, ◌-◌, ◌<◌, ◌≤◌, Bool, true, false, cond, nat_lt, Option, Some, None, List, [], ◌∷◌, ◌++◌, length, take, drop, slice_get, Result, Ok, Err, IfOk, append_assoc, ap, sym, refl, suc, zero, arith}
 use Rattle.std.specs.List.{take_while, prefix_len}
-use Rattle.std.specs.Prelude.{is_some, IfSome}
+use Rattle.std.specs.Prelude.{is_some, IfSome, ◌⊎◌}
 use Rattle.std.proofs.lemmas.Bool.{cases_lt, lt-ltb, le-leb, lt-leb}
 use Rattle.std.proofs.lemmas.List.{append-nil, length-append, length-take, take_all, take-append-le, take_more, drop_more, drop-drop}
 use Rattle.std.proofs.lemmas.List.Concat.{flat_map-append}
@@ -16,8 +16,9 @@ use Rattle.strm_msg.specs.declared.words.ReadMode.TheVariants.{Rnorm, Rmsgn, Rms
 use Rattle.strm_chain_ends.specs.Image.{Image, end_of, with_head}
 use Rattle.strm_head_calls.specs.declared.answer.Reply.{Reply}
 use Rattle.strm_head_calls.specs.declared.answer.Reply.TheVariants as Replies
+use Rattle.strm_head_calls.specs.Cut.{left_of}
 use Rattle.strm_chain_end.specs.First.{put_back_if}
-use Rattle.strm_head_read.specs.Read.{read_effect, bytes_of_first, IsAlone, Reading, bytes_in, bytes_read, bytes_of_all, goes_on_to, reached, whole_in, rest_of, cut_first, read_of}
+use Rattle.strm_head_read.specs.Read.{read_effect, bytes_in, bytes_read, bytes_of_all, goes_on_to, reached, whole_in, rest_of, cut_first, read_of, bytes_of_first, IsAlone, Reading, IsReadAlone, LeavesAsRead}
 
 -- ---- bytes of one message
 
@@ -207,6 +208,103 @@ pub no_part : (part : Part) → false ≡ is_some part → part ≡ None
 no_part None none = refl
 no_part (Some bytes) none = cc
 
+-- ---- a first message of which a read takes bytes alone
+
+-- of a message without control a read gives the data
+data_alone : (prot : Prot) (m : Msg) → m.ctl ≡ None → bytes_read prot m ≡ bytes_in m.dat
+data_alone Prot.Norm m bare = refl
+data_alone Prot.Dat m bare = rw bare refl
+data_alone Prot.Dis m bare = refl
+
+size_alone : (prot : Prot) (m : Msg) → m.ctl ≡ None → length (bytes_read prot m) ≡ part_len m.dat
+size_alone prot m bare = ap length (data_alone prot m bare) ∙ length_of_part m.dat
+
+-- and leaves the same of it under each protocol
+rest_alone : (mode : ReadMode) (prot : Prot) (n : ℕ) (m : Msg) → m.ctl ≡ None → rest_of mode prot n m ≡ rest_of mode Prot.Dis n m
+rest_alone Rmsgd prot n m bare = refl
+rest_alone Rnorm Prot.Norm n m bare = rw bare refl
+rest_alone Rnorm Prot.Dat n m bare = let all : n - 0 ≡ n = omega arith in rw (bare, all) refl
+rest_alone Rnorm Prot.Dis n m bare = refl
+rest_alone Rmsgn Prot.Norm n m bare = rw bare refl
+rest_alone Rmsgn Prot.Dat n m bare = let all : n - 0 ≡ n = omega arith in rw (bare, all) refl
+rest_alone Rmsgn Prot.Dis n m bare = refl
+
+left_none : (n : ℕ) (part : Part) → part_len part ≤ n → left_of (Some n) part ≡ None
+left_none n None h = refl
+left_none n (Some bytes) h = rw (le-leb (length bytes) n h) refl
+
+-- nothing, where it is read whole
+rest_none : (mode : ReadMode) (n : ℕ) (m : Msg) → m.ctl ≡ None → part_len m.dat ≤ n → rest_of mode Prot.Dis n m ≡ None
+rest_none Rmsgd n m bare fits = refl
+rest_none Rnorm n m bare fits = rw (bare, left_none n m.dat fits) refl
+rest_none Rmsgn n m bare fits = rw (bare, left_none n m.dat fits) refl
+
+reached_first : (mode : ReadMode) (prot : Prot) (q : List Msg) → slice_get (reached mode prot q) 0 ≡ slice_get q 0
+reached_first mode prot [] = refl
+reached_first Rnorm prot (m ∷ q) = refl
+reached_first Rmsgn prot (m ∷ q) = refl
+reached_first Rmsgd prot (m ∷ q) = refl
+
+module _ (mode : ReadMode) (prot : Prot) (n : ℕ) (q : List Msg) (m : Msg) (some : 0 < n) (first : Some m ≡ slice_get q 0) (bare : m.ctl ≡ None) where
+  reach_at : slice_get (reached mode prot q) 0 ≡ Some m
+  reach_at = reached_first mode prot q ∙ sym first
+
+  left : n - 0 ≡ n
+  left = omega arith
+
+  -- of a long one a read gives the front
+  long_count : n < part_len m.dat → 0 ≡ whole_in prot n (reached mode prot q)
+  long_count h = sym (whole_stops prot n (reached mode prot q) 0 m reach_at (rw (size_alone prot m bare) h))
+
+  long_bytes : n < part_len m.dat → (new : List ℕ) → new ≡ take n (bytes_in m.dat) → new ≡ (read_of mode prot n q).bytes
+  long_bytes h new is = cut_bytes mode prot n q 0 [] (long_count h) refl m new reach_at (rw (left, data_alone prot m bare) is)
+
+  long_stays : n < part_len m.dat → (rest : Option Msg) → rest ≡ rest_of mode Prot.Dis n m → put_back_if (drop 1 q) rest ≡ (read_of mode prot n q).stays
+  long_stays h rest is =
+      cut_stays mode prot n q 0 [] (long_count h) refl m rest reach_at (rw left some) (rw (left, rest_alone mode prot n m bare) is)
+
+  -- of a short one that is reached alone it gives all
+  module _ (fits : part_len m.dat ≤ n) (none : None ≡ slice_get (reached mode prot q) 1) where
+    short_count : 1 ≡ whole_in prot n (reached mode prot q)
+    short_count = sym (whole_more prot n (reached mode prot q) 0 m reach_at (rw (size_alone prot m bare) fits) ∙ rw (nothing_left (reached mode prot q) 1 (sym none)) refl)
+
+    short_bytes_of : bytes_read prot m ≡ bytes_of_all prot (take 1 (reached mode prot q))
+    short_bytes_of = sym (bytes_more prot n (reached mode prot q) 0 m reach_at)
+
+    short_bytes : (new : List ℕ) → new ≡ take n (bytes_in m.dat) → new ≡ (read_of mode prot n q).bytes
+    short_bytes new is =
+        is ∙ take_all n (bytes_in m.dat) (rw (length_of_part m.dat) fits) ∙ sym (data_alone prot m bare)
+        ∙ last_bytes mode prot n q 1 (bytes_read prot m) short_count short_bytes_of (sym none)
+
+    short_stays : (rest : Option Msg) → rest ≡ rest_of mode Prot.Dis n m → put_back_if (drop 1 q) rest ≡ (read_of mode prot n q).stays
+    short_stays rest is =
+        rw (is, rest_none mode n m bare fits, read_stays mode prot n q 1 (bytes_read prot m) short_count short_bytes_of, ← none) refl
+
+  -- of each that a read takes bytes of alone
+  pub alone_bytes : (n < part_len m.dat) ⊎ (None ≡ slice_get (reached mode prot q) 1) → (new : List ℕ) → new ≡ take n (bytes_in m.dat) → new ≡ (read_of mode prot n q).bytes
+  alone_bytes (inl h) new is = long_bytes h new is
+  alone_bytes (inr none) new is = elim (cases_lt n (part_len m.dat)) [
+    | inl h ↦ long_bytes h new is
+    | inr h ↦ short_bytes h none new is
+  ]
+
+  pub alone_stays : (n < part_len m.dat) ⊎ (None ≡ slice_get (reached mode prot q) 1) → (rest : Option Msg) → rest ≡ rest_of mode Prot.Dis n m → put_back_if (drop 1 q) rest ≡ (read_of mode prot n q).stays
+  alone_stays (inl h) rest is = long_stays h rest is
+  alone_stays (inr none) rest is = elim (cases_lt n (part_len m.dat)) [
+    | inl h ↦ long_stays h rest is
+    | inr h ↦ short_stays h none rest is
+  ]
+
+-- what is found in it, unless memory runs out
+module _ (mode : ReadMode) (prot : Prot) (n : ℕ) (q : List Msg) (m : Msg) (some : 0 < n) (is : IsReadAlone mode prot n q m) where
+  pub first_bytes : {F X : Type 0} (bytes_of : F → List ℕ) (r : Result F X) → IfOk r (λ found. bytes_of found ≡ take n (bytes_in m.dat)) → IfOk r (λ found. bytes_of found ≡ (read_of mode prot n q).bytes)
+  first_bytes bytes_of (Ok found) are = alone_bytes mode prot n q m some is.first is.bare is.alone (bytes_of found) are
+  first_bytes bytes_of (Err wanting) are = tt
+
+  pub first_stays : {F X : Type 0} (gone_of : F → ℕ) (rest : F → Option Msg) (r : Result F X) → IfOk r (λ found. gone_of found ≡ 1) → IfOk r (λ found. rest found ≡ rest_of mode Prot.Dis n m) → IfOk r (λ found. LeavesAsRead mode prot n q (gone_of found) (rest found))
+  first_stays gone_of rest (Ok found) gone are = rw gone (alone_stays mode prot n q m some is.first is.bare is.alone (rest found) are)
+  first_stays gone_of rest (Err wanting) gone are = tt
+
 -- ---- the only message, which has data alone
 
 -- a message that is the only one, and has data alone
@@ -222,12 +320,6 @@ is_alone n (x ∷ []) m one first bare has fits =
       fits = fits;
     }
 is_alone n (x ∷ y ∷ q) m one first bare has fits = absurd (omega (arith, one))
-
--- of such a message a read gives the data
-data_alone : (prot : Prot) (m : Msg) → m.ctl ≡ None → bytes_read prot m ≡ bytes_in m.dat
-data_alone Prot.Norm m bare = refl
-data_alone Prot.Dat m bare = rw bare refl
-data_alone Prot.Dis m bare = refl
 
 reach_alone : (mode : ReadMode) (prot : Prot) (m : Msg) → reached mode prot (m ∷ []) ≡ m ∷ []
 reach_alone Rnorm prot m = elim (nat_lt 0 (length (bytes_read prot m))) as (λ b. m ∷ cond b (take_while (goes_on_to prot) []) [] ≡ m ∷ []) [

@@ -1,6 +1,6 @@
 -- The bytes that a read gives of the messages at the head, and the messages that stay (read(2); streamio(7),
 -- I_SRDOPT).
-use Rattle.std.specs.Prelude.{◌≡◌, ◌≤◌, ℕ, ◌-◌, ◌&&◌, not, nat_le, nat_lt, Bool, true, false, Option, Some, None, List, [], ◌∷◌, ◌++◌, length, take, drop, take_while, flat_map, slice_get, suc, zero, if◌then◌else◌, is_some, Result, IfOk, IfSome}
+use Rattle.std.specs.Prelude.{◌≡◌, ◌≤◌, ℕ, ◌-◌, ◌&&◌, not, nat_le, nat_lt, Bool, true, false, Option, Some, None, List, [], ◌∷◌, ◌++◌, length, take, drop, take_while, flat_map, slice_get, suc, zero, if◌then◌else◌, is_some, ◌<◌, ◌⊎◌, Result, IfOk, IfSome}
 use Rattle.strm_msg.specs.Message.{Msg, Part, part_len}
 use Rattle.strm_msg.specs.declared.words.End.{End}
 use Rattle.strm_msg.specs.declared.words.Prot.{Prot}
@@ -95,6 +95,14 @@ pub record IsAlone (n : ℕ) (q : List Msg) : Type 0 where
   pub bare : m.ctl ≡ None
   pub given : is_some m.dat ≡ true
   pub fits : part_len m.dat ≤ n
+
+-- a read of n bytes takes bytes of the first message alone, which has data and no control (no public clause
+-- cites it)
+pub record IsReadAlone (mode : ReadMode) (prot : Prot) (n : ℕ) (q : List Msg) (m : Msg) : Type 0 where
+  pub first : Some m ≡ slice_get q 0
+  pub bare : m.ctl ≡ None
+  pub given : is_some m.dat ≡ true
+  pub alone : (n < part_len m.dat) ⊎ (None ≡ slice_get (reached mode prot q) 1)
 
 -- the bytes that are read of a list of messages, and the rest of it
 pub record Reading : Type 0 where

@@ -1,10 +1,10 @@
 //! Read: takes the bytes of the messages at the head, and puts back the rest of them.
-ghost use Rattle.std.specs.Prelude.{◌≡◌, ◌↔◌, true, Some, [], IsOk, is_some, ◌≤◌, ◌++◌, OnOk, OnErr, IfOk, length, take, drop, slice_get, option_copied};
+ghost use Rattle.std.specs.Prelude.{◌≡◌, ◌<◌, true, Some, [], is_some, IsOk, ◌≤◌, ◌++◌, OnOk, OnErr, IfOk, IfSome, length, take, drop, slice_get, option_copied};
 ghost use Rattle.strm_msg.specs.Message.{part_len};
 ghost use Rattle.strm_chain_ends.specs.Image.{end_of, KeepsHeadRoom};
 ghost use Rattle.strm_head_calls.specs.declared.answer.Reply.TheVariants as Replies;
 ghost use Rattle.strm_head_calls.specs.Refusal.{first_that_holds};
-ghost use Rattle.strm_head_read.specs.Read.{bytes_of_first, IsAlone, bytes_in, bytes_read, is_unread, goes_on_to, reached, whole_in, rest_of, read_of, read_refusals, read_effect, without_first, with_rest, bytes_reached, SaysData, LeavesAsRead};
+ghost use Rattle.strm_head_read.specs.Read.{bytes_in, bytes_read, is_unread, goes_on_to, reached, whole_in, rest_of, read_of, read_refusals, read_effect, without_first, with_rest, bytes_of_first, bytes_reached, IsAlone, IsReadAlone, LeavesAsRead, SaysData};
 
 use std::alloc::Global;
 use strm_chain::Chain;
@@ -20,11 +20,20 @@ struct WholeMessages {
     count: usize,
 }
 
+/// The bytes that a read copies out of messages, the number of messages that it takes away, and the message
+/// that it puts back of the last of them.
+#[derive(Drop)]
+struct Gathered {
+    bytes: Vec<u8>,
+    gone: usize,
+    rest: Option<Message>,
+}
+
 /// The bytes that a read gives, the number of messages that it takes away, and the message that it puts back
 /// of the last of them.
 #[derive(Drop)]
 struct ReadResult {
-    bytes: Vec<u8>,
+    bytes: Bytes,
     gone: usize,
     rest: Option<Message>,
 }
@@ -145,7 +154,7 @@ fn data_behind(alloc: Global, m: &Message, n: u16) -> Result<Option<Message>, No
     if dat.len() <= n {
         return Ok(None);
     }
-    Ok(Some(Message::of_data(alloc, m.band, &dat.as_slice()[n..])?))
+    Ok(Some(Message::of_bytes(m.band, dat.slice(alloc, n, dat.len())?)))
 }
 
 /// The rest of a message of which `n` bytes are read, and not all.
@@ -171,16 +180,63 @@ fn rest_of(
     }
 }
 
-/// The bytes that a read of at most `max` bytes gives, and the outcome of the messages.
-fn found_in(
+/// The first message, if a read takes bytes of it alone, and it has data and no control.
+fn read_alone(queue: &BandQueue, mode: ReadMode, prot: Prot, max: u16) -> Option<&Message>
+    requires { 0 < max }
+    ensures { IfSome result (λ m. IsReadAlone mode prot max queue.now.messages m.now) }
+{
+    let first = queue.first()?;
+    if first.ctl.is_some() {
+        return None;
+    }
+    let Some(dat) = &first.dat else {
+        return None;
+    };
+    if dat.len() > usize::from(max) {
+        return Some(first);
+    }
+    match reached_at(queue, mode, prot, 1) {
+        Some(_) => None,
+        None => Some(first),
+    }
+}
+
+/// The bytes of the first message that a read takes bytes of alone. It shares them.
+fn found_in_first(
+    alloc: Global,
+    first: &Message,
+    mode: ReadMode,
+    max: u16,
+) -> Result<ReadResult, NoMem>
+    ensures bytes { IfOk result (λ found. found.bytes ≡ take max (bytes_in first.now.dat)) }
+    ensures gone { IfOk result (λ found. found.gone ≡ 1) }
+    ensures rest { IfOk result (λ found. found.rest ≡ rest_of mode Prot.Dis max first.now) }
+{
+    let bytes = match &first.dat {
+        Some(dat) => dat.slice(alloc, 0, dat.len().min(usize::from(max)))?,
+        None => Bytes::empty(),
+    };
+    let rest = match mode {
+        ReadMode::Rmsgd => None,
+        ReadMode::Rnorm | ReadMode::Rmsgn => data_behind(alloc, first, max)?,
+    };
+    Ok(ReadResult {
+        bytes,
+        gone: 1,
+        rest,
+    })
+}
+
+/// The bytes that a read of at most `max` bytes copies out of messages, and the outcome of the messages.
+fn gather(
     alloc: Global,
     queue: &BandQueue,
     mode: ReadMode,
     prot: Prot,
     max: u16,
-) -> Result<ReadResult, NoMem>
-    ensures bytes { IfOk result (λ found. found.bytes.items ≡ (read_of mode prot max queue.now.messages).bytes) }
-    ensures stays { IfOk result (λ found. LeavesAsRead mode prot max queue.now.messages found.gone found.rest) }
+) -> Result<Gathered, NoMem>
+    ensures bytes { IfOk result (λ all. all.bytes.items ≡ (read_of mode prot max queue.now.messages).bytes) }
+    ensures stays { IfOk result (λ all. LeavesAsRead mode prot max queue.now.messages all.gone all.rest) }
 {
     let WholeMessages { mut bytes, count } = whole_of(alloc, queue, mode, prot, max)?;
     let left = max - bytes.len() as u16;
@@ -188,17 +244,43 @@ fn found_in(
         Some(m) if left > 0 => {
             add_bytes(&mut bytes, prot, m, usize::from(left))?;
             let rest = rest_of(alloc, mode, prot, left, m)?;
-            Ok(ReadResult {
+            Ok(Gathered {
                 bytes,
                 gone: count + 1,
                 rest,
             })
         }
-        _ => Ok(ReadResult {
+        _ => Ok(Gathered {
             bytes,
             gone: count,
             rest: None,
         }),
+    }
+}
+
+/// The bytes that a read of at most `max` bytes gives, and the outcome of the messages. Those of a message that
+/// it reads alone are shared, and others are copied.
+fn found_in(
+    alloc: Global,
+    queue: &BandQueue,
+    mode: ReadMode,
+    prot: Prot,
+    max: u16,
+) -> Result<ReadResult, NoMem>
+    requires { 0 < max }
+    ensures bytes { IfOk result (λ found. found.bytes ≡ (read_of mode prot max queue.now.messages).bytes) }
+    ensures stays { IfOk result (λ found. LeavesAsRead mode prot max queue.now.messages found.gone found.rest) }
+{
+    if let Some(first) = read_alone(queue, mode, prot, max) {
+        return found_in_first(alloc, first, mode, max);
+    }
+    let Gathered { bytes, gone, rest } = gather(alloc, queue, mode, prot, max)?;
+    match Bytes::from_vec(alloc, bytes) {
+        Ok(bytes) => Ok(ReadResult { bytes, gone, rest }),
+        Err(wanting) => {
+            drop(rest);
+            Err(wanting)
+        }
     }
 }
 
@@ -248,32 +330,12 @@ pub fn read_refusal<M: ModuleOf>(chain: &Chain<M>, end: End, max: u16) -> Option
     }
 }
 
-/// The reply of a read that gives these bytes.
-fn reply_of(bytes: Vec<u8>) -> Reply
-    ensures { result ≡ Replies.Read bytes.items }
+/// The reply of a read of nothing. Takes no memory.
+fn nothing_read() -> Reply
+    ensures { result ≡ Replies.Read [] }
 {
     Reply::Read {
-        dat: Bytes::from(bytes),
-    }
-}
-
-/// The reply of a read of nothing. Takes no memory.
-fn nothing_read<A: ReplyForm>(alloc: Global) -> A
-    ensures { A.says result ≡ Replies.Read [] }
-{
-    A::new(reply_of(Vec::new(alloc)), reply_of(Vec::new(alloc)))
-}
-
-/// Whether the first message has data, which are these bytes.
-fn is_data_of_first(queue: &BandQueue, bytes: &[u8]) -> bool
-    ensures { result ≡ true ↔ (bytes_of_first queue.now.messages ≡ Some bytes.now) }
-{
-    let Some(first) = queue.first() else {
-        return false;
-    };
-    match &first.dat {
-        Some(dat) => dat.as_slice() == bytes,
-        None => false,
+        dat: Bytes::empty(),
     }
 }
 
@@ -291,17 +353,6 @@ fn take_data<M: ModuleOf>(chain: &mut Chain<M>, end: End) -> Bytes
         Some(dat) => dat,
         None => unreachable!(),
     }
-}
-
-/// Returns the data of the first message, which a read has found, and takes the message away. The reply has
-/// the bytes of the message, an equal one the bytes that were found. Takes no memory.
-fn move_first<M: ModuleOf, A: ReplyForm>(chain: &mut Chain<M>, end: End, bytes: Vec<u8>) -> A
-    requires { bytes_of_first (end_of chain.old.image end).head ≡ Some bytes.items }
-    ensures reply { A.says result ≡ Replies.Read bytes.items }
-    ensures image { chain.new.image ≡ without_first chain.old.image end 1 }
-{
-    let dat = take_data(chain, end);
-    A::new(Reply::Read { dat }, reply_of(bytes))
 }
 
 /// Whether one message waits, which has data alone, and a read of at most `max` bytes gives them all.
@@ -339,16 +390,12 @@ fn copy_out<M: ModuleOf, A: ReplyForm>(
     end: End,
     found: ReadResult,
 ) -> Result<A, NoMem>
-    ensures reply { IfOk result (λ reply. A.says reply ≡ Replies.Read found.bytes.items) }
+    ensures reply { IfOk result (λ reply. A.says reply ≡ Replies.Read found.bytes) }
     ensures image { OnOk result (chain.new.image ≡ with_rest chain.old.image end found.gone found.rest) }
     ensures err { OnErr result (chain.new.image ≡ chain.old.image) }
 {
     let ReadResult { bytes, gone, rest } = found;
-    if gone == 1 && rest.is_none() && is_data_of_first(chain.head(end), bytes.as_slice()) {
-        drop(rest);
-        return Ok(move_first(chain, end, bytes));
-    }
-    let reply = A::of(chain.alloc(), reply_of(bytes))?;
+    let reply = A::of(chain.alloc(), Reply::Read { dat: bytes })?;
     match replace_front(chain, end, gone, rest) {
         Ok(()) => Ok(reply),
         Err(wanting) => {
@@ -372,7 +419,7 @@ pub fn read<M: ModuleOf, A: ReplyForm>(chain: &mut Chain<M>, end: End, max: u16)
 {
     let alloc = chain.alloc();
     if max == 0 || chain.head(end).is_empty() {
-        return Ok(nothing_read(alloc));
+        return Ok(A::new(nothing_read(), nothing_read()));
     }
     if A::is_alone() && is_single_data(chain.head(end), max) {
         return move_single(chain, end);

@@ -21,7 +21,10 @@ fn mapped_part(
     ensures { IfOk result (λ out. out ≡ option_map (mapped table.now) part.now) }
 {
     match part {
-        Some(bytes) => Ok(Some(bytes::map_bytes(alloc, table, bytes.as_slice())?.into())),
+        Some(bytes) => {
+            let bytes = bytes::map_bytes(alloc, table, bytes.as_slice())?;
+            Ok(Some(Bytes::from_vec(alloc, bytes)?))
+        }
         None => Ok(None),
     }
 }
@@ -31,7 +34,10 @@ fn part_with_cr(alloc: Global, part: &Option<Bytes>) -> Result<Option<Bytes>, No
     ensures { IfOk result (λ out. out ≡ option_map with_cr part.now) }
 {
     match part {
-        Some(bytes) => Ok(Some(bytes::add_cr(alloc, bytes.as_slice())?.into())),
+        Some(bytes) => {
+            let bytes = bytes::add_cr(alloc, bytes.as_slice())?;
+            Ok(Some(Bytes::from_vec(alloc, bytes)?))
+        }
         None => Ok(None),
     }
 }
@@ -41,7 +47,10 @@ fn part_without_cr(alloc: Global, part: &Option<Bytes>) -> Result<Option<Bytes>,
     ensures { IfOk result (λ out. out ≡ option_map without_cr part.now) }
 {
     match part {
-        Some(bytes) => Ok(Some(bytes::drop_cr(alloc, bytes.as_slice())?.into())),
+        Some(bytes) => {
+            let bytes = bytes::drop_cr(alloc, bytes.as_slice())?;
+            Ok(Some(Bytes::from_vec(alloc, bytes)?))
+        }
         None => Ok(None),
     }
 }
@@ -90,15 +99,10 @@ pub(crate) fn act_crnl(alloc: Global, side: Side, m: BoxedMessage) -> Result<Out
 }
 
 /// Sends data of band 0 up, in the box of another message.
-fn data_up(m: BoxedMessage, bytes: Vec<u8>) -> Outs
-    ensures { result.items ≡ (Side.Rd, data_msg 0 bytes.items) ∷ [] }
+fn data_up(m: BoxedMessage, bytes: Bytes) -> Outs
+    ensures { result.items ≡ (Side.Rd, data_msg 0 bytes) ∷ [] }
 {
-    reply(m.becoming(Message {
-        kind: MsgKind::MData,
-        band: 0,
-        ctl: None,
-        dat: Some(bytes.into()),
-    }))
+    reply(m.becoming(Message::of_bytes(0, bytes)))
 }
 
 /// Sends whole lines up, in the box of the message that came last, and keeps the bytes that follow them. Too
@@ -115,15 +119,19 @@ fn split_lines(
 {
     let rest = bytes::rest_len(&all);
     if rest > MOST_KEPT {
-        *partial = Vec::new(alloc).into();
+        let all = Bytes::from_vec(alloc, all)?;
+        *partial = Bytes::empty();
         return Ok(data_up(m, all));
     }
     let whole = all.len() - rest;
-    *partial = Bytes::from_slice(alloc, &all[whole..])?;
+    let kept = Bytes::from_slice(alloc, &all[whole..])?;
     if whole == 0 {
+        *partial = kept;
         return Ok(Outs::new());
     }
     all.truncate(whole);
+    let all = Bytes::from_vec(alloc, all)?;
+    *partial = kept;
     Ok(data_up(m, all))
 }
 
@@ -202,9 +210,9 @@ fn split_data(alloc: Global, n: usize, m: BoxedMessage) -> Result<Outs, NoMem>
 {
     match &m.dat {
         Some(bytes) if bytes.len() > n => {
-            let first = Message::of_data(alloc, m.band, &bytes.as_slice()[..n])?;
+            let first = Message::of_bytes(m.band, bytes.slice(alloc, 0, n)?);
             let first = BoxedMessage::new(alloc, first)?;
-            let rest = Message::of_data(alloc, m.band, &bytes.as_slice()[n..])?;
+            let rest = Message::of_bytes(m.band, bytes.slice(alloc, n, bytes.len())?);
             Ok(both((Side::Wr, first), (Side::Wr, m.becoming(rest))))
         }
         _ => Ok(pass_on(Side::Wr, m)),

@@ -97,7 +97,7 @@ fn flush(alloc: Global, kind: &mut Kind, by: MsgKind)
                 ..
             }
         ) {
-            *partial = Vec::new(alloc).into();
+            *partial = Bytes::empty();
         }
     }
 }
@@ -135,7 +135,7 @@ impl Kinds for Kind {
             Kind::Table { map } => Kind::Table { map: *map },
             Kind::CrNl => Kind::CrNl,
             Kind::Line { partial } => Kind::Line {
-                partial: partial.copy(alloc)?,
+                partial: partial.copy()?,
             },
             Kind::Count { n } => Kind::Count { n: *n },
             Kind::Band { b } => Kind::Band { b: *b },

@@ -5,6 +5,7 @@ ghost use Rattle.strm_module.specs.Shape.{make_fault, split_fault, new_shape};
 
 use std::alloc::Global;
 use strm_module::{Instance, Kind as Kinds, MOST_SPLIT, MakeFault, Module, Shape};
+use strm_msg::Bytes;
 
 /// Sends each message on unchanged.
 #[derive(Debug, Drop)]
@@ -105,7 +106,7 @@ impl Line {
         ensures err { IfErr result (λ fault. make_fault name.now rd wr ≡ Some fault) }
         ensures variant { is_ok result ≡ is_none (make_fault name.now rd wr) }
     {
-        let partial = Vec::new(alloc).into();
+        let partial = Bytes::empty();
         let shape = Shape::new(serial, name, rd, wr, Kinds::Line { partial })?;
         Ok(Instance::new(shape, Line))
     }

@@ -76,11 +76,11 @@ impl BoxedMessage {
         }
     }
 
-    /// An equal message in a box of its own (copymsg(9F)). Fails only when memory runs out.
+    /// An equal message in a box of its own, which shares the bytes (dupmsg(9F)). Fails only when memory runs out.
     pub fn copy(&self, alloc: Global) -> Result<Self, NoMem>
         ensures { IfOk result (λ copy. copy ≡ self.now) }
     {
-        BoxedMessage::new(alloc, self.m.copy(alloc)?)
+        BoxedMessage::new(alloc, self.m.copy()?)
     }
 
     /// The message without its box. Takes no memory.

@@ -15,6 +15,8 @@ use Rattle.strm_queue.proofs.ListLemmas.{all_so, all_both, all_get, filter_so, n
 use Rattle.strm_queue.proofs.StandLemmas.{all_reach, all_below, filter_other}
 use Rattle.strm_queue.proofs.LanesLemmas.{its_own, lanes_fall, lanes_after, is_absent, absent_below, lane_of-absent, lanes_filter, lanes_below}
 
+-- ---- the lane at a place
+
 -- what stands at a place is the lane of its rank
 pub lane_of-place : (lanes : List Ranked) (at : ℕ) (d : Ranked) → is_laned lanes ≡ true → at < length lanes → lane_of (get_or lanes at d).rank lanes ≡ get_or lanes at d
 lane_of-place [] at d h less = absurd (omega arith)
@@ -68,6 +70,8 @@ ranks_part rank (lane ∷ lanes) h zero (suc j) d le less above =
 ranks_part rank (lane ∷ lanes) h (suc i) zero d le less above = absurd (omega arith)
 ranks_part rank (lane ∷ lanes) h (suc i) (suc j) d le less above = ranks_part rank lanes (lanes_after lane lanes h) i j d (omega arith) (omega arith) above
 
+-- ---- a lane that is changed at its place
+
 -- a lane changed at its place, of the same rank
 module _ (new d : Ranked) where
   falls-set : (most : ℕ) (lanes : List Ranked) (at : ℕ) → at < length lanes → new.rank ≡ (get_or lanes at d).rank → list_all (λ lane. nat_lt lane.rank most) lanes ≡ true → list_all (λ lane. nat_lt lane.rank most) (set lanes at new) ≡ true
@@ -115,6 +119,8 @@ module _ (new d : Ranked) where
       let old = length-append lane.messages (messages_of lanes) in
       let after = length-append lane.messages (messages_of (set lanes i new)) in
       rw (old, after) (omega (arith, length-set_lane lanes i (omega arith)))
+
+-- ---- a message that is put in, or taken, or flushed
 
 -- messages of at least a rank before what a message is put into
 front_step : (least : ℕ) (q rest : List Msg) (m : Msg) → list_all (λ y. nat_le least (rank_of y)) q ≡ true → insert (q ++ rest) (front_len least (q ++ rest)) m ≡ q ++ insert rest (front_len least rest) m
@@ -187,6 +193,8 @@ flush-set new d (lane ∷ lanes) (suc i) h less is =
     let differs : (lane.rank == rank) ≡ false = grind (arith, nat_tests) in
     let here : filter stays lane.messages ≡ lane.messages = none_flushed (is_of_rank rank) lane.messages (filter_other lane.rank rank lane.messages differs (its_own lane lanes h)) in
     rw (split, here) (ap (λ ys. lane.messages ++ ys) (flush-set new d lanes i (lanes_after lane lanes h) (omega arith) is))
+
+-- ---- a new lane
 
 -- a new lane without messages, put at the place of a rank that no lane has
 module _ (new : Ranked) (empty : new.messages ≡ []) where

@@ -14,6 +14,8 @@ use Rattle.strm_queue.specs.Queue.{is_flushed, is_of_band, is_pcproto, weight_in
 use Rattle.strm_queue.specs.Lanes.{is_of_rank}
 use Rattle.strm_queue.proofs.ListLemmas.{all_so, filter_so, filter_true, filter_false, filter_ext, filter_twice}
 
+-- ---- the lane of a message
+
 one_lane : (high : Bool) (a b band : ℕ) → (if high then a == 256 else (nat_lt a 256 && (band == a))) ≡ true → (if high then b == 256 else (nat_lt b 256 && (band == b))) ≡ (a == b)
 one_lane true a b band h = grind (arith, nat_tests)
 one_lane false a b band h = grind (arith, nat_tests)
@@ -43,6 +45,8 @@ filter_own a b q same h = rw (filter_so (is_of_rank a) (is_of_rank b) (λ _. tru
 pub filter_other : (a b : ℕ) (q : List Msg) → (a == b) ≡ false → list_all (is_of_rank a) q ≡ true → filter (is_of_rank b) q ≡ []
 filter_other a b q other h = rw (filter_so (is_of_rank a) (is_of_rank b) (λ _. false) q (λ m stands. rw (stands_elsewhere a b m stands) other) h) (filter_false q)
 
+-- ---- the lanes of a band
+
 -- a band above 0 has what stands in its lane
 pub ordinary_band : (band : ℕ) (m : Msg) → (band == 0) ≡ false → band < 256 → is_of_band band m ≡ is_of_rank band m
 ordinary_band band m other less = by_class (is_high m.kind)
@@ -65,6 +69,8 @@ not_in_both m = by_class (is_high m.kind)
     by_class : (high : Bool) → ((if high then 0 == 256 else (nat_lt 0 256 && (m.band == 0))) && (if high then 256 == 256 else (nat_lt 256 256 && (m.band == 256)))) ≡ false
     by_class true = refl
     by_class false = grind (arith, nat_tests)
+
+-- ---- what a band holds
 
 -- a band above 0 holds what stands in its lane
 pub held-ordinary : (band : ℕ) (q : List Msg) → (band == 0) ≡ false → band < 256 → held_of q band ≡ sum_by weight_of (filter (is_of_rank band) q)
@@ -106,6 +112,8 @@ held-zero (x ∷ q) =
       ] refl
     ] refl
 
+-- ---- flushes
+
 -- what a flush of a band above 0 leaves
 pub flush-ordinary : (band : ℕ) (q : List Msg) → (band == 0) ≡ false → band < 256 → filter (λ m. not (is_flushed m.kind && is_of_rank band m)) q ≡ flush_band_of band q
 flush-ordinary band q other less =
@@ -122,6 +130,8 @@ flush-zero q =
     let low = λ (m : Msg). not (is_flushed m.kind && is_of_rank 0 m) in
     let high = λ (m : Msg). not (is_flushed m.kind && is_of_rank 256 m) in
     filter_twice low high q ∙ filter_ext (λ (m : Msg). low m && high m) (λ (m : Msg). not (is_flushed m.kind && is_of_band 0 m)) q (λ m. rw (band_zero m) (both_flushes (is_flushed m.kind) (is_of_rank 0 m) (is_of_rank 256 m)))
+
+-- ---- what is found in a lane
 
 -- what a test finds stands where all that pass it stand
 pub found-in : (test stand : Msg → Bool) (q : List Msg) → ((m : Msg) → test m ≡ true → stand m ≡ true) → list_any test (filter stand q) ≡ list_any test q

@@ -1,6 +1,6 @@
 -- Queues of messages (Programmer's Guide: STREAMS, "Message Queues and Service Procedures"; putq(9F) and
 -- kin).
-use Rattle.std.specs.Prelude.{ℕ, ◌+◌, ◌-◌, ◌==◌, ◌&&◌, not, nat_le, nat_lt, Bool, true, false, List, [], ◌∷◌, length, if◌then◌else◌, filter, sum_by, insert}
+use Rattle.std.specs.Prelude.{◌≡◌, ℕ, ◌+◌, ◌-◌, ◌==◌, ◌&&◌, not, nat_le, nat_lt, Bool, true, false, List, [], ◌∷◌, length, if◌then◌else◌, filter, sum_by, insert, Option, MatchOption}
 use Rattle.std.specs.List.{prefix_len, suffix_len, list_any, list_all}
 use Rattle.strm_msg.specs.Marks.{WaterMarks}
 use Rattle.strm_msg.specs.Message.{Msg, rank_of, weight_of}
@@ -18,6 +18,10 @@ pub record Queue : Type 0 where
 -- the number of messages at the front that have at least this rank
 abbrev pub front_len : ℕ → List Msg → ℕ
 front_len least q = prefix_len (λ x. nat_le least (rank_of x)) q
+
+-- the first message is taken, or none is there (getq)
+abbrev pub TakesFirst : Option Msg → List Msg → List Msg → Type 0
+TakesFirst taken old new = MatchOption taken ((old ≡ []) × (new ≡ [])) (λ m. old ≡ m ∷ new)
 
 -- m behind the messages of its rank (putq)
 abbrev pub put_in : List Msg → Msg → List Msg

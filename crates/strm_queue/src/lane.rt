@@ -1,8 +1,8 @@
 //! The messages of one rank.
-ghost use Rattle.std.specs.Prelude.{◌≡◌, ◌==◌, ◌+◌, ◌*◌, ◌^◌, ◌<◌, ◌≤◌, ◌∷◌, ◌++◌, [], not, true, length, sum_by, IsOk, OnOk, OnErr, IfErr, MatchOption, option_copied, slice_get};
+ghost use Rattle.std.specs.Prelude.{◌≡◌, ◌==◌, ◌+◌, ◌*◌, ◌^◌, ◌<◌, ◌≤◌, ◌∷◌, ◌++◌, [], not, true, length, sum_by, IsOk, OnOk, OnErr, IfErr, option_copied, slice_get};
 ghost use Rattle.std.specs.List.{list_all};
 ghost use Rattle.strm_msg.specs.Message.{weight_of};
-ghost use Rattle.strm_queue.specs.Queue.{flush_of, is_flushed, has_pcproto};
+ghost use Rattle.strm_queue.specs.Queue.{flush_of, is_flushed, has_pcproto, TakesFirst};
 ghost use Rattle.strm_queue.specs.Lanes.{is_light};
 
 use std::alloc::Global;
@@ -21,17 +21,19 @@ pub(crate) struct Lane {
 }
 
 impl Model for Lane {
-    ghost use Rattle.std.specs.Prelude.{◌≡◌, ◌-◌, true, sum_by};
-    ghost use Rattle.std.specs.List.{list_all};
+    ghost use Rattle.std.specs.Prelude.{◌-◌};
     ghost use Rattle.std.specs.VecDeque.{deque_len, deque_capacity};
-    ghost use Rattle.strm_msg.specs.Message.{weight_of};
-    ghost use Rattle.strm_queue.specs.Lanes.{Ranked, is_light};
+    ghost use Rattle.strm_queue.specs.Lanes.{Ranked, AreWeighed};
 
     ghost Value = { Ranked };
 
-    ghost view = { λ l. record { rank = l.rank; messages = l.messages.items; spare = deque_capacity l.messages - deque_len l.messages } };
+    ghost view = { λ l. record {
+      rank = l.rank;
+      messages = l.messages.items;
+      spare = deque_capacity l.messages - deque_len l.messages;
+    } };
 
-    ghost invariant = { λ l. (l.weight ≡ sum_by weight_of l.messages.items) × (list_all is_light l.messages.items ≡ true) };
+    ghost invariant = { λ l. AreWeighed l.messages.items l.weight };
 }
 
 /// Whether a flush removes messages of the kind.
@@ -165,7 +167,7 @@ impl Lane {
     /// Takes the first message. Its place stays with the lane.
     pub(crate) fn pop(&mut self) -> Option<BoxedMessage>
         ensures rank { self.new.rank ≡ self.old.rank }
-        ensures first { MatchOption result ((self.old.messages ≡ []) × (self.new.messages ≡ [])) (λ m. self.old.messages ≡ m ∷ self.new.messages) }
+        ensures first { TakesFirst result self.old.messages self.new.messages }
         ensures room { self.old.spare ≤ self.new.spare }
     {
         let m = self.messages.pop_front()?;

@@ -1,8 +1,8 @@
 //! The lanes of a queue, greatest rank first.
-ghost use Rattle.std.specs.Prelude.{◌≡◌, ℕ, ◌+◌, ◌*◌, ◌^◌, ◌<◌, ◌≤◌, ◌↔◌, ◌&&◌, ◌∷◌, [], not, true, take, length, min, filter, sum_by, slice_index_or, slice_get, option_copied, IsTrue, IsOk, IfOk, OnOk, OnErr, IfErr, MatchOption};
+ghost use Rattle.std.specs.Prelude.{◌≡◌, ◌+◌, ◌*◌, ◌^◌, ◌<◌, ◌≤◌, ◌↔◌, ◌&&◌, [], not, true, take, length, min, sum_by, slice_get, option_copied, IsTrue, IsOk, IfOk, OnOk, OnErr, IfErr, MatchOption};
 ghost use Rattle.strm_msg.specs.Message.{rank_of, weight_of};
-ghost use Rattle.strm_queue.specs.Queue.{put_in, put_back_in, flush_of, is_flushed};
-ghost use Rattle.strm_queue.specs.Lanes.{Ranked, is_of_rank, is_laned, messages_of, messages_of_rank, spare_of, place_of, IsPlace, IsEmptyBefore, StaysEmpty};
+ghost use Rattle.strm_queue.specs.Queue.{put_in, put_back_in, flush_of, TakesFirst};
+ghost use Rattle.strm_queue.specs.Lanes.{is_of_rank, is_laned, messages_of, total_len, messages_of_rank, flush_rank_of, place_of, spare_of, IsPlace, IsEmptyBefore, IsFirstFilled, StaysEmpty, KeepsSpare, SpendsOneSpare};
 
 use crate::lane::Lane;
 use strm_msg::{BoxedMessage, Message, NoMem};
@@ -56,7 +56,7 @@ pub(crate) fn find_or_make(lanes: &mut Vec<Lane>, rank: u16) -> Result<usize, No
     requires { is_laned lanes.old.items ≡ true }
     ensures laned { is_laned lanes.new.items ≡ true }
     ensures messages { messages_of lanes.new.items ≡ messages_of lanes.old.items }
-    ensures room { (other : ℕ) → spare_of other lanes.old.items ≤ spare_of other lanes.new.items }
+    ensures room { KeepsSpare lanes.old.items lanes.new.items }
     ensures place { IfOk result (λ at. IsPlace rank at lanes.new.items) }
     ensures before { IfOk result (λ at. take at lanes.new.items ≡ take at lanes.old.items) }
     ensures empty { StaysEmpty lanes.old.items lanes.new.items }
@@ -78,7 +78,7 @@ pub(crate) fn reserve_at(lanes: &mut Vec<Lane>, rank: u16) -> Result<(), NoMem>
     requires { is_laned lanes.old.items ≡ true }
     ensures laned { is_laned lanes.new.items ≡ true }
     ensures messages { messages_of lanes.new.items ≡ messages_of lanes.old.items }
-    ensures kept { (other : ℕ) → spare_of other lanes.old.items ≤ spare_of other lanes.new.items }
+    ensures kept { KeepsSpare lanes.old.items lanes.new.items }
     ensures empty { StaysEmpty lanes.old.items lanes.new.items }
     ensures room { OnOk result (0 < spare_of rank lanes.new.items) }
     ensures enough { 0 < spare_of rank lanes.old.items → IsOk result }
@@ -100,8 +100,8 @@ pub(crate) fn push_last_of_rank(
     ensures err { OnErr result (messages_of lanes.new.items ≡ messages_of lanes.old.items) }
     ensures back { IfErr result (λ same. same ≡ m) }
     ensures room { 0 < spare_of (min (rank_of m) 256) lanes.old.items → IsOk result }
-    ensures spent { OnOk result ((other : ℕ) → spare_of other lanes.old.items ≤ spare_of other lanes.new.items + 1) }
-    ensures unspent { OnErr result ((other : ℕ) → spare_of other lanes.old.items ≤ spare_of other lanes.new.items) }
+    ensures spent { OnOk result (SpendsOneSpare lanes.old.items lanes.new.items) }
+    ensures unspent { OnErr result (KeepsSpare lanes.old.items lanes.new.items) }
     ensures before { IfOk result (λ at. take at lanes.new.items ≡ take at lanes.old.items) }
     ensures empty { OnErr result (StaysEmpty lanes.old.items lanes.new.items) }
 {
@@ -125,8 +125,8 @@ pub(crate) fn push_first_of_rank(
     ensures err { OnErr result (messages_of lanes.new.items ≡ messages_of lanes.old.items) }
     ensures back { IfErr result (λ same. same ≡ m) }
     ensures room { 0 < spare_of (min (rank_of m) 256) lanes.old.items → IsOk result }
-    ensures spent { OnOk result ((other : ℕ) → spare_of other lanes.old.items ≤ spare_of other lanes.new.items + 1) }
-    ensures unspent { OnErr result ((other : ℕ) → spare_of other lanes.old.items ≤ spare_of other lanes.new.items) }
+    ensures spent { OnOk result (SpendsOneSpare lanes.old.items lanes.new.items) }
+    ensures unspent { OnErr result (KeepsSpare lanes.old.items lanes.new.items) }
     ensures before { IfOk result (λ at. take at lanes.new.items ≡ take at lanes.old.items) }
     ensures empty { OnErr result (StaysEmpty lanes.old.items lanes.new.items) }
 {
@@ -141,7 +141,7 @@ pub(crate) fn push_first_of_rank(
 /// The place of the first lane that has a message, where none before `front` has one.
 pub(crate) fn first_filled(lanes: &[Lane], front: usize) -> Option<usize>
     requires { IsEmptyBefore front lanes.now }
-    ensures { MatchOption result (messages_of lanes.now ≡ []) (λ at. (at < length lanes.now) × IsEmptyBefore at lanes.now × ((d : Ranked) → 0 < length (slice_index_or lanes.now at d).messages)) }
+    ensures { MatchOption result (messages_of lanes.now ≡ []) (λ at. IsFirstFilled at lanes.now) }
 {
     for at in front..lanes.len() {
         if !lanes[at].is_empty() {
@@ -167,8 +167,8 @@ pub(crate) fn take_first(lanes: &mut Vec<Lane>, front: &mut usize) -> Option<Box
     requires empty { IsEmptyBefore front.old lanes.old.items }
     ensures laned { is_laned lanes.new.items ≡ true }
     ensures empty { IsEmptyBefore front.new lanes.new.items }
-    ensures first { MatchOption result ((messages_of lanes.old.items ≡ []) × (messages_of lanes.new.items ≡ [])) (λ m. messages_of lanes.old.items ≡ m ∷ messages_of lanes.new.items) }
-    ensures room { (other : ℕ) → spare_of other lanes.old.items ≤ spare_of other lanes.new.items }
+    ensures first { TakesFirst result (messages_of lanes.old.items) (messages_of lanes.new.items) }
+    ensures room { KeepsSpare lanes.old.items lanes.new.items }
 {
     let at = first_filled(lanes.as_slice(), *front)?;
     *front = at;
@@ -206,10 +206,10 @@ pub(crate) fn weight_at(lanes: &[Lane], rank: u16) -> u128
 pub(crate) fn flush_rank(lanes: &mut Vec<Lane>, rank: u16) -> usize
     requires { is_laned lanes.old.items ≡ true }
     ensures laned { is_laned lanes.new.items ≡ true }
-    ensures messages { messages_of lanes.new.items ≡ filter (λ m. not (is_flushed m.kind && is_of_rank rank m)) (messages_of lanes.old.items) }
+    ensures messages { messages_of lanes.new.items ≡ flush_rank_of rank (messages_of lanes.old.items) }
     ensures empty { StaysEmpty lanes.old.items lanes.new.items }
-    ensures count { result + length (messages_of lanes.new.items) ≡ length (messages_of lanes.old.items) }
-    ensures room { (other : ℕ) → spare_of other lanes.old.items ≤ spare_of other lanes.new.items }
+    ensures count { result + total_len lanes.new.items ≡ total_len lanes.old.items }
+    ensures room { KeepsSpare lanes.old.items lanes.new.items }
 {
     match find(lanes.as_slice(), rank) {
         Some(at) => lanes[at].flush(),
@@ -220,12 +220,12 @@ pub(crate) fn flush_rank(lanes: &mut Vec<Lane>, rank: u16) -> usize
 /// Removes the data and protocol messages of all ranks, and returns their number.
 pub(crate) fn flush_all(lanes: &mut Vec<Lane>) -> usize
     requires laned { is_laned lanes.old.items ≡ true }
-    requires most { length (messages_of lanes.old.items) < 2 ^ 63 }
+    requires most { total_len lanes.old.items < 2 ^ 63 }
     ensures laned { is_laned lanes.new.items ≡ true }
     ensures messages { messages_of lanes.new.items ≡ flush_of (messages_of lanes.old.items) }
     ensures empty { StaysEmpty lanes.old.items lanes.new.items }
-    ensures count { result + length (messages_of lanes.new.items) ≡ length (messages_of lanes.old.items) }
-    ensures room { (other : ℕ) → spare_of other lanes.old.items ≤ spare_of other lanes.new.items }
+    ensures count { result + total_len lanes.new.items ≡ total_len lanes.old.items }
+    ensures room { KeepsSpare lanes.old.items lanes.new.items }
 {
     let mut removed = 0;
     for i in 0..lanes.len() {

@@ -1,8 +1,8 @@
 //! A queue with bands and water marks.
-ghost use Rattle.std.specs.Prelude.{◌≡◌, ◌↔◌, ◌+◌, ◌<◌, ◌≤◌, ◌∷◌, ℕ, [], true, length, IsTrue, IsOk, OnOk, IfErr, OnErr, MatchOption, option_copied, slice_get};
-ghost use Rattle.strm_queue.specs.Queue.{put_in, put_back_in, behind_last, is_ordered, flush_of, flush_band_of, held_of, is_full, is_slack, has_pcproto, has_band};
+ghost use Rattle.std.specs.Prelude.{◌≡◌, ◌↔◌, ◌+◌, ◌<◌, [], true, length, IsTrue, IsOk, OnOk, IfErr, OnErr, option_copied, slice_get};
+ghost use Rattle.strm_queue.specs.Queue.{put_in, put_back_in, behind_last, is_ordered, flush_of, flush_band_of, held_of, is_full, is_slack, has_pcproto, has_band, TakesFirst};
 ghost use Rattle.strm_msg.specs.Message.{rank_of};
-ghost use Rattle.strm_queue.specs.Room.{room_for};
+ghost use Rattle.strm_queue.specs.Room.{room_for, KeepsRoom, SpendsOne};
 
 use crate::lane::Lane;
 use crate::lanes::{
@@ -43,7 +43,11 @@ impl Model for BandQueue {
 
     ghost Value = { Queue };
 
-    ghost view = { λ q. record { marks = q.marks; messages = messages_of q.lanes.items; room = lane_room (2 ^ 63 - 1 - q.len) q.lanes.items } };
+    ghost view = { λ q. record {
+      marks = q.marks;
+      messages = messages_of q.lanes.items;
+      room = lane_room (2 ^ 63 - 1 - q.len) q.lanes.items;
+    } };
 
     ghost invariant = { λ q. IsQueue q.lanes.items q.front q.len };
 }
@@ -81,8 +85,8 @@ impl BandQueue {
         ensures back { IfErr result (λ same. same ≡ m) }
         ensures marks { self.new.marks ≡ self.old.marks }
         ensures room { 0 < room_for self.old.room (rank_of m) → IsOk result }
-        ensures spent { OnOk result ((other : ℕ) → room_for self.old.room other ≤ room_for self.new.room other + 1) }
-        ensures unspent { OnErr result ((other : ℕ) → room_for self.old.room other ≤ room_for self.new.room other) }
+        ensures spent { OnOk result (SpendsOne self.old.room self.new.room) }
+        ensures unspent { OnErr result (KeepsRoom self.old.room self.new.room) }
     {
         if self.len == MOST {
             return Err(m);
@@ -103,8 +107,8 @@ impl BandQueue {
         ensures back { IfErr result (λ same. same ≡ m) }
         ensures marks { self.new.marks ≡ self.old.marks }
         ensures room { 0 < room_for self.old.room (rank_of m) → IsOk result }
-        ensures spent { OnOk result ((other : ℕ) → room_for self.old.room other ≤ room_for self.new.room other + 1) }
-        ensures unspent { OnErr result ((other : ℕ) → room_for self.old.room other ≤ room_for self.new.room other) }
+        ensures spent { OnOk result (SpendsOne self.old.room self.new.room) }
+        ensures unspent { OnErr result (KeepsRoom self.old.room self.new.room) }
     {
         if self.len == MOST {
             return Err(m);
@@ -122,7 +126,7 @@ impl BandQueue {
     pub fn make_room(&mut self, rank: u16) -> Result<(), NoMem>
         ensures room { OnOk result (0 < room_for self.new.room rank) }
         ensures enough { 0 < room_for self.old.room rank → IsOk result }
-        ensures kept { (other : ℕ) → room_for self.old.room other ≤ room_for self.new.room other }
+        ensures kept { KeepsRoom self.old.room self.new.room }
         ensures marks { self.new.marks ≡ self.old.marks }
         ensures messages { self.new.messages ≡ self.old.messages }
     {
@@ -134,9 +138,9 @@ impl BandQueue {
 
     /// Takes the first message (getq(9F)). Takes no memory, and leaves the room that there was.
     pub fn get(&mut self) -> Option<BoxedMessage>
-        ensures first { MatchOption result ((self.old.messages ≡ []) × (self.new.messages ≡ [])) (λ m. self.old.messages ≡ m ∷ self.new.messages) }
+        ensures first { TakesFirst result self.old.messages self.new.messages }
         ensures marks { self.new.marks ≡ self.old.marks }
-        ensures room { (rank : ℕ) → room_for self.old.room rank ≤ room_for self.new.room rank }
+        ensures room { KeepsRoom self.old.room self.new.room }
     {
         if self.is_empty() {
             return None;
@@ -183,7 +187,7 @@ impl BandQueue {
     pub fn flush(&mut self)
         ensures messages { self.new.messages ≡ flush_of self.old.messages }
         ensures marks { self.new.marks ≡ self.old.marks }
-        ensures room { (rank : ℕ) → room_for self.old.room rank ≤ room_for self.new.room rank }
+        ensures room { KeepsRoom self.old.room self.new.room }
     {
         self.len -= flush_all(&mut self.lanes);
     }
@@ -193,7 +197,7 @@ impl BandQueue {
     pub fn flush_band(&mut self, band: u8)
         ensures messages { self.new.messages ≡ flush_band_of band self.old.messages }
         ensures marks { self.new.marks ≡ self.old.marks }
-        ensures room { (rank : ℕ) → room_for self.old.room rank ≤ room_for self.new.room rank }
+        ensures room { KeepsRoom self.old.room self.new.room }
     {
         self.len -= flush_rank(&mut self.lanes, u16::from(band));
         if band == 0 {

@@ -1,7 +1,6 @@
 //! The queue of places that are to be looked at.
-ghost use Rattle.std.specs.Prelude.{◌≡◌, ◌+◌, ◌<◌, ◌≤◌, ◌||◌, ◌==◌, ◌∷◌, ℕ, [], length, drop, IfOk, IfSome, MatchOption, IsTrue, ◌↔◌};
-ghost use Rattle.strm_msg.specs.Count.{one_more};
-ghost use Rattle.strm_queue.specs.Run.{is_enabled, AreOnce, with_place};
+ghost use Rattle.std.specs.Prelude.{◌≡◌, ◌+◌, ◌<◌, ◌≤◌, [], length, IfOk, IfSome, IsTrue, ◌↔◌};
+ghost use Rattle.strm_queue.specs.Run.{is_enabled, AreOnce, with_place, IsFirst, GivesFirst, EnablesOnly};
 
 use std::alloc::Global;
 use std::collections::VecDeque;
@@ -80,7 +79,7 @@ impl RunQueue {
         ensures items { self.new.items ≡ with_place self.old.items place }
         ensures places { self.new.places ≡ self.old.places }
         ensures given { self.new.given ≡ self.old.given }
-        ensures enabled { (other : ℕ) → is_enabled self.new other ≡ (is_enabled self.old other || (other == place)) }
+        ensures enabled { EnablesOnly self.old self.new place }
         ensures more { length self.new.items ≤ length self.old.items + 1 }
     {
         if self.is_enabled(place) {
@@ -101,7 +100,7 @@ impl RunQueue {
 
     /// Gives the first place out, which is then no longer enabled.
     pub fn next(&mut self) -> Option<usize>
-        ensures first { MatchOption result ((self.old.items ≡ []) × (self.new ≡ self.old)) (λ place. (self.old.items ≡ place ∷ self.new.items) × (self.new.given ≡ one_more self.old.given)) }
+        ensures first { GivesFirst result self.old self.new }
         ensures within { IfSome result (λ place. place < self.old.places) }
         ensures places { self.new.places ≡ self.old.places }
     {
@@ -112,7 +111,7 @@ impl RunQueue {
 
     /// The place that `next` would give out.
     pub fn first(&self) -> Option<usize>
-        ensures first { MatchOption result (self.now.items ≡ []) (λ place. self.now.items ≡ place ∷ drop 1 self.now.items) }
+        ensures first { IsFirst result self.now.items }
         ensures within { IfSome result (λ place. place < self.now.places) }
     {
         match self.items.front() {

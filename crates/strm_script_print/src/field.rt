@@ -12,7 +12,7 @@ ghost use Rattle.strm_script_print.specs.Replies.{name_fields};
 use crate::line_buffer::LineBuffer;
 use itoa::Buffer;
 use std::io::{self, Write};
-use strm_head_calls::{Name, Part};
+use strm_head_calls::Name;
 use strm_msg::Bytes;
 use strm_script_text::{are_plain, write_part};
 
@@ -39,16 +39,6 @@ pub(crate) fn part_field(part: &Option<Bytes>) -> Field<'_>
     match part {
         None => Field::Word(b"-"),
         Some(part) => Field::Bytes(part.as_slice()),
-    }
-}
-
-/// A part in a box, or `-` if there is none.
-pub(crate) fn boxed_field(part: &Part) -> Field<'_>
-    ensures { said result ≡ says.part_field part.now }
-{
-    match part.as_bytes() {
-        None => Field::Word(b"-"),
-        Some(bytes) => Field::Bytes(bytes.as_slice()),
     }
 }
 

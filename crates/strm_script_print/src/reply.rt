@@ -8,7 +8,7 @@ ghost use Rattle.strm_script_print.specs.Replies.{acknowledged_fields, answer_fi
 ghost use Rattle.strm_script_print.specs.Replies.{peeked_fields, reply_fields};
 
 use crate::field::Field::{Number, Word};
-use crate::field::{add_all, add_names, add_number, add_part, add_word, boxed_field, part_field};
+use crate::field::{add_all, add_names, add_number, add_part, add_word, part_field};
 use crate::line_buffer::LineBuffer;
 use crate::message::add_message;
 use crate::polled::add_polled;
@@ -68,7 +68,7 @@ fn add_peeked<W: Write>(w: &mut W, out: &mut LineBuffer, found: &Option<Peeked>)
     match found {
         None => add_word(w, out, b"none"),
         Some(seen) => {
-            let (ctl, dat) = (boxed_field(&seen.ctl), boxed_field(&seen.dat));
+            let (ctl, dat) = (part_field(&seen.ctl), part_field(&seen.dat));
             add_all(w, out, &[ctl, dat, Word(seen.flag.word())])
         }
     }

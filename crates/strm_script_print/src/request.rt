@@ -5,7 +5,7 @@ ghost use Rattle.strm_script_print.specs.Fields as text;
 ghost use Rattle.strm_script_print.specs.LineBuffer.{AddsFields};
 
 use crate::field::Field::{Number, Word};
-use crate::field::{add_all, add_number, add_part, boxed_field, maximum_field, part_field};
+use crate::field::{add_all, add_number, add_part, maximum_field, part_field};
 use crate::line_buffer::LineBuffer;
 use crate::module::{PrintKind, add_module};
 use std::io::Write;
@@ -113,7 +113,7 @@ fn add_as_list<W: Write, K: PrintKind + Drop>(
         Request::Read { .. } | Request::Write { .. } => unreachable!(),
         Request::Push { instance } => add_module(w, out, instance.shape()),
         Request::Find { name } => add_part(w, out, name.as_slice()),
-        Request::Str { cmd, dat } => add_all(w, out, &[Number(u64::from(*cmd)), boxed_field(dat)]),
+        Request::Str { cmd, dat } => add_all(w, out, &[Number(u64::from(*cmd)), part_field(dat)]),
         Request::Flush { r, w: write } => add_all(w, out, &[Word((*r, *write).word())]),
         Request::FlushBand { band, r, w: write } => {
             add_all(

@@ -1,9 +1,10 @@
 -- Runs of bytes that stand for themselves: they spell themselves, and are read as they are.
-use Rattle.std.proofs.Common.{◌≡◌, ℕ, zero, suc, ◌+◌, ◌/◌, ◌%◌, ◌&&◌, Bool, true, false, cond, List, [], ◌∷◌, ◌++◌, take, drop, Option, Some, None, refl, sym, ap, ◌∙◌, arith, append_assoc}
+use Rattle.std.proofs.Common.{◌≡◌, ℕ, zero, suc, ◌+◌, ◌/◌, ◌%◌, ◌&&◌, Bool, true, false, cond, List, [], ◌∷◌, ◌++◌, length, ◌≤◌, take, drop, Option, Some, None, refl, sym, ap, ◌∙◌, arith, append_assoc}
 use Rattle.std.specs.Option.{option_map}
 use Rattle.std.specs.List.{list_all}
 use Rattle.std.proofs.lemmas.Bool.{and_from, and_parts}
-use Rattle.std.proofs.lemmas.List.{take-append-drop, take-take, drop-take}
+use Rattle.std.proofs.lemmas.List.{take-append-drop, take-take, take_all, drop-take, append-nil}
+use Rattle.std.proofs.Math.ListN.{drop_of_length-le}
 use Rattle.std.proofs.lemmas.List.Concat.{flat_map-append}
 use Rattle.std.proofs.lemmas.List.Folds.{list_all-append}
 use Rattle.std.specs.Io.KnownBytes.{Appends}
@@ -55,6 +56,12 @@ run_read (suc n) (byte ∷ text) plain =
     ∙ ap (λ (found : Option (ℕ × List ℕ)). found >>= goes_on) (itself_first byte text is.0)
     ∙ ap (option_map (λ more. byte ∷ more)) (run_read n text is.1)
     ∙ map_front byte (take n text) (bytes_of (drop n text))
+
+-- and it is all, where no byte is behind it
+pub all_read : (n : ℕ) (text : List ℕ) → length text ≤ n → list_all is_itself (take n text) ≡ true → bytes_of text ≡ Some text
+all_read n text all plain =
+    run_read n text plain
+    ∙ rw (drop_of_length-le text all) (ap Some (append-nil (take n text) ∙ take_all n text all))
 
 map_behind : (all run : List ℕ) (found : Option (List ℕ)) → option_map (λ more. (all ++ run) ++ more) found ≡ option_map (λ more. all ++ more) (option_map (λ more. run ++ more) found)
 map_behind all run None = refl

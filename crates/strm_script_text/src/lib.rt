@@ -8,7 +8,7 @@ mod spelling;
 mod words;
 
 pub use lines::{cut_fields, first_line, split_once};
-pub use parts::part;
+pub use parts::{part, plain_part};
 pub use runs::are_plain;
 pub use spelling::{parts_are_read_back, write_part};
 pub use words::{is_same_word, name, number};

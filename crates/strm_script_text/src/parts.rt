@@ -1,5 +1,5 @@
 //! Parts: the bytes that a field spells.
-ghost use Rattle.std.specs.Prelude.{◌≡◌, ◌<◌, ◌≤◌, ◌++◌, length, take, true, IfOk, IfSome};
+ghost use Rattle.std.specs.Prelude.{◌≡◌, ◌<◌, ◌≤◌, ◌++◌, length, take, true, IfOk, IfSome, Some};
 ghost use Rattle.std.specs.Option.{option_map};
 ghost use Rattle.std.specs.List.{list_all};
 ghost use Rattle.strm_script_text.specs.Bytes.{hex_of, is_itself};
@@ -107,6 +107,26 @@ fn repeated(alloc: Global, text: &[u8]) -> Result<Option<Vec<u8>>, AllocError>
         return Ok(None);
     };
     Ok(Some(vec![in alloc; byte; count as usize]?))
+}
+
+/// The bytes that a text spells, where they are, if each of them stands for itself.
+fn plain(text: &[u8]) -> Option<&[u8]>
+    ensures { IfSome result (λ bytes. bytes_of text.now ≡ Some bytes.now) }
+{
+    if plain_len(text) < text.len() {
+        return None;
+    }
+    Some(text)
+}
+
+/// The bytes of a part, where they are, if it is `=` and bytes that stand for themselves.
+pub fn plain_part(text: &[u8]) -> Option<&[u8]>
+    ensures { IfSome result (λ bytes. part_of text.now ≡ Some bytes.now) }
+{
+    match text {
+        [b'=', rest @ ..] => plain(rest),
+        _ => None,
+    }
 }
 
 /// The bytes of a part: `=` and their spelling, or `*N:hh`; nothing if the text is no part. Fails only when

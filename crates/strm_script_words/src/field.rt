@@ -7,7 +7,7 @@ ghost use Rattle.strm_script_words.specs.Field as fields;
 use crate::fault::{Cause, ReadError};
 use std::alloc::Global;
 use strm_msg::{Bytes, Marks};
-use strm_script_text::{number, part, split_once};
+use strm_script_text::{number, part, plain_part, split_once};
 
 /// The greatest band.
 pub const MOST_BAND: u64 = 255;
@@ -71,8 +71,11 @@ pub fn u32_at(text: &[u8]) -> Result<u32, Cause>
 pub fn part_at(alloc: Global, text: &[u8]) -> Result<Bytes, ReadError>
     ensures { Gives (λ bytes. bytes) result (fields.part_at text.now) }
 {
+    if let Some(plain) = plain_part(text) {
+        return Ok(Bytes::from_slice(alloc, plain)?);
+    }
     match part(alloc, text)? {
-        Some(bytes) => Ok(Bytes::from(bytes)),
+        Some(bytes) => Ok(Bytes::from_vec(alloc, bytes)?),
         None => Err(ReadError::Fault(Cause::Part)),
     }
 }

@@ -209,7 +209,7 @@ fn kind_at(alloc: Global, word: KindWord, texts: &[&[u8]]) -> Result<Kind, ReadE
         KindWord::Table => table_at(alloc, texts),
         KindWord::CrNl => Ok(alone(Kind::CrNl, texts)?),
         KindWord::Line => {
-            let partial = Bytes::from(Vec::new(alloc));
+            let partial = Bytes::empty();
             Ok(alone(Kind::Line { partial }, texts)?)
         }
         KindWord::Count => Ok(alone(Kind::Count { n: 0 }, texts)?),

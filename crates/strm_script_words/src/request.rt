@@ -121,7 +121,7 @@ fn str<M: ModuleOf>(alloc: Global, texts: &[&[u8]]) -> Result<Request<BoxedModul
     };
     let cmd = u32_at(cmd)?;
     let dat = optional_at(alloc, dat)?;
-    Ok(Request::str(alloc, cmd, dat)?)
+    Ok(Request::Str { cmd, dat })
 }
 
 /// Reads `flush SIDES`.

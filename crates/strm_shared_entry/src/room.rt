@@ -79,7 +79,7 @@ pub fn room_for<M: ModuleOf>(
 pub fn room_for_arrival<K: Drop>(alloc: Global, m: &Message) -> Result<Box<Entry<K>>, NoMem>
     ensures { IfOk result (λ entry. entry.value ≡ arrival_entry m.now Broke [] 0) }
 {
-    let event = Event::Arrived(BoxedMessage::new(alloc, m.copy(alloc)?)?);
+    let event = Event::Arrived(BoxedMessage::new(alloc, m.copy()?)?);
     let entry = Entry::new(Who::Line, End::A, event, Answer::Broke);
     match Box::new(alloc, entry) {
         Ok(entry) => Ok(entry),

@@ -229,7 +229,7 @@ fn request_of(
         },
         Call::Send(band, dat) => sent(rt, alloc, band, dat),
         Call::SendHigh(ctl) => sent_high(rt, alloc, ctl),
-        Call::Str(cmd) => Request::str(alloc, cmd, None).expect(rt, "no memory"),
+        Call::Str(cmd) => Request::Str { cmd, dat: None },
         Call::Nread => Request::Nread,
         Call::Push(pushes, name) => Request::Push {
             instance: boxed(rt, alloc, (serial, name, kind_of(pushes)), Plain),

@@ -377,7 +377,7 @@ fn is_same(found: Message, want: Message) -> bool {
 /// Whether a message has the facts of its row, and is equal to its copy.
 fn is_as_told(rt: &impl Abort, alloc: Global, row: &Facts) -> bool {
     let m = message(rt, alloc, row.0);
-    let copy = m.copy(alloc).expect(rt, "no memory for a copy");
+    let copy = m.copy().expect(rt, "no memory for a copy");
     let is_so = has_fields(&m, row) && has_facts(&m, row);
     is_same(m, copy) && is_so
 }

@@ -6,34 +6,82 @@ use std::fmt::{Debug, Display};
 use std::process::Abort;
 use strm_msg::{Bytes, Errno, NoMem, Prot, ReadMode};
 
-/// Whether bytes are these, and are also those of the vector that is made of them.
+/// Whether bytes are these.
 fn are_kept(made: Bytes, want: &[u8]) -> bool {
     let has_length = made.len() == want.len() && made.is_empty() == want.is_empty();
     let are_so = has_length && made.as_slice() == want;
-    let items = made.into_vec();
-    are_so && items.as_slice() == want
+    drop(made);
+    are_so
 }
 
 /// Bytes that are made of a vector.
 fn of_vector(rt: &impl Abort, alloc: Global, want: &[u8]) -> Bytes {
-    Bytes::from(Vec::from_slice(alloc, want).expect(rt, "no memory for a vector"))
+    let items = Vec::from_slice(alloc, want).expect(rt, "no memory for a vector");
+    Bytes::from_vec(alloc, items).expect(rt, "no memory for bytes")
 }
 
 /// Whether bytes that are copied or made of a vector are these and are equal, and are not the others.
 fn all_are_kept(rt: &impl Abort, alloc: Global, want: &[u8], other: &[u8]) -> bool {
     let copied = bytes(rt, alloc, want);
-    let copy = copied.copy(alloc).expect(rt, "no memory for a copy");
+    let copy = copied.copy().expect(rt, "no memory for a copy");
     let made = of_vector(rt, alloc, want);
     let differs = made != bytes(rt, alloc, other);
     let are_equal = copy == copied && made == copied;
     are_kept(copied, want) && are_kept(copy, want) && are_kept(made, want) && are_equal && differs
 }
 
+const LONG: &[u8] = b"a line of some thirty-two bytes.";
+
 // By hand: the bytes are the ones that were put in, in order.
 #[test]
 fn bytes_keep_what_they_were_made_of(rt: HostRuntime) {
     assert!(rt; all_are_kept(&rt, rt.alloc(), b"abc", b"abd"));
     assert!(rt; all_are_kept(&rt, rt.alloc(), b"", b"a"));
+    assert!(rt; all_are_kept(&rt, rt.alloc(), LONG, b"a line of some thirty-two bytes!"));
+}
+
+/// A range, a range of that one, and its bytes.
+type RangeRow = ((usize, usize), (usize, usize), &'static [u8]);
+
+// Counted by hand.
+const RANGES: &[RangeRow] = &[
+    ((0, 32), (0, 32), LONG),
+    ((0, 32), (31, 32), b"."),
+    ((0, 0), (0, 0), b""),
+    ((2, 19), (0, 17), b"line of some thir"),
+    ((2, 32), (5, 22), b"of some thirty-tw"),
+    ((2, 32), (13, 30), b"thirty-two bytes."),
+    ((2, 32), (30, 30), b""),
+    ((2, 18), (0, 16), b"line of some thi"),
+    ((2, 18), (1, 3), b"in"),
+];
+
+/// The bytes of a range that lies within others.
+fn range_of(rt: &impl Abort, alloc: Global, whole: &Bytes, range: (usize, usize)) -> Bytes {
+    assert!(rt; range.0 <= range.1 && range.1 <= whole.len());
+    whole
+        .slice(alloc, range.0, range.1)
+        .expect(rt, "no memory for a range")
+}
+
+/// Whether these are the bytes of a range of a range of bytes, also when the whole is gone.
+fn has_range(rt: &impl Abort, alloc: Global, whole: Bytes, row: &RangeRow) -> bool {
+    let (first, second, want) = *row;
+    let outer = range_of(rt, alloc, &whole, first);
+    let inner = range_of(rt, alloc, &outer, second);
+    drop(whole);
+    drop(outer);
+    are_kept(inner, want)
+}
+
+#[test]
+fn ranges_of_bytes_are_shared(rt: HostRuntime) {
+    for (i, row) in RANGES.iter().enumerate() {
+        let copied = bytes(&rt, rt.alloc(), LONG);
+        let made = of_vector(&rt, rt.alloc(), LONG);
+        check(&rt, ("copied", i), has_range(&rt, rt.alloc(), copied, row));
+        check(&rt, ("made", i), has_range(&rt, rt.alloc(), made, row));
+    }
 }
 
 // The names of errno.h, typed by hand.

@@ -11,7 +11,7 @@ use strm_shared_log::{Called, Entry, Kept, Receipt};
 fn what_a_call_moves_is_small(rt: HostRuntime) {
     for (what, size, wanted) in [
         ("a name", size_of::<Name>(), 9),
-        ("a message", size_of::<Message>(), 96),
+        ("a message", size_of::<Message>(), 80),
         ("a message in its box", size_of::<BoxedMessage>(), 8),
         ("what a module sends", size_of::<Outs>(), 48),
         ("a reply", size_of::<Reply>(), 80),

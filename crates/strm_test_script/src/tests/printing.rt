@@ -154,7 +154,7 @@ fn request(rt: &impl Abort, alloc: Global, ask: Ask) -> Request<BoxedShape> {
         Nread => Request::Nread,
         Str(cmd, dat) => {
             let dat = part(rt, alloc, dat);
-            Request::str(alloc, cmd, dat).expect(rt, "no memory")
+            Request::Str { cmd, dat }
         }
         Getband => Request::Getband,
     }
@@ -291,7 +291,7 @@ fn fed(rt: &impl Abort, alloc: Global, feeds: &[Feed]) -> Vec<Kept<Kind>> {
     let mut history = Vec::new(alloc);
     for feed in feeds {
         for m in &feed.messages {
-            let m = m.copy(alloc).expect(rt, "no memory");
+            let m = m.copy().expect(rt, "no memory");
             let entry = came(rt, alloc, m, Answer::Done(Reply::Line));
             history.push(entry).expect(rt, "no memory");
         }

@@ -9,7 +9,7 @@ use Rattle.strm_script_words.proofs.request.str.Goals as goal
 pub returns : goal.returns
 returns g c =
     let texts = c.args.texts.now in
-    rw c.in_ok-str.ensures.str (of_two g.row.M-Kind.Denot Verb.Str texts (Upto MOST_U32) Optional (Number c.in_ok-cmd.cmd) (part_field c.in_ok-dat.dat) c.in-len2.len_at_least c.in-len2.len_below (upto MOST_U32 (at texts 0) c.in_ok-cmd.cmd c.in_ok-cmd.ensures) (optional (at texts 1) c.in_ok-dat.dat c.in_ok-dat.ensures))
+    of_two g.row.M-Kind.Denot Verb.Str texts (Upto MOST_U32) Optional (Number c.in_ok-cmd.cmd) (part_field c.in_ok-dat.dat) c.in-len2.len_at_least c.in-len2.len_below (upto MOST_U32 (at texts 0) c.in_ok-cmd.cmd c.in_ok-cmd.ensures) (optional (at texts 1) c.in_ok-dat.dat c.in_ok-dat.ensures)
 
 pub returns-in_err-cmd : goal.returns-in_err-cmd
 returns-in_err-cmd g c =

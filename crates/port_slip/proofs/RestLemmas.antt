@@ -4,7 +4,7 @@ use Rattle.strm_msg.specs.Message.{Msg}
 use Rattle.strm_msg.specs.declared.words.End.{End}
 use Rattle.strm_msg.specs.declared.words.Side.TheVariants.{Rd}
 use Rattle.strm_module.specs.Shape.{queues_on}
-use Rattle.strm_module.specs.declared.turn.Turn.TheVariants.{Serves, Sends}
+use Rattle.strm_module.specs.declared.turn.Turn.TheVariants.{Serves, Shut, Sends}
 use Rattle.strm_chain_end.specs.Pair.{QueuePair}
 use Rattle.strm_chain_end.specs.End.{pair_at}
 use Rattle.strm_chain_end.specs.Canput.{slack_in}
@@ -24,9 +24,10 @@ use Rattle.port_slip.specs.declared.kinds.SlipKind.TheVariants.{Slip}
 abbrev offers : Bool → ℕ → List Msg → Option Offer
 offers holds band waiting = offer_by (cond holds (Sends (Some band)) Serves) waiting
 
-offer_is : (s : QueuePair SlipKind) (bytes : List ℕ) (band : ℕ) → s.shape.kind ≡ Slip bytes band → queues_on s.shape Rd ≡ true → offer_on slip s Rd ≡ offers (holds_frame bytes) band s.rd
-offer_is s bytes band kind queues =
-    ap (λ b. cond b (offer_by (slip_turn s.shape.kind Rd) s.rd) None) queues
+offer_is : (s : QueuePair SlipKind) (bytes : List ℕ) (band : ℕ) → s.shape.kind ≡ Slip bytes band → queues_on s.shape Rd ≡ true → s.shape.noenable ≡ false → offer_on slip s Rd ≡ offers (holds_frame bytes) band s.rd
+offer_is s bytes band kind queues serves =
+    ap (λ b. cond b (offer_by (cond s.shape.noenable Shut (slip_turn s.shape.kind Rd)) s.rd) None) queues
+    ∙ ap (λ b. offer_by (cond b Shut (slip_turn s.shape.kind Rd)) s.rd) serves
     ∙ ap (λ k. offer_by (slip_turn k Rd) s.rd) kind
 
 rests_if : (image : Image SlipKind) (e : End) (i band : ℕ) (waiting : List Msg) (holds : Bool) → due_front image (Places.Rd e i) (offers holds band waiting) ≡ false → slack_in (ahead image (Places.Rd e i)) band ≡ true → holds ≡ false
@@ -34,6 +35,6 @@ rests_if image e i band waiting false rests slack = refl
 rests_if image e i band waiting true rests slack = let no : true ≡ false = sym slack ∙ rests in cc
 
 pub nothing_is_held_back : NothingIsHeldBack
-nothing_is_held_back image e i s bytes band quiet at kind queues slack =
-    let offer : offer_found slip (pair_at (end_of image e).modules i) Rd ≡ offers (holds_frame bytes) band s.rd = ap (λ o. offer_found slip o Rd) at ∙ offer_is s bytes band kind queues in
+nothing_is_held_back image e i s bytes band quiet at kind queues serves slack =
+    let offer : offer_found slip (pair_at (end_of image e).modules i) Rd ≡ offers (holds_frame bytes) band s.rd = ap (λ o. offer_found slip o Rd) at ∙ offer_is s bytes band kind queues serves in
     rests_if image e i band s.rd (holds_frame bytes) (sym (ap (due_front image (Places.Rd e i)) offer) ∙ quiet (Places.Rd e i)) slack

@@ -30,10 +30,10 @@ DatagramsGoThrough =
     × ((noise : List ℕ) → 0 < length noise → has_no_end noise ≡ true →
     slip_acts (Slip noise last) Rd sent ≡ record { kind = Slip [] band; outs = datagrams_up band (datagram_of noise ∷ (datagram ∷ [])) })
 
--- if no place must move, a SLIP module with a read queue keeps no whole frame for which the queue above has
--- room; so all datagrams that came in one message have gone up in one event
+-- if no place must move, a SLIP module with a read queue that the stream services keeps no whole frame for
+-- which the queue above has room; so all datagrams that came in one message have gone up in one event
 abbrev pub NothingIsHeldBack : Type 0
 NothingIsHeldBack =
     (image : Image SlipKind) (e : End) (i : ℕ) (s : QueuePair SlipKind) (bytes : List ℕ) (band : ℕ) → IsQuiet slip image →
     pair_at (end_of image e).modules i ≡ Some s → s.shape.kind ≡ Slip bytes band → queues_on s.shape Rd ≡ true →
-    slack_in (ahead image (Place.Rd e i)) band ≡ true → holds_frame bytes ≡ false
+    s.shape.noenable ≡ false → slack_in (ahead image (Place.Rd e i)) band ≡ true → holds_frame bytes ≡ false

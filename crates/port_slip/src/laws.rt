@@ -24,8 +24,8 @@ pub fn modules_keep_datagrams()
     ensures { DatagramsGoThrough }
 {}
 
-/// States a law, and does nothing: a SLIP module with a read queue holds no datagram back. Once nothing must
-/// move, it keeps no whole frame for which the queue above has room.
+/// States a law, and does nothing: a SLIP module with a read queue that the stream services holds no datagram
+/// back. Once nothing must move, it keeps no whole frame for which the queue above has room.
 pub fn modules_hold_nothing_back()
     ensures { NothingIsHeldBack }
 {}

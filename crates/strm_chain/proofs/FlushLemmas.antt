@@ -3,13 +3,17 @@ use Rattle.std.proofs.Common.{◌≡◌, ◌∙◌, ◌-◌, ℕ, Bool, true, fa
 use Rattle.strm_msg.specs.Message.{Msg, bare}
 use Rattle.strm_msg.specs.declared.kind.MsgKind.TheVariants.{MFlush}
 use Rattle.strm_msg.specs.declared.words.End.{End}
+use Rattle.strm_msg.specs.declared.words.Side.{Side}
 use Rattle.strm_msg.specs.declared.words.Side.TheVariants.{Rd, Wr}
+use Rattle.strm_module.specs.Module.{is_queued}
+use Rattle.strm_module.proofs.ProcedureLemmas.{put_if}
+use Rattle.strm_chain_end.specs.Pair.{QueuePair, flushed_pair, after_put}
 use Rattle.strm_module.specs.Builtin.{builtin}
 use Rattle.strm_module.specs.declared.kind.Kind.{Kind}
 use Rattle.strm_module.specs.declared.driver.Driver.{Driver}
 use Rattle.strm_module.specs.declared.driver.Driver.TheVariants.{Echo, Loop, Line, Wire}
 use Rattle.strm_module.specs.Driver.{has_end}
-use Rattle.strm_chain_end.specs.End.{EndState, pair_at, found_gets}
+use Rattle.strm_chain_end.specs.End.{EndState, EndStep, pair_at, set_pair, found_gets}
 use Rattle.strm_chain_end.specs.Head.{put_at_head, open_head, keeps}
 use Rattle.strm_chain_end.specs.Driver.{driver_at, consumes, flush_up}
 use Rattle.strm_chain_end.specs.declared.driver.DriverSends.TheVariants.{Nothing}
@@ -28,7 +32,14 @@ head_silent e r band false = refl
 none_sent : (send : Sender Kind) (e : End) (image : Image Kind) (o : Option Msg) → o ≡ None → send_on send e image o ≡ image
 none_sent send e image o h = rw h refl
 
--- up through n modules, which pass it on
+-- what an end does where a module gets a message, by whether the module queues it
+abbrev got : EndState Kind → ℕ → QueuePair Kind → Side → Msg → Bool → EndStep Kind
+got state i s side m queued =
+    let put = put_if builtin s.shape side m queued in
+    let g = after_put (record (flushed_pair s m.kind) { shape = put.shape }) side put.answer in
+    record { state = record state { modules = set_pair state.modules i g.pair }; outs = g.outs }
+
+-- up through n modules, which pass it on, or keep it for the program
 abbrev risen : Sender Kind → End → ℕ → ModuleStep Kind → Image Kind
 risen send e n p = fold (λ j out. up_through builtin (head_gets send) e n j out.1) p.image p.outs
 
@@ -44,7 +55,12 @@ up_same send other e (suc n) image r band =
     elim (pair_at state.modules (suc n))
     as (λ o. risen send e n (module_step image e (found_gets builtin state (suc n) o Rd (flush r false band))) ≡ risen other e n (module_step image e (found_gets builtin state (suc n) o Rd (flush r false band)))) [
       | None ↦ refl
-      | Some s ↦ up_same send other e n (module_step image e (found_gets builtin state (suc n) (Some s) Rd (flush r false band))).image r band
+      | Some s ↦
+          elim (is_queued s.shape Rd (flush r false band))
+          as (λ b. risen send e n (module_step image e (got state (suc n) s Rd (flush r false band) b)) ≡ risen other e n (module_step image e (got state (suc n) s Rd (flush r false band) b))) [
+            | true ↦ refl
+            | false ↦ up_same send other e n (module_step image e (got state (suc n) s Rd (flush r false band) false)).image r band
+          ]
     ]
 
 -- a driver sends it back up, or ends it
@@ -63,7 +79,7 @@ back_same send other old e image r band false = refl
 back_same send other old e image false band true = refl
 back_same send other old e image true band true = up_same send other e (count_of old e) image true band
 
--- down through n modules, which pass it on
+-- down through n modules, which pass it on, or keep it for the program
 abbrev sunk : Sender Kind → End → ℕ → ℕ → ModuleStep Kind → Image Kind
 sunk send e n i p = fold (λ j out. route (λ k o. down_through builtin (ups send) e n k o) (λ k o. ups send e (i - 1) k o) j out) p.image p.outs
 
@@ -81,7 +97,12 @@ down_same send other e (suc n) image r w band =
     elim (pair_at state.modules i)
     as (λ o. sunk send e n i (module_step image e (found_gets builtin state i o Wr (flush r w band))) ≡ sunk other e n i (module_step image e (found_gets builtin state i o Wr (flush r w band)))) [
       | None ↦ refl
-      | Some s ↦ down_same send other e n (module_step image e (found_gets builtin state i (Some s) Wr (flush r w band))).image r w band
+      | Some s ↦
+          elim (is_queued s.shape Wr (flush r w band))
+          as (λ b. sunk send e n i (module_step image e (got state i s Wr (flush r w band) b)) ≡ sunk other e n i (module_step image e (got state i s Wr (flush r w band) b))) [
+            | true ↦ refl
+            | false ↦ down_same send other e n (module_step image e (got state i s Wr (flush r w band) false)).image r w band
+          ]
     ]
 
 pub head_sends_once : HeadSendsOnce

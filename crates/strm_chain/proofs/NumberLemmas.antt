@@ -1,12 +1,19 @@
 -- Each queue has a number of its own.
-use Rattle.std.proofs.Common.{◌≡◌, ◌+◌, ◌-◌, ◌*◌, ◌/◌, ◌%◌, ◌<◌, ◌≤◌, ◌==◌, nat_lt, ℕ, cond, if◌then◌else◌, true, false, refl, sym, ◌∙◌, ap, arith}
+use Rattle.std.proofs.Common.{◌≡◌, ◌+◌, ◌-◌, ◌*◌, ◌/◌, ◌%◌, ◌<◌, ◌≤◌, ◌==◌, nat_lt, ℕ, cond, if◌then◌else◌, true, false, zero, suc, Option, Some, None, List, length, refl, sym, ◌∙◌, ap, arith}
 use Rattle.std.proofs.lemmas.Bool.Decides.{nat_tests}
+use Rattle.std.proofs.lemmas.Option.{slice_get_within}
 use Rattle.strm_msg.specs.declared.words.End.{End}
 use Rattle.strm_msg.specs.declared.words.End.TheVariants.{A, B}
+use Rattle.strm_msg.specs.declared.words.Side.{Side}
+use Rattle.strm_msg.specs.declared.words.Side.TheVariants.{Rd, Wr}
+use Rattle.strm_chain_end.specs.Change.{found_programs, is_programs}
+use Rattle.strm_chain_end.specs.End.{EndState, pair_at}
+use Rattle.strm_chain_end.specs.Pair.{QueuePair}
 use Rattle.strm_chain_ends.specs.declared.place.Place.{Place}
 use Rattle.strm_chain_ends.specs.declared.place.Place.TheVariants as Places
 use Rattle.strm_chain_ends.specs.declared.place.NextQueue.{NextQueue}
 use Rattle.strm_chain_ends.specs.declared.place.NextQueue.TheVariants.{Of, Head}
+use Rattle.strm_chain_ends.specs.Held.{module_place}
 use Rattle.strm_chain_ends.specs.Next.{IsCounted}
 use Rattle.strm_chain.specs.Number.{queue_number, place_number, end_by, place_of}
 
@@ -77,3 +84,20 @@ place_few n h =
       | true ↦ counted_few (Of (Places.Drv (end_by n))) tt
       | false ↦ few_on (end_by n) (n / 4 - 1) (n % 4) (omega arith)
     ]
+
+-- ---- a queue of a module has one of the first forty numbers
+
+found_few : {K : Type 0} (xs : List (QueuePair K)) (i : ℕ) (side : Side) (found : Option (QueuePair K)) → pair_at xs i ≡ found → found_programs found side ≡ true → i ≤ length xs
+found_few xs i side None at is = absurd (let no : false ≡ true = is in cc)
+found_few xs zero side (Some s) at is = omega arith
+found_few xs (suc i) side (Some s) at is = let there = slice_get_within xs i s at in omega (arith, there)
+
+few_counted : (at : End) (i : ℕ) (side : Side) → i ≤ 8 → queue_number (Of (module_place side at i)) < 40
+few_counted A i Rd few = omega (arith, few)
+few_counted A i Wr few = omega (arith, few)
+few_counted B i Rd few = omega (arith, few)
+few_counted B i Wr few = omega (arith, few)
+
+pub programs_counted : {K : Type 0} (e : EndState K) (at : End) (i : ℕ) (side : Side) → is_programs e i side ≡ true → length e.modules ≤ 8 → queue_number (Of (module_place side at i)) < 40
+programs_counted e at i side is few =
+    let there = found_few e.modules i side (pair_at e.modules i) refl is in few_counted at i side (omega (arith, there, few))

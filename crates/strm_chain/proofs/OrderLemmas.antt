@@ -13,7 +13,7 @@ use Rattle.strm_module.specs.Kinds.{Meaning, AnswersStay}
 use Rattle.strm_module.specs.Module.{is_queued, put_of}
 use Rattle.strm_module.specs.declared.shape.Shape.{Shape}
 use Rattle.strm_module.proofs.ProcedureLemmas.{put_if}
-use Rattle.strm_chain_end.specs.Pair.{QueuePair, list_on, flushed_pair, pair_gets, pair_front, pair_turns, pair_serves}
+use Rattle.strm_chain_end.specs.Pair.{QueuePair, list_on, flushed_pair, pair_gets, pair_front, pair_turns, pair_serves, service_turn}
 use Rattle.strm_chain_end.specs.End.{EndState, in_drv, pair_at, set_pair, found_gets, end_gets, found_serves, end_serves}
 use Rattle.strm_chain_end.specs.Head.{put_at_head}
 use Rattle.strm_chain_ends.specs.declared.place.Place.{Place}
@@ -80,7 +80,7 @@ module _ {K : Type 0} (means : Meaning K) (stay : AnswersStay means) where
   found_serves_ways : (e : EndState K) (i : ℕ) (o : Option (QueuePair K)) (side : Side) → pair_at e.modules i ≡ o → ways_of means (found_serves means e i o side).state.modules ≡ ways_of means e.modules
   found_serves_ways e i None side at = refl
   found_serves_ways e i (Some s) side at =
-      set_ways e.modules i s (pair_serves means s side).pair at (turns_ways s side (means.turn s.shape.kind side))
+      set_ways e.modules i s (pair_serves means s side).pair at (turns_ways s side (service_turn means s.shape side))
 
   -- ---- so each step of a message keeps the order
   abbrev KeepsOrder : Image K → Image K → Type 0

@@ -24,7 +24,7 @@ use Rattle.strm_module.proofs.ProcedureLemmas.{put_of_same}
 use Rattle.strm_module.specs.declared.driver.Driver.{Driver}
 use Rattle.strm_module.specs.declared.driver.Driver.TheVariants.{Echo, Loop, Line, Wire}
 use Rattle.strm_module.specs.Driver.{has_end}
-use Rattle.strm_chain_end.specs.Pair.{QueuePair, list_on, flushed, flushed_if, flushed_pair, after_put, pair_gets, pair_front, pair_turns, pair_serves}
+use Rattle.strm_chain_end.specs.Pair.{QueuePair, list_on, flushed, flushed_if, flushed_pair, after_put, pair_gets, pair_front, pair_turns, pair_serves, service_turn}
 use Rattle.strm_chain_end.specs.End.{EndState, in_head, in_state, in_drv, pair_at, set_pair, found_gets, end_gets, found_serves, end_serves}
 use Rattle.strm_chain_end.specs.Head.{is_id, kept_answer, with_errors, open_head, keeps, put_at_head}
 use Rattle.strm_chain_end.specs.Driver.{DriverStep, consumes, refuses, put_at_line, put_at_loop, options_up, put_at_echo, put_at_wire, driver_at}
@@ -188,7 +188,7 @@ module _ {K : Type 0} (means : Meaning K) where
   found_serves_keeps e i None side at = same_end e
   found_serves_keeps e i (Some s) side at =
       let new = (pair_serves means s side).pair in
-      modules_keep e (set_pair e.modules i new) (identities-set_pair e.modules i s new at (pair_turns-identity s side (means.turn s.shape.kind side)))
+      modules_keep e (set_pair e.modules i new) (identities-set_pair e.modules i s new at (pair_turns-identity s side (service_turn means s.shape side)))
 
   -- a message comes to a module, or the module serves one
   pub end_gets_keeps : (e : EndState K) (i : ℕ) (side : Side) (m : Msg) → SameEnd e (end_gets means e i side m).state

@@ -32,7 +32,7 @@ chain d a b = record { driver = d; broken = false; a = with_modules a; b = with_
 
 abbrev pair : Kind → Option WaterMarks → Option WaterMarks → QueuePair Kind
 pair kind rd wr =
-    record { shape = record { serial = 1; name = record { items = 109 ∷ [] }; rd = rd; wr = wr; kind = kind }; rd = []; wr = [] }
+    record { shape = record { serial = 1; name = record { items = 109 ∷ [] }; rd = rd; wr = wr; noenable = false; kind = kind }; rd = []; wr = [] }
 
 abbrev aaaaa : Msg
 aaaaa = data_msg 0 (97 ∷ 97 ∷ 97 ∷ 97 ∷ 97 ∷ [])

@@ -21,6 +21,7 @@ mod head;
 mod hop;
 mod line;
 mod message;
+mod queue;
 mod serve;
 mod settle;
 

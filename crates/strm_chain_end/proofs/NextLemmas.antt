@@ -14,6 +14,8 @@ use Rattle.strm_module.specs.Calm.{is_calm}
 use Rattle.strm_module.specs.Shape.{marks_on, queues_on}
 use Rattle.strm_module.specs.declared.shape.Shape.{Shape}
 use Rattle.strm_module.specs.declared.driver.Driver.{Driver}
+use Rattle.strm_module.specs.declared.turn.Turn.{Turn}
+use Rattle.strm_module.specs.declared.turn.Turn.TheVariants.{Shut}
 use Rattle.strm_chain_end.specs.Pair.{QueuePair, list_on}
 use Rattle.strm_chain_end.specs.End.{EndState, pair_at, list_at, list_found}
 use Rattle.strm_chain_end.specs.Modules.{Identity, identity_of, identities_of, are_ordinary, waits_in, waits_well, HoldsCalm}
@@ -204,22 +206,22 @@ pub next_above_last : (ids : List Identity) (i : ℕ) → next_above ids (length
 next_above_last ids i same there = let within = has_queue-within Rd ids i there in above_differs ids i (length ids + 1) (omega arith) there same
 
 -- where a message waits, there is a queue
-waits-some : (marks : Option WaterMarks) (q : List Msg) → waits_in marks q ≡ true → is_some (slice_get q 0) ≡ true → is_some marks ≡ true
-waits-some None [] h front = front
-waits-some None (m ∷ q) h front = cc
-waits-some (Some marks) q h front = refl
+waits-some : (noenable : Bool) (marks : Option WaterMarks) (q : List Msg) → waits_in noenable marks q ≡ true → is_some (slice_get q 0) ≡ true → is_some marks ≡ true
+waits-some noenable None [] h front = front
+waits-some noenable None (m ∷ q) h front = cc
+waits-some noenable (Some marks) q h front = refl
 
 -- and it is ordinary
 ordinary-first : (q : List Msg) (m : Msg) → are_ordinary q ≡ true → slice_get q 0 ≡ Some m → is_high m.kind ≡ false
 ordinary-first q m h front = is_low (is_high m.kind) (all-at (λ (x : Msg). not (is_high x.kind)) q 0 m front h)
 
-waits-first : (marks : Option WaterMarks) (q : List Msg) (m : Msg) → waits_in marks q ≡ true → slice_get q 0 ≡ Some m → is_high m.kind ≡ false
+waits-first : (marks : Option WaterMarks) (q : List Msg) (m : Msg) → waits_in false marks q ≡ true → slice_get q 0 ≡ Some m → is_high m.kind ≡ false
 waits-first None [] m h front = cc
 waits-first None (x ∷ q) m h front = cc
 waits-first (Some marks) q m h front = ordinary-first q m h front
 
 -- a module that is found, as the lists of all modules say it of each
-found-waits : {K : Type 0} (modules : List (QueuePair K)) (i : ℕ) (s : QueuePair K) → pair_at modules i ≡ Some s → list_all waits_well modules ≡ true → waits_well s ≡ true
+pub found-waits : {K : Type 0} (modules : List (QueuePair K)) (i : ℕ) (s : QueuePair K) → pair_at modules i ≡ Some s → list_all waits_well modules ≡ true → waits_well s ≡ true
 found-waits modules zero s is h = cc
 found-waits modules (suc i) s is h = all-at waits_well modules i s is h
 
@@ -228,15 +230,13 @@ has_queue_front {K = K} e side i holds front =
     rw (identity-found e.modules i)
     (elim (pair_at e.modules i) as (λ (o : Option (QueuePair K)). pair_at e.modules i ≡ o → is_some (slice_get (list_found o side) 0) ≡ true → is_some (marks_at side (option_map identity o)) ≡ true) [
       | None ↦ λ is h. h
-      | Some s ↦ λ is h. rw (marks_same side s.shape) (waits-some (marks_on s.shape side) (list_on s side) (waits-on side s (found-waits e.modules i s is holds.modules)) h)
+      | Some s ↦ λ is h. rw (marks_same side s.shape) (waits-some s.shape.noenable (marks_on s.shape side) (list_on s side) (waits-on side s (found-waits e.modules i s is holds.modules)) h)
     ] refl front)
 
-pub front_ordinary : {K : Type 0} (e : EndState K) (side : Side) (i : ℕ) (m : Msg) → HoldsCalm e → slice_get (list_at e i side) 0 ≡ Some m → is_high m.kind ≡ false
-front_ordinary {K = K} e side i m holds front =
-    elim (pair_at e.modules i) as (λ (o : Option (QueuePair K)). pair_at e.modules i ≡ o → slice_get (list_found o side) 0 ≡ Some m → is_high m.kind ≡ false) [
-      | None ↦ λ is h. cc
-      | Some s ↦ λ is h. waits-first (marks_on s.shape side) (list_on s side) m (waits-on side s (found-waits e.modules i s is holds.modules)) h
-    ] refl front
+-- the first message of a queue that the stream serves is ordinary
+pub first_ordinary : {K : Type 0} (s : QueuePair K) (side : Side) (m : Msg) → waits_well s ≡ true → s.shape.noenable ≡ false → slice_get (list_on s side) 0 ≡ Some m → is_high m.kind ≡ false
+first_ordinary s side m waits serves front =
+    waits-first (marks_on s.shape side) (list_on s side) m (subst (λ n. waits_in n (marks_on s.shape side) (list_on s side) ≡ true) serves (waits-on side s waits)) front
 
 -- what waits in the driver's list is calm
 pub drv_calm : {K : Type 0} (e : EndState K) (m : Msg) → HoldsCalm e → slice_get e.drv 0 ≡ Some m → is_calm m.kind ≡ true
@@ -303,14 +303,19 @@ last_below-first side ids (suc i) =
           rw least refl
     ] refl
 
+-- the turn of the service of a module: none for good where it is the program's
+abbrev pub turn_for : Option Identity → Turn → Turn
+turn_for None turn = turn
+turn_for (Some id) turn = cond id.noenable Shut turn
+
 module _ {K : Type 0} (means : Meaning K) where
-  offer_is_found : (side : Side) (o : Option (QueuePair K)) → offer_found means o side ≡ cond (is_some (marks_at side (option_map identity o))) (offer_by (turn_found means o side) (list_found o side)) None
+  offer_is_found : (side : Side) (o : Option (QueuePair K)) → offer_found means o side ≡ cond (is_some (marks_at side (option_map identity o))) (offer_by (turn_for (option_map identity o) (turn_found means o side)) (list_found o side)) None
   offer_is_found side None = refl
   offer_is_found Rd (Some s) = refl
   offer_is_found Wr (Some s) = refl
 
   -- an offer is that of a queue that is there: by what the service would do, and what waits
-  pub offer_is : (e : EndState K) (side : Side) (i : ℕ) → offer_at means e i side ≡ cond (has_queue side (identities_of e.modules) i) (offer_by (turn_at means e i side) (list_at e i side)) None
+  pub offer_is : (e : EndState K) (side : Side) (i : ℕ) → offer_at means e i side ≡ cond (has_queue side (identities_of e.modules) i) (offer_by (turn_for (identity_at (identities_of e.modules) i) (turn_at means e i side)) (list_at e i side)) None
   offer_is e side i = rw (identity-found e.modules i) (offer_is_found side (pair_at e.modules i))
 
 pub if_some_there : {X : Type 0} (b : Bool) (o : Option X) → is_some (cond b o None) ≡ true → b ≡ true

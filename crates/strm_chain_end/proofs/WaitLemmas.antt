@@ -1,5 +1,5 @@
 -- What waits in the queues of modules stays ordinary, and what waits in the driver's list calm.
-use Rattle.std.proofs.Common.{◌≡◌, ◌⊎◌, inl, inr, ◌<◌, ◌&&◌, not, ℕ, Bool, true, false, Option, Some, None, List, [], ◌∷◌, length, slice_get, slice_set, slice_index_or, is_some, Result, Ok, Err, OnOk, OnErr, refl, ap, sym, ◌∙◌, arith, suc, zero}
+use Rattle.std.proofs.Common.{◌≡◌, ◌||◌, ◌⊎◌, inl, inr, ◌<◌, ◌&&◌, not, ℕ, Bool, true, false, Option, Some, None, List, [], ◌∷◌, length, slice_get, slice_set, slice_index_or, is_some, Result, Ok, Err, OnOk, OnErr, refl, ap, sym, ◌∙◌, arith, suc, zero}
 use Rattle.std.specs.List.{list_all, insert}
 use Rattle.std.specs.Cmp.Derive.{both_true}
 use Rattle.std.proofs.lemmas.Bool.{and_parts}
@@ -12,8 +12,8 @@ use Rattle.strm_msg.specs.declared.words.Side.TheVariants.{Rd, Wr}
 use Rattle.strm_msg.specs.Marks.{WaterMarks}
 use Rattle.strm_queue.specs.Queue.{is_flushed, is_of_band, put_in, front_len}
 use Rattle.strm_queue.proofs.ListLemmas.{all_filter}
-use Rattle.strm_module.specs.Shape.{marks_on}
-use Rattle.strm_module.specs.Module.{IsTaken}
+use Rattle.strm_module.specs.Shape.{marks_on, IsSameModule}
+use Rattle.strm_module.specs.Module.{waits_here, IsTaken}
 use Rattle.strm_module.specs.Calm.{is_calm}
 use Rattle.strm_module.proofs.CalmLemmas.{ordinary_calm}
 use Rattle.strm_module.specs.declared.shape.Shape.{Shape}
@@ -74,51 +74,56 @@ nothing-flushed_if false band [] h = refl
 nothing-flushed_if wanted band (m ∷ q) h = cc
 
 -- one queue
-waits-flushed_if : (marks : Option WaterMarks) (wanted : Bool) (band : Option ℕ) (q : List Msg) → waits_in marks q ≡ true → waits_in marks (flushed_if wanted band q) ≡ true
-waits-flushed_if None wanted band q h = nothing-flushed_if wanted band q h
-waits-flushed_if (Some marks) wanted band q h = ordinary-flushed_if wanted band q h
+waits-flushed_if : (noenable : Bool) (marks : Option WaterMarks) (wanted : Bool) (band : Option ℕ) (q : List Msg) → waits_in noenable marks q ≡ true → waits_in noenable marks (flushed_if wanted band q) ≡ true
+waits-flushed_if noenable None wanted band q h = nothing-flushed_if wanted band q h
+waits-flushed_if true (Some marks) wanted band q h = refl
+waits-flushed_if false (Some marks) wanted band q h = ordinary-flushed_if wanted band q h
 
-waits-put : (marks : Option WaterMarks) (q : List Msg) (m : Msg) → is_some marks ≡ true → is_high m.kind ≡ false → waits_in marks q ≡ true → waits_in marks (put_in q m) ≡ true
-waits-put None q m some low h = cc
-waits-put (Some marks) q m some low h = ordinary-put q m low h
-
-waits-rest : (marks : Option WaterMarks) (m : Msg) (q : List Msg) → waits_in marks (m ∷ q) ≡ true → waits_in marks q ≡ true
-waits-rest None m q h = cc
-waits-rest (Some marks) m q h = ordinary-rest m q h
+waits-put : (noenable : Bool) (marks : Option WaterMarks) (q : List Msg) (m : Msg) → is_some marks ≡ true → (noenable || not (is_high m.kind)) ≡ true → waits_in noenable marks q ≡ true → waits_in noenable marks (put_in q m) ≡ true
+waits-put noenable None q m some waits h = cc
+waits-put true (Some marks) q m some waits h = refl
+waits-put false (Some marks) q m some waits h = ordinary-put q m (is_low (is_high m.kind) waits) h
 
 -- both queues of a module
 module _ {K : Type 0} where
-  pub waits-rd : (s : QueuePair K) → waits_well s ≡ true → waits_in s.shape.rd s.rd ≡ true
-  waits-rd s h = (and_parts (waits_in s.shape.rd s.rd) (waits_in s.shape.wr s.wr) h).0
+  pub waits-rd : (s : QueuePair K) → waits_well s ≡ true → waits_in s.shape.noenable s.shape.rd s.rd ≡ true
+  waits-rd s h = (and_parts (waits_in s.shape.noenable s.shape.rd s.rd) (waits_in s.shape.noenable s.shape.wr s.wr) h).0
 
-  pub waits-wr : (s : QueuePair K) → waits_well s ≡ true → waits_in s.shape.wr s.wr ≡ true
-  waits-wr s h = (and_parts (waits_in s.shape.rd s.rd) (waits_in s.shape.wr s.wr) h).1
+  pub waits-wr : (s : QueuePair K) → waits_well s ≡ true → waits_in s.shape.noenable s.shape.wr s.wr ≡ true
+  waits-wr s h = (and_parts (waits_in s.shape.noenable s.shape.rd s.rd) (waits_in s.shape.noenable s.shape.wr s.wr) h).1
 
-  pub waits-on : (side : Side) (s : QueuePair K) → waits_well s ≡ true → waits_in (marks_on s.shape side) (list_on s side) ≡ true
+  pub waits-on : (side : Side) (s : QueuePair K) → waits_well s ≡ true → waits_in s.shape.noenable (marks_on s.shape side) (list_on s side) ≡ true
   waits-on Rd s h = waits-rd s h
   waits-on Wr s h = waits-wr s h
 
-  -- the shape may change, but for its marks
-  pub waits-shape : (s : QueuePair K) (shape : Shape K) → shape.rd ≡ s.shape.rd → shape.wr ≡ s.shape.wr → waits_well s ≡ true → waits_well (record s { shape = shape }) ≡ true
-  waits-shape s shape rd wr h = rw (rd, wr) h
+  -- the shape may change, but for its marks and for whose its service procedures are
+  pub waits-shape : (s : QueuePair K) (shape : Shape K) → IsSameModule s.shape shape → waits_well s ≡ true → waits_well (record s { shape = shape }) ≡ true
+  waits-shape s shape same h = rw (same.rd, same.wr, same.noenable) h
 
   pub waits-flushed : (s : QueuePair K) (kind : MsgKind) → waits_well s ≡ true → waits_well (flushed_pair s kind) ≡ true
-  waits-flushed s (MFlush r w band) h = both_true (waits-flushed_if s.shape.rd r band s.rd (waits-rd s h)) (waits-flushed_if s.shape.wr w band s.wr (waits-wr s h))
+  waits-flushed s (MFlush r w band) h =
+      both_true (waits-flushed_if s.shape.noenable s.shape.rd r band s.rd (waits-rd s h)) (waits-flushed_if s.shape.noenable s.shape.wr w band s.wr (waits-wr s h))
   waits-flushed s kind h = h
 
   -- a flush after the module has answered
-  pub waits-sent : (s : QueuePair K) (shape : Shape K) (kind : MsgKind) (new : QueuePair K) → new ≡ flushed_pair (record s { shape = shape }) kind → shape.rd ≡ s.shape.rd → shape.wr ≡ s.shape.wr → waits_well s ≡ true → waits_well new ≡ true
-  waits-sent s shape kind new is rd wr h = rw is (waits-flushed (record s { shape = shape }) kind (waits-shape s shape rd wr h))
+  pub waits-sent : (s : QueuePair K) (shape : Shape K) (kind : MsgKind) (new : QueuePair K) → new ≡ flushed_pair (record s { shape = shape }) kind → IsSameModule s.shape shape → waits_well s ≡ true → waits_well new ≡ true
+  waits-sent s shape kind new is same h = rw is (waits-flushed (record s { shape = shape }) kind (waits-shape s shape same h))
 
-  waits-queued : (side : Side) (s : QueuePair K) (m : Msg) → is_some (marks_on s.shape side) ≡ true → is_high m.kind ≡ false → waits_well s ≡ true → waits_well (with_list s side (put_in (list_on s side) m)) ≡ true
-  waits-queued Rd s m some low h = both_true (waits-put s.shape.rd s.rd m some low (waits-rd s h)) (waits-wr s h)
-  waits-queued Wr s m some low h = both_true (waits-rd s h) (waits-put s.shape.wr s.wr m some low (waits-wr s h))
+  waits-queued : (side : Side) (s : QueuePair K) (m : Msg) → is_some (marks_on s.shape side) ≡ true → waits_here s.shape m ≡ true → waits_well s ≡ true → waits_well (with_list s side (put_in (list_on s side) m)) ≡ true
+  waits-queued Rd s m some waits h = both_true (waits-put s.shape.noenable s.shape.rd s.rd m some waits (waits-rd s h)) (waits-wr s h)
+  waits-queued Wr s m some waits h = both_true (waits-rd s h) (waits-put s.shape.noenable s.shape.wr s.wr m some waits (waits-wr s h))
 
-  -- the message that the module had queued
-  pub waits-taken : (side : Side) (s : QueuePair K) (m q : Msg) (shape : Shape K) (new : QueuePair K) → IsTaken side m q s.shape shape → new ≡ with_list s side (put_in (list_on s side) q) → waits_well s ≡ true → waits_well new ≡ true
+  flushed-shape : (s : QueuePair K) (kind : MsgKind) → (flushed_pair s kind).shape ≡ s.shape
+  flushed-shape s (MFlush r w band) = refl
+  flushed-shape s kind = refl
+
+  -- the message that the module had queued, which passed its queues first if it is a flush
+  pub waits-taken : (side : Side) (s : QueuePair K) (m q : Msg) (shape : Shape K) (new : QueuePair K) → IsTaken side m q s.shape shape → new ≡ with_list (flushed_pair (record s { shape = shape }) q.kind) side (put_in (list_on (flushed_pair (record s { shape = shape }) q.kind) side) q) → waits_well s ≡ true → waits_well new ≡ true
   waits-taken side s m q shape new taken is h =
-      let low : is_high q.kind ≡ false = rw taken.same taken.ordinary in
-      rw is (waits-queued side s q taken.queues low h)
+      let f = flushed_pair s q.kind in
+      let waits : waits_here s.shape q ≡ true = rw taken.same taken.waits in
+      let own = flushed-shape s q.kind in
+      rw (is, taken.shape) (waits-queued side f q (ap (λ x. is_some (marks_on x side)) own ∙ taken.queues) (ap (λ x. waits_here x q) own ∙ waits) (waits-flushed s q.kind h))
 
 -- a calm message more, and messages fewer
 pub calm-put : (q : List Msg) (m : Msg) → is_calm m.kind ≡ true → are_calm q ≡ true → are_calm (put_in q m) ≡ true

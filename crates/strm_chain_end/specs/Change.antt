@@ -1,14 +1,17 @@
 -- The changes that the calls of an end make (streamio(7): I_PUSH, I_POP, I_STR, I_SRDOPT; close(2)).
-use Rattle.std.specs.Prelude.{ℕ, ◌+◌, ◌==◌, ◌&&◌, nat_lt, Bool, false, Option, Some, None, [], ◌∷◌, length, drop, if◌then◌else◌}
+use Rattle.std.specs.Prelude.{ℕ, ◌+◌, ◌==◌, ◌&&◌, nat_lt, Bool, false, Option, Some, None, List, [], ◌∷◌, length, drop, if◌then◌else◌}
 use Rattle.strm_msg.specs.declared.words.ReadMode.{ReadMode}
 use Rattle.strm_msg.specs.declared.words.ReadMode.TheVariants.{Rnorm}
 use Rattle.strm_msg.specs.declared.words.Prot.{Prot}
 use Rattle.strm_msg.specs.declared.words.Prot.TheVariants.{Norm}
 use Rattle.strm_msg.specs.Marks.{WaterMarks}
+use Rattle.strm_module.specs.Shape.{queues_on}
 use Rattle.strm_module.specs.declared.shape.Shape.{Shape}
 use Rattle.strm_module.specs.declared.driver.TheConstants.{MOST_MODULES}
-use Rattle.strm_chain_end.specs.Pair.{fresh_pair}
-use Rattle.strm_chain_end.specs.End.{EndState}
+use Rattle.strm_msg.specs.Message.{Msg}
+use Rattle.strm_msg.specs.declared.words.Side.{Side}
+use Rattle.strm_chain_end.specs.Pair.{QueuePair, fresh_pair, with_list}
+use Rattle.strm_chain_end.specs.End.{EndState, pair_at, set_pair}
 use Rattle.strm_chain_end.specs.declared.record.Record.{Record}
 
 -- a module is pushed just below the head (I_PUSH)
@@ -26,6 +29,23 @@ has_room e = e.is_open && nat_lt (length e.modules) MOST_MODULES
 -- a closed end: without modules, and without messages in its head (close(2)); the driver's list stays
 abbrev pub closed : {K : Type 0} → EndState K → EndState K
 closed e = record e { is_open = false; head = []; modules = [] }
+
+-- a module has a queue on a side, and its service procedure there is the program's
+abbrev pub found_programs : {K : Type 0} → Option (QueuePair K) → Side → Bool
+found_programs None side = false
+found_programs (Some s) side = s.shape.noenable && queues_on s.shape side
+
+abbrev pub is_programs : {K : Type 0} → EndState K → ℕ → Side → Bool
+is_programs e i side = found_programs (pair_at e.modules i) side
+
+-- the queue of a module has these messages in the place of its own (getq(9F), putbq(9F)); without the module
+-- nothing changes
+abbrev pub found_with : {K : Type 0} → EndState K → ℕ → Option (QueuePair K) → Side → List Msg → EndState K
+found_with e i None side q = e
+found_with e i (Some s) side q = record e { modules = set_pair e.modules i (with_list s side q) }
+
+abbrev pub with_queue : {K : Type 0} → EndState K → ℕ → Side → List Msg → EndState K
+with_queue e i side q = found_with e i (pair_at e.modules i) side q
 
 -- the record of a head that reads so from now on (I_SRDOPT)
 abbrev pub with_mode : Record → ReadMode → Prot → Record

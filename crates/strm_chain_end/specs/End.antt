@@ -7,7 +7,7 @@ use Rattle.strm_msg.specs.Marks.{WaterMarks}
 use Rattle.strm_queue.specs.Room.{room_for}
 use Rattle.strm_module.specs.Kinds.{OutList, Meaning}
 use Rattle.strm_module.specs.declared.shape.Shape.{Shape}
-use Rattle.strm_chain_end.specs.Pair.{QueuePair, list_on, pair_gets, pair_serves}
+use Rattle.strm_chain_end.specs.Pair.{QueuePair, list_on, served_on, pair_gets, pair_serves}
 use Rattle.strm_chain_end.specs.declared.record.Record.{Record}
 
 -- the head's list and record, the modules topmost first, and the driver's list, with the marks of both lists
@@ -63,6 +63,14 @@ list_found (Some s) side = list_on s side
 -- the messages of a queue of a module, none where there is no such module
 abbrev pub list_at : {K : Type 0} → EndState K → ℕ → Side → List Msg
 list_at e i side = list_found (pair_at e.modules i) side
+
+-- those of them that the stream serves
+abbrev pub served_found : {K : Type 0} → Option (QueuePair K) → Side → List Msg
+served_found None side = []
+served_found (Some s) side = served_on s side
+
+abbrev pub served_at : {K : Type 0} → EndState K → ℕ → Side → List Msg
+served_at e i side = served_found (pair_at e.modules i) side
 
 -- an end afterwards, and the messages that one of its modules sends
 pub record EndStep (K : Type 0) : Type 0 where

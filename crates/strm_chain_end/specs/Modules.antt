@@ -1,6 +1,6 @@
 -- The parts of an end that no message changes: the modules that are there and where they queue, and the ioctl
 -- that is awaited. And no high message waits in a queue.
-use Rattle.std.specs.Prelude.{◌≡◌, ◌<◌, ◌&&◌, not, ℕ, nat_lt, Bool, true, false, Option, Some, None, List, [], ◌∷◌, map}
+use Rattle.std.specs.Prelude.{◌≡◌, ◌<◌, ◌&&◌, ◌||◌, not, ℕ, nat_lt, Bool, true, false, Option, Some, None, List, [], ◌∷◌, map}
 use Rattle.std.specs.List.{list_all}
 use Rattle.strm_msg.specs.Kind.{is_high}
 use Rattle.strm_msg.specs.Message.{Msg}
@@ -11,15 +11,17 @@ use Rattle.strm_chain_end.specs.Pair.{QueuePair}
 use Rattle.strm_chain_end.specs.End.{EndState}
 use Rattle.strm_chain_end.specs.declared.record.Record.{Record}
 
--- the identity of a module: its serial, its name, and the marks of the sides on which it queues
+-- the identity of a module: its serial, its name, the marks of the sides on which it queues, and whether the
+-- service procedures are the program's
 pub record Identity : Type 0 where
   pub serial : ℕ
   pub name : List ℕ
   pub rd : Option WaterMarks
   pub wr : Option WaterMarks
+  pub noenable : Bool
 
 abbrev pub identity_of : {K : Type 0} → Shape K → Identity
-identity_of s = record { serial = s.serial; name = s.name.items; rd = s.rd; wr = s.wr }
+identity_of s = record { serial = s.serial; name = s.name.items; rd = s.rd; wr = s.wr; noenable = s.noenable }
 
 -- the modules of an end, topmost first
 abbrev pub identities_of : {K : Type 0} → List (QueuePair K) → List Identity
@@ -70,16 +72,17 @@ abbrev pub is_nothing : List Msg → Bool
 is_nothing [] = true
 is_nothing (m ∷ q) = false
 
--- a queue holds ordinary messages alone, and where there is none no message waits
-abbrev pub waits_in : Option WaterMarks → List Msg → Bool
-waits_in None q = is_nothing q
-waits_in (Some marks) q = are_ordinary q
+-- a queue holds ordinary messages alone, or any where the service procedures are the program's; where there is
+-- no queue no message waits
+abbrev pub waits_in : Bool → Option WaterMarks → List Msg → Bool
+waits_in noenable None q = is_nothing q
+waits_in noenable (Some marks) q = noenable || are_ordinary q
 
 abbrev pub waits_well : {K : Type 0} → QueuePair K → Bool
-waits_well s = waits_in s.shape.rd s.rd && waits_in s.shape.wr s.wr
+waits_well s = waits_in s.shape.noenable s.shape.rd s.rd && waits_in s.shape.noenable s.shape.wr s.wr
 
--- no high message waits in a queue of a module, and none at all where it has no queue; no flush or error
--- waits in the driver's list
+-- no high message waits in a queue that the stream serves, and none at all where a module has no queue; no
+-- flush or error waits in the driver's list
 pub record HoldsCalm {K : Type 0} (e : EndState K) : Type 0 where
   pub modules : list_all waits_well e.modules ≡ true
   pub driver : are_calm e.drv ≡ true

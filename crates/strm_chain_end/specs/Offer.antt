@@ -8,7 +8,7 @@ use Rattle.strm_module.specs.Kinds.{Meaning}
 use Rattle.strm_module.specs.Shape.{queues_on}
 use Rattle.strm_module.specs.declared.turn.Turn.{Turn}
 use Rattle.strm_module.specs.declared.turn.Turn.TheVariants.{Serves, Shut, Sends}
-use Rattle.strm_chain_end.specs.Pair.{QueuePair, list_on}
+use Rattle.strm_chain_end.specs.Pair.{QueuePair, list_on, service_turn}
 use Rattle.strm_chain_end.specs.End.{EndState, pair_at}
 use Rattle.strm_chain_end.specs.declared.offer.Offer.{Offer}
 
@@ -34,7 +34,7 @@ offer_by (Sends band) q = Some (own_offer band)
 module _ {K : Type 0} (means : Meaning K) where
   -- a module has a service on a side with a queue alone
   abbrev pub offer_on : QueuePair K → Side → Option Offer
-  offer_on s side = if queues_on s.shape side then offer_by (means.turn s.shape.kind side) (list_on s side) else None
+  offer_on s side = if queues_on s.shape side then offer_by (service_turn means s.shape side) (list_on s side) else None
 
   abbrev pub offer_found : Option (QueuePair K) → Side → Option Offer
   offer_found None side = None

@@ -1,5 +1,5 @@
 -- A module with its two queues, and the changes of them (queue(9S); put(9E), srv(9E), flushq(9F)).
-use Rattle.std.specs.Prelude.{ℕ, Bool, Option, Some, None, List, [], ◌∷◌, if◌then◌else◌}
+use Rattle.std.specs.Prelude.{ℕ, ◌&&◌, not, Bool, Option, Some, None, List, [], ◌∷◌, if◌then◌else◌}
 use Rattle.strm_msg.specs.Message.{Msg}
 use Rattle.strm_msg.specs.declared.kind.MsgKind.{MsgKind}
 use Rattle.strm_msg.specs.declared.kind.MsgKind.TheVariants.{MFlush}
@@ -12,6 +12,7 @@ use Rattle.strm_module.specs.Module.{put_of, serve_of, own_of}
 use Rattle.strm_module.specs.declared.turn.Turn.{Turn}
 use Rattle.strm_module.specs.declared.turn.Turn.TheVariants.{Serves, Shut, Sends}
 use Rattle.strm_module.specs.declared.shape.Shape.{Shape}
+use Rattle.strm_module.specs.Shape.{queues_on}
 use Rattle.strm_module.specs.declared.outs.Put.{Put}
 use Rattle.strm_module.specs.declared.outs.Put.TheVariants.{Queue as Queued, Sent}
 
@@ -28,6 +29,15 @@ fresh_pair s = record { shape = s; rd = []; wr = [] }
 abbrev pub list_on : {K : Type 0} → QueuePair K → Side → List Msg
 list_on s Rd = s.rd
 list_on s Wr = s.wr
+
+-- the stream serves the queue of a side: it is there, and its service procedure is not the program's
+-- (noenable(9F))
+abbrev pub is_served : {K : Type 0} → Shape K → Side → Bool
+is_served s side = queues_on s side && not s.noenable
+
+-- those that the stream serves: none where the service procedures are the program's (noenable(9F))
+abbrev pub served_on : {K : Type 0} → QueuePair K → Side → List Msg
+served_on s side = if s.shape.noenable then [] else list_on s side
 
 abbrev pub with_list : {K : Type 0} → QueuePair K → Side → List Msg → QueuePair K
 with_list s Rd q = record s { rd = q }
@@ -60,9 +70,13 @@ pub record PairStep (K : Type 0) : Type 0 where
   pub pair : QueuePair K
   pub outs : OutList
 
--- the module's answer: the message is put into its queue of that side (putq(9F)), or this is sent
+-- a message is put into the queue of a side (putq(9F))
+abbrev pub with_put : {K : Type 0} → QueuePair K → Side → Msg → QueuePair K
+with_put s side m = with_list s side (put_in (list_on s side) m)
+
+-- the module's answer: the message is put into its queue of that side, or this is sent
 abbrev pub after_put : {K : Type 0} → QueuePair K → Side → Put → PairStep K
-after_put s side (Queued m) = record { pair = with_list s side (put_in (list_on s side) m); outs = [] }
+after_put s side (Queued m) = record { pair = with_put s side m; outs = [] }
 after_put s side (Sent outs) = record { pair = s; outs = outs.items }
 
 -- for kinds of any meaning
@@ -89,5 +103,10 @@ module _ {K : Type 0} (means : Meaning K) where
       let sent = own_of means s.shape side in
       record { pair = record s { shape = sent.shape }; outs = sent.outs }
 
+  -- the turn of the service of a side: none for good where it is the program's (noenable(9F)), and else as
+  -- the kind says
+  abbrev pub service_turn : Shape K → Side → Turn
+  service_turn s side = if s.noenable then Shut else means.turn s.kind side
+
   abbrev pub pair_serves : QueuePair K → Side → PairStep K
-  pair_serves s side = pair_turns s side (means.turn s.shape.kind side)
+  pair_serves s side = pair_turns s side (service_turn s.shape side)

@@ -1,9 +1,10 @@
 //! One end of a stream.
-ghost use Rattle.std.specs.Prelude.{◌≡◌, ◌∷◌, [], ◌<◌, ◌≤◌, OnOk, OnErr, IfOk, IfSome, IfNone, Some, true, length, map, option_map, option_copied, slice_get, vec_capacity};
+ghost use Rattle.std.specs.Prelude.{◌≡◌, ◌∷◌, [], ◌<◌, ◌≤◌, OnOk, OnErr, IfOk, IfErr, IfSome, IfNone, Some, true, drop, length, map, option_map, option_copied, slice_get, vec_capacity};
 ghost use Rattle.strm_chain_end.specs.End.{KeepsRoom, shapes_of, pair_at, list_at, end_gets, end_serves};
 ghost use Rattle.strm_chain_end.specs.Modules.{SameEnd, IsFitEnd, HoldsCalm};
 ghost use Rattle.strm_chain_end.specs.Offer.{offer_at, turn_at};
-ghost use Rattle.strm_chain_end.specs.Change.{has_room, inserted, removed, closed, fresh_end};
+ghost use Rattle.strm_chain_end.specs.Change.{has_room, inserted, removed, closed, fresh_end, is_programs, with_queue};
+ghost use Rattle.strm_queue.specs.Queue.{put_back_in};
 ghost use Rattle.strm_chain_end.specs.Order.{some_answers};
 
 use crate::offer::Offer;
@@ -190,6 +191,50 @@ impl<M: ModuleOf> StreamEnd<M> {
             return None;
         }
         self.pairs[i - 1].front(side)
+    }
+
+    /// Whether the service procedures of a module are the program's, and it has a queue on a side.
+    pub fn is_programs(&self, i: u8, side: Side) -> bool
+        ensures { result ≡ is_programs self.now.state i side }
+    {
+        let i = usize::from(i);
+        if i == 0 || i > self.pairs.len() {
+            return false;
+        }
+        self.pairs[i - 1].is_programs(side)
+    }
+
+    /// Takes the first message of a module's queue of a side (getq(9F)). Takes no memory.
+    pub fn take_queue(&mut self, i: u8, side: Side) -> Option<BoxedMessage>
+        ensures first { result ≡ slice_get (list_at self.old.state i side) 0 }
+        ensures state { self.new.state ≡ with_queue self.old.state i side (drop 1 (list_at self.old.state i side)) }
+        ensures head_room { self.new.head_room ≡ self.old.head_room }
+        ensures drv_room { self.new.drv_room ≡ self.old.drv_room }
+        ensures same { SameEnd self.old.state self.new.state }
+    {
+        let i = usize::from(i);
+        if i == 0 || i > self.pairs.len() {
+            return None;
+        }
+        self.pairs[i - 1].take(side)
+    }
+
+    /// Puts a message back into a module's queue of a side, before those of its rank (putbq(9F)). It comes back
+    /// only when memory runs out: then nothing is changed.
+    pub fn put_back_queue(&mut self, i: u8, side: Side, m: BoxedMessage) -> Result<(), BoxedMessage>
+        requires { is_programs self.old.state i side ≡ true }
+        ensures ok { OnOk result (self.new.state ≡ with_queue self.old.state i side (put_back_in (list_at self.old.state i side) m)) }
+        ensures err { OnErr result (self.new.state ≡ self.old.state) }
+        ensures head_room { self.new.head_room ≡ self.old.head_room }
+        ensures drv_room { self.new.drv_room ≡ self.old.drv_room }
+        ensures back { IfErr result (λ same. same ≡ m) }
+        ensures same { SameEnd self.old.state self.new.state }
+    {
+        let i = usize::from(i);
+        if i == 0 || i > self.pairs.len() {
+            return Err(m);
+        }
+        self.pairs[i - 1].put_back(side, m)
     }
 
     /// The turn of the service of a module's side, as things are now. One that is not there takes the

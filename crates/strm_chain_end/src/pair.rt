@@ -1,10 +1,13 @@
 //! A module with its two queues.
-ghost use Rattle.std.specs.Prelude.{◌≡◌, [], ◌∷◌, IfOk, OnOk, OnErr, IsSome, IfSome, IfNone, true, length, option_map, option_copied, slice_get};
-ghost use Rattle.strm_queue.specs.Queue.{put_in};
+ghost use Rattle.std.specs.Prelude.{◌≡◌, [], ◌∷◌, IfOk, IfErr, OnOk, OnErr, IsSome, IfSome, IfNone, MatchOption, true, drop, length, option_map, option_copied, slice_get};
+ghost use Rattle.strm_msg.specs.declared.kind.MsgKind.TheVariants as Kinds;
+ghost use Rattle.strm_queue.specs.Queue.{put_in, put_back_in};
 ghost use Rattle.strm_module.specs.Shape.{queues_on};
-ghost use Rattle.strm_chain_end.specs.Pair.{messages_in, marks_in, list_on, fresh_pair, flushed, flushed_pair, pair_gets, pair_front, pair_serves};
+ghost use Rattle.strm_chain_end.specs.Pair.{messages_in, marks_in, list_on, with_list, with_put, fresh_pair, is_served, flushed, flushed_if, flushed_pair, pair_gets, pair_front, pair_serves};
+ghost use Rattle.strm_chain_end.specs.End.{KeepsRoom};
 ghost use Rattle.strm_chain_end.specs.Modules.{identity_of, is_fit, is_fit_module, waits_well};
 ghost use Rattle.strm_chain_end.specs.Canput.{fill_of, fill_on};
+ghost use Rattle.strm_chain_end.specs.Change.{found_programs};
 ghost use Rattle.strm_chain_end.specs.Offer.{first_offer, offer_on};
 
 use crate::offer::Offer;
@@ -20,17 +23,22 @@ pub(crate) struct Pair<M: ModuleOf> {
     instance: BoxedModule<M>,
     rd: Option<BandQueue>,
     wr: Option<BandQueue>,
+    /// Whether the stream serves the read queue: it is there, and its service procedure is not the program's.
+    serves_rd: bool,
+    /// The same of the write queue.
+    serves_wr: bool,
 }
 
 impl<M: ModuleOf> Model for Pair<M> {
     ghost use Rattle.std.specs.Prelude.{◌≡◌};
-    ghost use Rattle.strm_chain_end.specs.Pair.{QueuePair, messages_in, marks_in};
+    ghost use Rattle.strm_msg.specs.declared.words.Side.TheVariants.{Rd, Wr};
+    ghost use Rattle.strm_chain_end.specs.Pair.{QueuePair, messages_in, marks_in, is_served};
 
     ghost Value = { QueuePair M.Kind };
 
     ghost view = { λ s. record { shape = s.instance; rd = messages_in s.rd; wr = messages_in s.wr } };
 
-    ghost invariant = { λ s. (marks_in s.rd ≡ s.instance.rd) × (marks_in s.wr ≡ s.instance.wr) };
+    ghost invariant = { λ s. (marks_in s.rd ≡ s.instance.rd) × (marks_in s.wr ≡ s.instance.wr) × (s.serves_rd ≡ is_served s.instance Rd) × (s.serves_wr ≡ is_served s.instance Wr) };
 }
 
 /// An empty queue, where there are marks for one.
@@ -53,6 +61,7 @@ fn queue_of(alloc: Global, marks: Option<Marks>) -> Option<BandQueue>
 pub(crate) fn flush_bands(queue: &mut BandQueue, band: Option<u8>)
     ensures messages { queue.new.messages ≡ flushed band queue.old.messages }
     ensures marks { queue.new.marks ≡ queue.old.marks }
+    ensures room { KeepsRoom queue.old.room queue.new.room }
 {
     match band {
         Some(b) => queue.flush_band(b),
@@ -86,6 +95,49 @@ fn put_in_queue(queue: &mut Option<BandQueue>, m: BoxedMessage) -> Result<(), No
     }
 }
 
+/// Puts a flush into a queue that is there, and which it passes first if it names it. Fails only when memory
+/// runs out: then nothing is changed.
+fn put_flush(
+    queue: &mut Option<BandQueue>,
+    is_named: bool,
+    band: Option<u8>,
+    m: BoxedMessage,
+) -> Result<(), NoMem>
+    requires { IsSome queue.old }
+    ensures messages { OnOk result (messages_in queue.new ≡ put_in (flushed_if is_named band (messages_in queue.old)) m) }
+    ensures marks { marks_in queue.new ≡ marks_in queue.old }
+    ensures err { OnErr result (messages_in queue.new ≡ messages_in queue.old) }
+{
+    match queue {
+        Some(queue) => {
+            queue.make_room(m.rank())?;
+            if is_named {
+                flush_bands(queue, band);
+            }
+            match queue.put(m) {
+                Ok(()) => Ok(()),
+                Err(_) => unreachable!(),
+            }
+        }
+        None => unreachable!(),
+    }
+}
+
+/// Puts a message back into a queue that is there, before those of its rank. It comes back only when memory
+/// runs out: then nothing is changed.
+fn put_back_in_queue(queue: &mut Option<BandQueue>, m: BoxedMessage) -> Result<(), BoxedMessage>
+    requires { IsSome queue.old }
+    ensures messages { OnOk result (messages_in queue.new ≡ put_back_in (messages_in queue.old) m) }
+    ensures marks { marks_in queue.new ≡ marks_in queue.old }
+    ensures err { OnErr result (messages_in queue.new ≡ messages_in queue.old) }
+    ensures back { IfErr result (λ same. same ≡ m) }
+{
+    match queue {
+        Some(queue) => queue.put_back(m),
+        None => unreachable!(),
+    }
+}
+
 /// Takes the first message of a queue that may be missing.
 fn take_front(queue: &mut Option<BandQueue>) -> Option<BoxedMessage>
     ensures some { IfSome result (λ m. messages_in queue.old ≡ m ∷ messages_in queue.new) }
@@ -107,7 +159,15 @@ impl<M: ModuleOf> Pair<M> {
     {
         let rd = queue_of(alloc, instance.shape().rd);
         let wr = queue_of(alloc, instance.shape().wr);
-        Pair { instance, rd, wr }
+        let serves_rd = rd.is_some() && !instance.shape().noenable;
+        let serves_wr = wr.is_some() && !instance.shape().noenable;
+        Pair {
+            instance,
+            rd,
+            wr,
+            serves_rd,
+            serves_wr,
+        }
     }
 
     /// The shape of the module.
@@ -125,6 +185,8 @@ impl<M: ModuleOf> Pair<M> {
             instance,
             rd: _,
             wr: _,
+            serves_rd: _,
+            serves_wr: _,
         } = self;
         instance
     }
@@ -140,6 +202,64 @@ impl<M: ModuleOf> Pair<M> {
             if w {
                 flush_queue(&mut self.wr, band);
             }
+        }
+    }
+
+    /// Puts a flush into the queue of a side, after it has emptied the queues that its flags name. Fails only
+    /// when memory runs out: then nothing is changed.
+    fn queue_flush(
+        &mut self,
+        side: Side,
+        m: BoxedMessage,
+        r: bool,
+        w: bool,
+        band: Option<u8>,
+    ) -> Result<(), NoMem>
+        requires queue { queues_on self.old.shape side ≡ true }
+        requires kind { m.kind ≡ Kinds.MFlush r w band }
+        ensures ok { OnOk result (self.new ≡ with_put (flushed_pair self.old m.kind) side m) }
+        ensures err { OnErr result (self.new ≡ self.old) }
+    {
+        match side {
+            Side::Rd => {
+                put_flush(&mut self.rd, r, band, m)?;
+                if w {
+                    flush_queue(&mut self.wr, band);
+                }
+            }
+            Side::Wr => {
+                put_flush(&mut self.wr, w, band, m)?;
+                if r {
+                    flush_queue(&mut self.rd, band);
+                }
+            }
+        }
+        Ok(())
+    }
+
+    /// Puts a message that is no flush into the queue of a side. Fails only when memory runs out: then nothing
+    /// is changed.
+    fn queue_other(&mut self, side: Side, m: BoxedMessage) -> Result<(), NoMem>
+        requires { queues_on self.old.shape side ≡ true }
+        ensures ok { OnOk result (self.new ≡ with_put self.old side m) }
+        ensures err { OnErr result (self.new ≡ self.old) }
+    {
+        match side {
+            Side::Rd => put_in_queue(&mut self.rd, m),
+            Side::Wr => put_in_queue(&mut self.wr, m),
+        }
+    }
+
+    /// Puts a message into the queue of a side. A flush empties the queues that its flags name first. Fails
+    /// only when memory runs out: then nothing is changed.
+    fn queue_message(&mut self, side: Side, m: BoxedMessage) -> Result<(), NoMem>
+        requires { queues_on self.old.shape side ≡ true }
+        ensures ok { OnOk result (self.new ≡ with_put (flushed_pair self.old m.kind) side m) }
+        ensures err { OnErr result (self.new ≡ self.old) }
+    {
+        match m.kind {
+            MsgKind::MFlush { r, w, band } => self.queue_flush(side, m, r, w, band),
+            _ => self.queue_other(side, m),
         }
     }
 
@@ -159,10 +279,7 @@ impl<M: ModuleOf> Pair<M> {
                 Ok(outs)
             }
             Put::Queue(m) => {
-                match side {
-                    Side::Rd => put_in_queue(&mut self.rd, m)?,
-                    Side::Wr => put_in_queue(&mut self.wr, m)?,
-                }
+                self.queue_message(side, m)?;
                 Ok(Outs::new())
             }
         }
@@ -176,6 +293,24 @@ impl<M: ModuleOf> Pair<M> {
             Side::Rd => self.rd.is_some(),
             Side::Wr => self.wr.is_some(),
         }
+    }
+
+    /// Whether the stream serves the queue of a side: it is there, and its service procedure is not the
+    /// program's.
+    fn serves(&self, side: Side) -> bool
+        ensures { result ≡ is_served self.now.shape side }
+    {
+        match side {
+            Side::Rd => self.serves_rd,
+            Side::Wr => self.serves_wr,
+        }
+    }
+
+    /// Whether the module has a queue of a side, and its service procedures are the program's (noenable(9F)).
+    pub(crate) fn is_programs(&self, side: Side) -> bool
+        ensures { result ≡ found_programs (Some self.now) side }
+    {
+        self.shape().noenable && self.has_queue(side)
     }
 
     /// The queue of a side, if there is one.
@@ -216,6 +351,36 @@ impl<M: ModuleOf> Pair<M> {
         }
     }
 
+    /// Takes the first message of the queue of a side (getq(9F)). Takes no memory.
+    pub(crate) fn take(&mut self, side: Side) -> Option<BoxedMessage>
+        ensures first { MatchOption result (list_on self.old side ≡ []) (λ m. list_on self.old side ≡ m ∷ list_on self.new side) }
+        ensures pair { self.new ≡ with_list self.old side (drop 1 (list_on self.old side)) }
+        ensures identity { identity_of self.new.shape ≡ identity_of self.old.shape }
+        ensures waits { waits_well self.old ≡ true → waits_well self.new ≡ true }
+    {
+        match side {
+            Side::Rd => take_front(&mut self.rd),
+            Side::Wr => take_front(&mut self.wr),
+        }
+    }
+
+    /// Puts a message back into the queue of a side, before those of its rank (putbq(9F)). It comes back only
+    /// when memory runs out: then nothing is changed.
+    pub(crate) fn put_back(&mut self, side: Side, m: BoxedMessage) -> Result<(), BoxedMessage>
+        requires queue { queues_on self.old.shape side ≡ true }
+        requires program { self.old.shape.noenable ≡ true }
+        ensures ok { OnOk result (self.new ≡ with_list self.old side (put_back_in (list_on self.old side) m)) }
+        ensures err { OnErr result (self.new ≡ self.old) }
+        ensures back { IfErr result (λ same. same ≡ m) }
+        ensures identity { identity_of self.new.shape ≡ identity_of self.old.shape }
+        ensures waits { waits_well self.old ≡ true → waits_well self.new ≡ true }
+    {
+        match side {
+            Side::Rd => put_back_in_queue(&mut self.rd, m),
+            Side::Wr => put_back_in_queue(&mut self.wr, m),
+        }
+    }
+
     /// Lets the module serve the first message of its queue of a side, if one waits.
     fn serve_first(&mut self, alloc: Global, side: Side) -> Result<Outs, NoMem>
         ensures outs { IfOk result (λ outs. outs.items ≡ (pair_front M.Kind.means self.old side (list_on self.old side)).outs) }
@@ -233,14 +398,17 @@ impl<M: ModuleOf> Pair<M> {
         }
     }
 
-    /// Runs the service of a side, as its turn says.
+    /// Runs the service of a side, as its turn says. Nothing is done where it is the program's.
     pub(crate) fn serve(&mut self, alloc: Global, side: Side) -> Result<Outs, NoMem>
         ensures outs { IfOk result (λ outs. outs.items ≡ (pair_serves M.Kind.means self.old side).outs) }
         ensures pair { OnOk result (self.new ≡ (pair_serves M.Kind.means self.old side).pair) }
         ensures identity { identity_of self.new.shape ≡ identity_of self.old.shape }
         ensures waits { waits_well self.old ≡ true → waits_well self.new ≡ true }
     {
-        match self.instance.shape().turn(side) {
+        if self.shape().noenable {
+            return Ok(Outs::new());
+        }
+        match self.shape().turn(side) {
             Turn::Serves => self.serve_first(alloc, side),
             Turn::Shut => Ok(Outs::new()),
             Turn::Sends { .. } => self.instance.own(alloc, side),
@@ -258,10 +426,11 @@ impl<M: ModuleOf> Pair<M> {
     }
 
     /// The offer of the service of a side: the message that it would move now, or one of the module's own.
+    /// Where the service is the program's there is none.
     pub(crate) fn offer(&self, side: Side) -> Option<Offer>
         ensures { result ≡ offer_on M.Kind.means self.now side }
     {
-        if !self.has_queue(side) {
+        if !self.serves(side) {
             return None;
         }
         match self.instance.shape().turn(side) {

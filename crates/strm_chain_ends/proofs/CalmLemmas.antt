@@ -23,14 +23,14 @@ use Rattle.strm_module.proofs.CalmLemmas.{ordinary_calm, put_calm, put_keeps, se
 use Rattle.strm_module.specs.declared.driver.Driver.{Driver}
 use Rattle.strm_module.specs.declared.driver.Driver.TheVariants.{Echo, Loop, Line, Wire}
 use Rattle.strm_module.specs.Driver.{has_end}
-use Rattle.strm_chain_end.specs.Pair.{QueuePair, list_on, after_put, pair_gets, pair_front, pair_turns, pair_serves}
+use Rattle.strm_chain_end.specs.Pair.{QueuePair, list_on, after_put, pair_gets, pair_front, pair_turns, pair_serves, service_turn}
 use Rattle.strm_chain_end.specs.End.{EndState, in_head, pair_at, list_at, found_gets, end_gets, found_serves, end_serves}
 use Rattle.strm_chain_end.specs.Head.{open_head, keeps, put_at_head}
 use Rattle.strm_chain_end.specs.Driver.{consumes, refuses, put_at_line, put_at_loop, options_up, put_at_echo, put_at_wire, driver_at}
 use Rattle.strm_chain_end.specs.Modules.{HoldsCalm}
 use Rattle.strm_chain_end.specs.declared.driver.DriverSends.{DriverSends}
 use Rattle.strm_chain_end.specs.declared.driver.DriverSends.TheVariants.{Nothing, Reply, Across, Options}
-use Rattle.strm_chain_end.proofs.NextLemmas.{front_ordinary}
+use Rattle.strm_chain_end.proofs.NextLemmas.{first_ordinary, found-waits}
 use Rattle.strm_chain_ends.specs.Count.{answers_options, options_driven}
 use Rattle.strm_chain_ends.specs.Held.{is_flush, sets_options}
 use Rattle.strm_chain_ends.proofs.FrameLemmas.{unflushed, pair_there}
@@ -226,6 +226,11 @@ pub record IsServed (old new : List Msg) : Type 0 where
   pub fewer : length new ≤ length old
   pub one : length old ≤ length new + 1
 
+-- a service that serves is the stream's
+serves_itself : (noenable : Bool) (turn : Turn) → cond noenable Shut turn ≡ Serves → noenable ≡ false
+serves_itself true turn h = cc
+serves_itself false turn h = refl
+
 -- for kinds of any meaning
 module _ {K : Type 0} (means : Meaning K) where
   pair_calm : (s : QueuePair K) (side : Side) (m : Msg) → IsCalm means → is_calm m.kind ≡ true → (are_calm (pair_gets means s side m).outs ≡ true) × (length (list_on s side) ≤ length (list_on (pair_gets means s side m).pair side))
@@ -253,8 +258,8 @@ module _ {K : Type 0} (means : Meaning K) where
   front_calm s Wr (m ∷ q) calm at all =
       (serve_calm means s.shape Wr m calm (all m refl), let n = ap length at in record { fewer = omega (arith, n); one = omega (arith, n) })
 
-  turns_calm : (s : QueuePair K) (side : Side) (turn : Turn) → IsCalm means → ((m : Msg) → slice_get (list_on s side) 0 ≡ Some m → is_calm m.kind ≡ true) → (are_calm (pair_turns means s side turn).outs ≡ true) × IsServed (list_on s side) (list_on (pair_turns means s side turn).pair side)
-  turns_calm s side Serves calm all = front_calm s side (list_on s side) calm refl all
+  turns_calm : (s : QueuePair K) (side : Side) (turn : Turn) → IsCalm means → (turn ≡ Serves → (m : Msg) → slice_get (list_on s side) 0 ≡ Some m → is_calm m.kind ≡ true) → (are_calm (pair_turns means s side turn).outs ≡ true) × IsServed (list_on s side) (list_on (pair_turns means s side turn).pair side)
+  turns_calm s side Serves calm all = front_calm s side (list_on s side) calm refl (all refl)
   turns_calm s side Shut calm all = (refl, record { fewer = le_same (length (list_on s side)); one = omega arith })
   turns_calm s Rd (Sends band) calm all = (calm.makes.own s.shape.kind Rd, record { fewer = le_same (length s.rd); one = omega arith })
   turns_calm s Wr (Sends band) calm all = (calm.makes.own s.shape.kind Wr, record { fewer = le_same (length s.wr); one = omega arith })
@@ -264,8 +269,9 @@ module _ {K : Type 0} (means : Meaning K) where
   found_served e i (Some s) side calm ordinary at =
       let new = (pair_serves means s side).pair in
       let is : list_at e i side ≡ list_on s side = rw at refl in
-      let both = turns_calm s side (means.turn s.shape.kind side) calm
-      (λ m first. ordinary_calm m.kind (front_ordinary e side i m ordinary (ap (λ q. slice_get q 0) is ∙ first))) in
+      let waits = found-waits e.modules i s at ordinary.modules in
+      let both = turns_calm s side (service_turn means s.shape side) calm
+      (λ turn m first. ordinary_calm m.kind (first_ordinary s side m waits (serves_itself s.shape.noenable (means.turn s.shape.kind side) turn) first)) in
       (both.0, rw (at, pair_there e.modules i s new at) both.1)
 
   -- a module that serves an ordinary message sends calm ones
@@ -312,7 +318,7 @@ module _ {K : Type 0} (means : Meaning K) where
   found_serves_options : (b : Bool) (e : EndState K) (i : ℕ) (o : Option (QueuePair K)) (side : Side) → IsCalm means → pair_at e.modules i ≡ o → options_held b (list_at (found_serves means e i o side).state i side) + options_sent b (found_serves means e i o side).outs ≤ options_held b (list_at e i side)
   found_serves_options b e i None side calm at = omega arith
   found_serves_options b e i (Some s) side calm at =
-      let less = turns_options b s side (means.turn s.shape.kind side) calm in
+      let less = turns_options b s side (service_turn means s.shape side) calm in
       let new = (pair_serves means s side).pair in
       rw (at, pair_there e.modules i s new at) less
 

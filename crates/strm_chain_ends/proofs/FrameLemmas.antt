@@ -22,7 +22,7 @@ use Rattle.strm_module.specs.declared.outs.Put.TheVariants.{Queue as Queued, Sen
 use Rattle.strm_module.specs.declared.driver.Driver.{Driver}
 use Rattle.strm_module.specs.declared.driver.Driver.TheVariants.{Echo, Loop, Line, Wire}
 use Rattle.strm_module.specs.Driver.{has_end, is_wire}
-use Rattle.strm_chain_end.specs.Pair.{QueuePair, list_on, with_list, flushed_if, flushed_pair, after_put, pair_gets, pair_front, pair_turns, pair_serves}
+use Rattle.strm_chain_end.specs.Pair.{QueuePair, list_on, with_list, flushed_if, flushed_pair, after_put, pair_gets, pair_front, pair_turns, pair_serves, service_turn}
 use Rattle.strm_chain_end.specs.End.{EndState, in_head, in_state, in_drv, pair_at, set_pair, list_found, list_at, found_gets, end_gets, found_serves, end_serves}
 use Rattle.strm_chain_end.specs.Head.{kept_answer, with_errors, open_head, keeps, put_at_head}
 use Rattle.strm_chain_end.specs.Driver.{DriverStep, consumes, put_at_line, put_at_loop, options_up, refuses, put_at_echo, put_at_wire, driver_at}
@@ -357,23 +357,23 @@ take_driver_differs image e new m same first is =
     drv_changes image e (in_drv s q) new same is (drv_alone s q (subst (λ (l : List Msg). IsShift l q) (sym first) (shift_tail m q)))
 
 -- of an end only one queue of a module differs
-record QueueAlone {K : Type 0} (old new : EndState K) (i : ℕ) (side : Side) : Type 0 where
+pub record QueueAlone {K : Type 0} (old new : EndState K) (i : ℕ) (side : Side) : Type 0 where
   marks : new.head_marks ≡ old.head_marks
   head : new.head ≡ old.head
   drv : new.drv ≡ old.drv
   lists : (k : ℕ) (t : Side) → (k ≡ i → t ≡ side → ⊥) → list_at new k t ≡ list_at old k t
   shift : IsShift (list_at old i side) (list_at new i side)
 
-queue_stays : {K : Type 0} (e : EndState K) (i : ℕ) (side : Side) → QueueAlone e e i side
+pub queue_stays : {K : Type 0} (e : EndState K) (i : ℕ) (side : Side) → QueueAlone e e i side
 queue_stays e i side =
     record { marks = refl; head = refl; drv = refl; lists = λ k t apart. refl; shift = shift_same (list_at e i side) }
 
-queue_changes : {K : Type 0} (image : Image K) (e : End) (s : EndState K) (i : ℕ) (side : Side) (new : Image K) → SameModules image new → new ≡ with_end image e s → QueueAlone (end_of image e) s i side → DiffersIn image new (Of (module_place side e i))
+pub queue_changes : {K : Type 0} (image : Image K) (e : End) (s : EndState K) (i : ℕ) (side : Side) (new : Image K) → SameModules image new → new ≡ with_end image e s → QueueAlone (end_of image e) s i side → DiffersIn image new (Of (module_place side e i))
 queue_changes {K = K} image e s i side new same is h =
     subst (λ (j : Image K). DiffersIn image j (Of (module_place side e i))) (sym is) (differs_in_module image e s i side (subst (λ (j : Image K). SameModules image j) is same) h.marks h.head h.drv h.lists h.shift)
 
 -- of a pair only the queue of one side differs
-record PairAlone {K : Type 0} (old new : QueuePair K) (side : Side) : Type 0 where
+pub record PairAlone {K : Type 0} (old new : QueuePair K) (side : Side) : Type 0 where
   others : (t : Side) → (t ≡ side → ⊥) → list_on new t ≡ list_on old t
   shift : IsShift (list_on old side) (list_on new side)
 
@@ -403,7 +403,7 @@ pair_there xs (suc i) old new at = slice_there xs i old new at
 both_found : {K : Type 0} (side : Side) (o p : Option (QueuePair K)) (old new : QueuePair K) → o ≡ Some old → p ≡ Some new → IsShift (list_on old side) (list_on new side) → IsShift (list_found o side) (list_found p side)
 both_found side o p old new ho hp h = rw (ho, hp) h
 
-set_alone : {K : Type 0} (e : EndState K) (i : ℕ) (side : Side) (old new : QueuePair K) → pair_at e.modules i ≡ Some old → PairAlone old new side → QueueAlone e (record e { modules = set_pair e.modules i new }) i side
+pub set_alone : {K : Type 0} (e : EndState K) (i : ℕ) (side : Side) (old new : QueuePair K) → pair_at e.modules i ≡ Some old → PairAlone old new side → QueueAlone e (record e { modules = set_pair e.modules i new }) i side
 set_alone e i side old new at h =
     record {
       marks = refl;
@@ -427,7 +427,7 @@ list_there : {K : Type 0} (s : QueuePair K) (shape : Shape K) (side : Side) (q :
 list_there s shape Rd q = refl
 list_there s shape Wr q = refl
 
-with_list_alone : {K : Type 0} (s : QueuePair K) (shape : Shape K) (side : Side) (q : List Msg) → IsShift (list_on s side) q → PairAlone s (record (with_list s side q) { shape = shape }) side
+pub with_list_alone : {K : Type 0} (s : QueuePair K) (shape : Shape K) (side : Side) (q : List Msg) → IsShift (list_on s side) q → PairAlone s (record (with_list s side q) { shape = shape }) side
 with_list_alone s shape side q h =
     record {
       others = λ t apart. beside_list s shape side t q apart;
@@ -474,7 +474,7 @@ module _ {K : Type 0} (means : Meaning K) where
   found_serves_alone : (e : EndState K) (i : ℕ) (o : Option (QueuePair K)) (side : Side) → pair_at e.modules i ≡ o → QueueAlone e (found_serves means e i o side).state i side
   found_serves_alone e i None side at = queue_stays e i side
   found_serves_alone e i (Some s) side at =
-      set_alone e i side s (pair_serves means s side).pair at (pair_turns_alone s side (means.turn s.shape.kind side))
+      set_alone e i side s (pair_serves means s side).pair at (pair_turns_alone s side (service_turn means s.shape side))
 
   -- a message that is no flush comes to a module
   pub gets_differs : (image : Image K) (e : End) (new : Image K) (i : ℕ) (side : Side) (m : Msg) → SameModules image new → is_flush m.kind ≡ false → new ≡ with_end image e (end_gets means (end_of image e) i side m).state → DiffersIn image new (Of (module_place side e i))

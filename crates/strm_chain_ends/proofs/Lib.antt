@@ -4,6 +4,7 @@ pub mod DueLemmas
 pub mod FrameLemmas
 pub mod CountLemmas
 pub mod PlaceLemmas
+pub mod QueueLemmas
 pub mod CalmLemmas
 mod WorkedExamples
 mod CircleExamples

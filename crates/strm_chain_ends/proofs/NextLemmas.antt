@@ -15,9 +15,11 @@ use Rattle.strm_chain_end.specs.End.{pair_at, list_at}
 use Rattle.strm_chain_end.specs.Modules.{Identity, identity_of, HoldsCalm}
 use Rattle.strm_chain_end.specs.Canput.{head_fill, driver_fill}
 use Rattle.strm_chain_end.specs.Next.{marks_at, identity_at, has_queue, next_below, next_above, queue_at, or_at}
-use Rattle.strm_chain_end.proofs.NextLemmas.{below_is, above_is, queue_at_marks, next_below_once, next_above_once, next_above_last, offer_is, if_some_there}
+use Rattle.strm_chain_end.proofs.NextLemmas.{below_is, above_is, queue_at_marks, next_below_once, next_above_once, next_above_last, offer_is, if_some_there, turn_for}
 use Rattle.strm_module.specs.Kinds.{Meaning}
 use Rattle.strm_chain_end.specs.Offer.{offered, first_offer, offer_by, offer_found, turn_at}
+use Rattle.strm_chain_end.specs.declared.offer.Offer.{Offer}
+use Rattle.strm_module.specs.declared.turn.Turn.{Turn}
 use Rattle.strm_chain_ends.specs.Count.{is_place}
 use Rattle.strm_chain_ends.specs.Flow.{offer_of, turn_of}
 use Rattle.strm_chain_ends.specs.declared.place.Place.{Place}
@@ -82,12 +84,10 @@ marks_but x y (Head e) s heads = ap Some (heads e refl)
 pub marks_same : {K : Type 0} (x y : Image K) (q : NextQueue) → SameWays x y → SameHeadMarks x y → marks_by y q ≡ marks_by x q
 marks_same x y q s heads = marks_but x y q s (λ e _. heads e)
 
--- the first message of a place is that of its queue
-pub front_same : {K : Type 0} (x y : Image K) (p : Place) → SameWays x y → held_by y (Of p) ≡ held_by x (Of p) → front_of y p ≡ front_of x p
-front_same x y (Place.Wr e i) s h = ap (λ q. slice_get q 0) h
-front_same x y (Place.Drv e) s h =
+-- what the driver offers is the first message of its list
+driver_same : {K : Type 0} (x y : Image K) (e : End) → SameWays x y → held_by y (Of (Places.Drv e)) ≡ held_by x (Of (Places.Drv e)) → front_of y (Places.Drv e) ≡ front_of x (Places.Drv e)
+driver_same x y e s h =
     ap (λ d. slice_get (cond (is_serviced d e) (end_of y e).drv []) 0) s.driver ∙ ap (λ q. slice_get (cond (is_serviced x.driver e) q []) 0) h
-front_same x y (Place.Rd e i) s h = ap (λ q. slice_get q 0) h
 
 -- one end and one number, where one queue is next
 downs_meet : (d : Driver) (e f : End) (o p : Option ℕ) (q : NextQueue) → next_down d e o ≡ Some q → next_down d f p ≡ Some q → (e ≡ f) × (o ≡ p)
@@ -221,15 +221,27 @@ front_counted means image (Place.Rd e i) a b h = found_few means (end_of image e
 -- and it is there
 pub offers_there : {K : Type 0} (means : Meaning K) (image : Image K) (p : Place) → is_some (offer_of means image p) ≡ true → is_place image p ≡ true
 offers_there means image (Place.Wr e i) h =
-    if_some_there (has_queue Wr (modules_at image e) i) (offer_by (turn_at means (end_of image e) i Wr) (list_at (end_of image e) i Wr)) (ap is_some (sym (offer_is means (end_of image e) Wr i)) ∙ h)
+    if_some_there (has_queue Wr (modules_at image e) i) (offer_by (turn_for (identity_at (modules_at image e) i) (turn_at means (end_of image e) i Wr)) (list_at (end_of image e) i Wr)) (ap is_some (sym (offer_is means (end_of image e) Wr i)) ∙ h)
 offers_there means image (Place.Drv e) h = offers_driver (is_serviced image.driver e) (end_of image e).drv h
 offers_there means image (Place.Rd e i) h =
-    if_some_there (has_queue Rd (modules_at image e) i) (offer_by (turn_at means (end_of image e) i Rd) (list_at (end_of image e) i Rd)) (ap is_some (sym (offer_is means (end_of image e) Rd i)) ∙ h)
+    if_some_there (has_queue Rd (modules_at image e) i) (offer_by (turn_for (identity_at (modules_at image e) i) (turn_at means (end_of image e) i Rd)) (list_at (end_of image e) i Rd)) (ap is_some (sym (offer_is means (end_of image e) Rd i)) ∙ h)
+
+-- the offer of a module's side: by the modules that are there, by what its service would do, and what waits
+abbrev offer_in : Side → ℕ → List Identity → Turn → List Msg → Option Offer
+offer_in side i ids turn q = cond (has_queue side ids i) (offer_by (turn_for (identity_at ids i) turn) q) None
 
 -- what a place offers rests on what waits there, and on what its service would do
 pub offer_same : {K : Type 0} (means : Meaning K) (x y : Image K) (p : Place) → SameWays x y → turn_of means y p ≡ turn_of means x p → held_by y (Of p) ≡ held_by x (Of p) → offer_of means y p ≡ offer_of means x p
 offer_same means x y (Place.Wr e i) s turn held =
-    offer_is means (end_of y e) Wr i ∙ ap (λ ids. cond (has_queue Wr ids i) (offer_by (turn_at means (end_of y e) i Wr) (list_at (end_of y e) i Wr)) None) (s.modules e) ∙ ap (λ t. cond (has_queue Wr (modules_at x e) i) (offer_by t (list_at (end_of y e) i Wr)) None) turn ∙ ap (λ q. cond (has_queue Wr (modules_at x e) i) (offer_by (turn_at means (end_of x e) i Wr) q) None) held ∙ sym (offer_is means (end_of x e) Wr i)
-offer_same means x y (Place.Drv e) s turn held = ap (λ m. option_map offered m) (front_same x y (Places.Drv e) s held)
+    offer_is means (end_of y e) Wr i
+    ∙ ap (λ ids. offer_in Wr i ids (turn_at means (end_of y e) i Wr) (list_at (end_of y e) i Wr)) (s.modules e)
+    ∙ ap (λ t. offer_in Wr i (modules_at x e) t (list_at (end_of y e) i Wr)) turn
+    ∙ ap (λ q. offer_in Wr i (modules_at x e) (turn_at means (end_of x e) i Wr) q) held
+    ∙ sym (offer_is means (end_of x e) Wr i)
+offer_same means x y (Place.Drv e) s turn held = ap (λ m. option_map offered m) (driver_same x y e s held)
 offer_same means x y (Place.Rd e i) s turn held =
-    offer_is means (end_of y e) Rd i ∙ ap (λ ids. cond (has_queue Rd ids i) (offer_by (turn_at means (end_of y e) i Rd) (list_at (end_of y e) i Rd)) None) (s.modules e) ∙ ap (λ t. cond (has_queue Rd (modules_at x e) i) (offer_by t (list_at (end_of y e) i Rd)) None) turn ∙ ap (λ q. cond (has_queue Rd (modules_at x e) i) (offer_by (turn_at means (end_of x e) i Rd) q) None) held ∙ sym (offer_is means (end_of x e) Rd i)
+    offer_is means (end_of y e) Rd i
+    ∙ ap (λ ids. offer_in Rd i ids (turn_at means (end_of y e) i Rd) (list_at (end_of y e) i Rd)) (s.modules e)
+    ∙ ap (λ t. offer_in Rd i (modules_at x e) t (list_at (end_of y e) i Rd)) turn
+    ∙ ap (λ q. offer_in Rd i (modules_at x e) (turn_at means (end_of x e) i Rd) q) held
+    ∙ sym (offer_is means (end_of x e) Rd i)

@@ -16,7 +16,7 @@ use Rattle.strm_module.specs.declared.outs.Put.{Put}
 use Rattle.strm_module.specs.declared.outs.Put.TheVariants.{Queue as Queued, Sent}
 use Rattle.strm_module.specs.declared.turn.Turn.{Turn}
 use Rattle.strm_module.specs.declared.turn.Turn.TheVariants.{Serves, Shut, Sends}
-use Rattle.strm_chain_end.specs.Pair.{QueuePair, list_on, flushed_pair, after_put, pair_gets, pair_front, pair_turns, pair_serves}
+use Rattle.strm_chain_end.specs.Pair.{QueuePair, list_on, flushed_pair, after_put, pair_gets, pair_front, pair_turns, pair_serves, service_turn}
 use Rattle.strm_chain_end.specs.End.{EndState, in_head, pair_at, set_pair, found_gets, found_serves, end_gets, end_serves}
 use Rattle.strm_chain_end.specs.Head.{open_head, keeps, put_at_head}
 use Rattle.strm_chain_end.specs.Offer.{turn_found}
@@ -171,7 +171,7 @@ module _ {K : Type 0} (means : Meaning K) (calm : IsCalm means) where
   serves_found e i None side t at = refl
   serves_found e i (Some s) side t at =
       ap (λ o. turn_found means o t) (pair_there e.modules i s (pair_serves means s side).pair at)
-      ∙ turn_steady s side t (means.turn s.shape.kind side)
+      ∙ turn_steady s side t (service_turn means s.shape side)
       ∙ ap (λ o. turn_found means o t) (sym at)
 
   own_end : (image : Image K) (e : End) (s : EndState K) → end_of (with_end image e s) e ≡ s

@@ -24,7 +24,7 @@ five = record { hi = 5; lo = 4 }
 
 abbrev module_with : Option WaterMarks → Option WaterMarks → QueuePair Kind
 module_with rd wr =
-    record { shape = record { serial = 1; name = record { items = 109 ∷ [] }; rd = rd; wr = wr; kind = Pass }; rd = []; wr = [] }
+    record { shape = record { serial = 1; name = record { items = 109 ∷ [] }; rd = rd; wr = wr; noenable = false; kind = Pass }; rd = []; wr = [] }
 
 abbrev queued : QueuePair Kind
 queued = module_with (Some five) (Some five)

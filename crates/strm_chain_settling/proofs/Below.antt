@@ -10,8 +10,8 @@ use Rattle.strm_msg.specs.declared.words.Side.{Side}
 use Rattle.strm_msg.specs.declared.words.Side.TheVariants.{Rd, Wr}
 use Rattle.strm_module.specs.Kinds.{OutList, Meaning}
 use Rattle.strm_module.specs.Driver.{is_serviced}
-use Rattle.strm_chain_end.specs.Pair.{QueuePair, list_on}
-use Rattle.strm_chain_end.specs.End.{EndState, pair_at, set_pair, list_found, list_at}
+use Rattle.strm_chain_end.specs.Pair.{QueuePair, served_on}
+use Rattle.strm_chain_end.specs.End.{EndState, pair_at, set_pair, served_found, served_at}
 use Rattle.strm_chain_ends.specs.Image.{Image, end_of, with_end, count_of}
 use Rattle.strm_chain.specs.Deliver.{Sender, SenderPast}
 use Rattle.strm_chain_settling.proofs.ListLemmas.{set_found, set_mapped}
@@ -63,12 +63,12 @@ module _ {K : Type 0} (w : Ranking K) where
   -- a module, an end and an image that hold no more from a rank on, with the same roles
   pub record PairBelow (r : ℕ) (e : End) (i : ℕ) (s t : QueuePair K) : Type 0 where
     pub role_same : role t ≡ role s
-    pub lists : (side : Side) → r ≤ w.waits side e i → length (list_on t side) ≤ length (list_on s side)
+    pub lists : (side : Side) → r ≤ w.waits side e i → length (served_on t side) ≤ length (served_on s side)
     pub debts : (side : Side) → r ≤ w.owes side e i → w.debt t.shape.kind side ≤ w.debt s.shape.kind side
 
   pub record EndBelow (r : ℕ) (e : End) (s t : EndState K) : Type 0 where
     pub roles : roles_at t ≡ roles_at s
-    pub lists : (side : Side) (i : ℕ) → r ≤ w.waits side e i → length (list_at t i side) ≤ length (list_at s i side)
+    pub lists : (side : Side) (i : ℕ) → r ≤ w.waits side e i → length (served_at t i side) ≤ length (served_at s i side)
     pub debts : (side : Side) (i : ℕ) → r ≤ w.owes side e i → debt_at t i side ≤ debt_at s i side
     pub drv : is_serviced w.driver e ≡ true → r ≤ w.drives e → length t.drv ≤ length s.drv
 
@@ -81,7 +81,7 @@ module _ {K : Type 0} (w : Ranking K) where
   end_same r e s t same less =
       record {
         roles = ap (λ l. map role l) same;
-        lists = λ side i h. let n = ap (λ l. length (list_found (pair_at l i) side)) same in omega (arith, n);
+        lists = λ side i h. let n = ap (λ l. length (served_found (pair_at l i) side)) same in omega (arith, n);
         debts = λ side i h. let n = ap (λ l. debt_found (pair_at l i) side) same in omega (arith, n);
         drv = less;
       }
@@ -121,9 +121,9 @@ module _ {K : Type 0} (w : Ranking K) where
   below_with r x e s h = record { driver = with_driver x e s; ends = ends_with r x e s h }
 
   -- one module changes, and the others stay
-  lists_set : (r : ℕ) (e : End) (i : ℕ) (s t : QueuePair K) (o p : Option (QueuePair K)) (side : Side) (j : ℕ) → PairBelow r e i s t → ((j ≡ i) × (o ≡ Some s) × (p ≡ Some t)) ⊎ (p ≡ o) → r ≤ w.waits side e j → length (list_found p side) ≤ length (list_found o side)
+  lists_set : (r : ℕ) (e : End) (i : ℕ) (s t : QueuePair K) (o p : Option (QueuePair K)) (side : Side) (j : ℕ) → PairBelow r e i s t → ((j ≡ i) × (o ≡ Some s) × (p ≡ Some t)) ⊎ (p ≡ o) → r ≤ w.waits side e j → length (served_found p side) ≤ length (served_found o side)
   lists_set r e i s t o p side j b (inl h) less = rw (h.1, h.2) (b.lists side (subst (λ k. r ≤ w.waits side e k) h.0 less))
-  lists_set r e i s t o p side j b (inr h) less = rw h (le_same (length (list_found o side)))
+  lists_set r e i s t o p side j b (inr h) less = rw h (le_same (length (served_found o side)))
 
   debts_set : (r : ℕ) (e : End) (i : ℕ) (s t : QueuePair K) (o p : Option (QueuePair K)) (side : Side) (j : ℕ) → PairBelow r e i s t → ((j ≡ i) × (o ≡ Some s) × (p ≡ Some t)) ⊎ (p ≡ o) → r ≤ w.owes side e j → debt_found p side ≤ debt_found o side
   debts_set r e i s t o p side j b (inl h) less = rw (h.1, h.2) (b.debts side (subst (λ k. r ≤ w.owes side e k) h.0 less))

@@ -9,7 +9,7 @@ use Rattle.strm_msg.specs.declared.words.Side.{Side}
 use Rattle.strm_msg.specs.declared.words.Side.TheVariants.{Rd, Wr}
 use Rattle.strm_module.specs.Driver.{is_serviced, partner}
 use Rattle.strm_chain_end.specs.Pair.{QueuePair, PairStep, pair_gets, pair_serves}
-use Rattle.strm_chain_end.specs.End.{EndState, in_drv, pair_at, set_pair, list_found, list_at, found_gets, found_serves}
+use Rattle.strm_chain_end.specs.End.{EndState, in_drv, pair_at, set_pair, served_found, served_at, found_gets, found_serves}
 use Rattle.strm_chain_end.specs.Offer.{first_offer, offer_found}
 use Rattle.strm_chain_end.specs.declared.offer.Offer.{Offer}
 use Rattle.strm_chain_ends.specs.declared.place.Place.{Place}
@@ -93,7 +93,7 @@ module _ {K : Type 0} (w : Ranking K) (laws : IsOrderly w.means w.debt) (ranked 
 
   -- y holds less than x of one thing that may move, and no more of all else from its rank on
   pub data Fell (x y : Image K) : Type 0 where
-    queue : (side : Side) (e : End) (i : ℕ) → 1 ≤ i → i ≤ modules_of w e → Below w (w.waits side e i) x y → length (list_at (end_of y e) i side) < length (list_at (end_of x e) i side) → Fell x y
+    queue : (side : Side) (e : End) (i : ℕ) → 1 ≤ i → i ≤ modules_of w e → Below w (w.waits side e i) x y → length (served_at (end_of y e) i side) < length (served_at (end_of x e) i side) → Fell x y
     own : (side : Side) (e : End) (i : ℕ) → 1 ≤ i → i ≤ modules_of w e → Below w (w.owes side e i) x y → debt_at w (end_of y e) i side < debt_at w (end_of x e) i side → Fell x y
     drv : (e : End) → is_serviced w.driver e ≡ true → Below w (w.drives e) x y → length (end_of y e).drv < length (end_of x e).drv → Fell x y
 
@@ -127,8 +127,8 @@ module _ {K : Type 0} (w : Ranking K) (laws : IsOrderly w.means w.debt) (ranked 
       let r = w.waits side e i in
       let both = carried_below r (P r) on (each r) image e i s step frame at h.0 h.2 in
       let less = (both.0.ends e).lists side i (le_same r) in
-      let was = ap (λ o. length (list_found o side)) at in
-      let is = ap (λ o. length (list_found o side)) (pair_after image e i s step.pair at) in
+      let was = ap (λ o. length (served_found o side)) at in
+      let is = ap (λ o. length (served_found o side)) (pair_after image e i s step.pair at) in
       let fewer = h.1 in
       queue side e i (found_first (end_of image e).modules i s at) (there_within image e i s frame at) both.1 (omega (arith, less, was, is, fewer))
   carried_fell P on each image e i side s step frame at (inr h) =

@@ -17,7 +17,7 @@ use Rattle.strm_module.specs.declared.outs.Put.TheVariants.{Queue as Queued, Sen
 use Rattle.strm_module.specs.Kinds.{OutList, is_up}
 use Rattle.strm_module.specs.Shape.{queues_on}
 use Rattle.strm_module.specs.Module.{Taken, is_queued}
-use Rattle.strm_chain_end.specs.Pair.{QueuePair, PairStep, list_on, with_list, flushed_pair, after_put, pair_gets, pair_front, pair_turns, pair_serves}
+use Rattle.strm_chain_end.specs.Pair.{QueuePair, PairStep, list_on, served_on, with_list, flushed_pair, after_put, pair_gets, pair_front, pair_turns, pair_serves, service_turn}
 use Rattle.strm_chain_end.specs.Offer.{first_offer, offer_by, offer_on}
 use Rattle.strm_chain_end.specs.declared.offer.Offer.{Offer}
 use Rattle.strm_chain_settling.specs.Orderly.{ups_are_high, IsOrderly}
@@ -157,6 +157,14 @@ module _ {K : Type 0} (w : Ranking K) (laws : IsOrderly w.means w.debt) (ranked 
   put_lists s kind shape Rd Wr r x q low high = flushed_lists s kind shape Wr
   put_lists s kind shape Wr Rd r x q low high = flushed_lists s kind shape Rd
 
+  -- what a stream serves grows no more than the queue, and is nothing for good where the program serves
+  served_by : (noenable : Bool) (now before : List Msg) → (noenable ≡ false → length now ≤ length before) → length (cond noenable [] now) ≤ length (cond noenable [] before)
+  served_by true now before less = le_same 0
+  served_by false now before less = less refl
+
+  served_less : (s t : QueuePair K) (side : Side) → t.shape.noenable ≡ s.shape.noenable → (s.shape.noenable ≡ false → length (list_on t side) ≤ length (list_on s side)) → length (served_on t side) ≤ length (served_on s side)
+  served_less s t side same less = rw same (served_by s.shape.noenable (list_on t side) (list_on s side) less)
+
   -- a message that comes to a module, by whether it is queued
   abbrev put_if : QueuePair K → Side → Msg → Bool → Taken K
   put_if s side m queued =
@@ -171,20 +179,22 @@ module _ {K : Type 0} (w : Ranking K) (laws : IsOrderly w.means w.debt) (ranked 
   list_shape s Rd q = refl
   list_shape s Wr q = refl
 
-  -- only an ordinary message is queued
-  ordinary_waits : (high queues : Bool) → (not high && queues) ≡ true → high ≡ false
-  ordinary_waits true queues h = cc
-  ordinary_waits false queues h = refl
+  -- only an ordinary message is queued where the stream serves
+  ordinary_waits : (noenable high queues : Bool) → ((noenable || not high) && queues) ≡ true → noenable ≡ false → high ≡ false
+  ordinary_waits true high queues h served = cc
+  ordinary_waits false true queues h served = cc
+  ordinary_waits false false queues h served = refl
 
   got_below : (r : ℕ) (e : End) (i : ℕ) (s : QueuePair K) (side : Side) (m : Msg) (P : Side × Msg → Type 0) (b : Bool) → IsThere e i s → is_queued s.shape side m ≡ b → (is_high m.kind ≡ false → w.waits side e i < r) → Each P (w.means.acts s.shape.kind side m).outs → PairBelow w r e i s (got s side m b).pair × Each P (got s side m b).outs
   got_below r e i s side m P true there is low outs =
-      let h = low (ordinary_waits (is_high m.kind) (queues_on s.shape side) is) in
       let flushed : QueuePair K = record (flushed_pair s m.kind) { shape = s.shape } in
       let q = put_in (list_on flushed side) m in
       let shape = list_shape flushed side q in (
         record {
           role_same = ap (λ (x : Shape K). record { answers = w.means.answers x.kind Rd; turns = w.means.answers x.kind Wr }) shape;
-          lists = λ other high. put_lists s m.kind s.shape side other r (w.waits other e i) q (λ same. subst (λ x. w.waits x e i < r) (sym same) h) high;
+          lists = λ other high. served_less s (with_list flushed side q) other (ap (λ (x : Shape K). x.noenable) shape) (λ served.
+              let h = low (ordinary_waits s.shape.noenable (is_high m.kind) (queues_on s.shape side) is served) in
+              put_lists s m.kind s.shape side other r (w.waits other e i) q (λ same. subst (λ x. w.waits x e i < r) (sym same) h) high);
           debts = λ owing high. subst (λ (x : Shape K). w.debt x.kind owing ≤ w.debt s.shape.kind owing) (sym shape) (le_same (w.debt s.shape.kind owing));
         },
         tt,
@@ -193,7 +203,7 @@ module _ {K : Type 0} (w : Ranking K) (laws : IsOrderly w.means w.debt) (ranked 
       let shape : Shape K = record s.shape { kind = (w.means.acts s.shape.kind side m).kind } in (
         record {
           role_same = same_role s (got s side m false).pair (λ other. laws.stays.acts s.shape.kind side other m);
-          lists = λ other high. flushed_lists s m.kind shape other;
+          lists = λ other high. served_less s (got s side m false).pair other refl (λ served. flushed_lists s m.kind shape other);
           debts = λ owing high. acts_owed r e i s side owing m (is_high m.kind) there refl (λ ordinary. let h = low ordinary in omega (arith, h)) high;
         },
         outs,
@@ -207,7 +217,7 @@ module _ {K : Type 0} (w : Ranking K) (laws : IsOrderly w.means w.debt) (ranked 
   -- it grew, and what leaves is in P at that rank
   abbrev pub Took : (ℕ → Side × Msg → Type 0) → End → ℕ → Side → QueuePair K → PairStep K → Type 0
   Took P e i side s step =
-      (PairBelow w (w.waits side e i) e i s step.pair × (length (list_on step.pair side) < length (list_on s side)) × Each (P (w.waits side e i)) step.outs)
+      (PairBelow w (w.waits side e i) e i s step.pair × (length (served_on step.pair side) < length (served_on s side)) × Each (P (w.waits side e i)) step.outs)
       ⊎ (PairBelow w (w.owes side e i) e i s step.pair × (w.debt step.pair.shape.kind side < w.debt s.shape.kind side) × Each (P (w.owes side e i)) step.outs)
 
   front_lists : (s : QueuePair K) (side other : Side) (shape : Shape K) (m : Msg) (q : List Msg) → list_on s side ≡ m ∷ q → length (list_on (record (with_list s side q) { shape = shape }) other) ≤ length (list_on s other)
@@ -220,17 +230,21 @@ module _ {K : Type 0} (w : Ranking K) (laws : IsOrderly w.means w.debt) (ranked 
   front_less s Rd shape m q at = let n = ap length at in omega (arith, n)
   front_less s Wr shape m q at = let n = ap length at in omega (arith, n)
 
-  front_took : (e : End) (i : ℕ) (s : QueuePair K) (side : Side) (P : ℕ → Side × Msg → Type 0) (q : List Msg) → IsThere e i s → list_on s side ≡ q → is_some (first_offer q) ≡ true → ((m : Msg) → Each (P (w.waits side e i)) (w.means.acts s.shape.kind side m).outs) → Took P e i side s (pair_front w.means s side q)
-  front_took e i s side P [] there at some outs = cc
-  front_took e i s side P (m ∷ q) there at some outs =
+  -- and so it is of what the stream serves, where it serves
+  served_fewer : (s t : QueuePair K) (side : Side) → t.shape.noenable ≡ false → s.shape.noenable ≡ false → length (list_on t side) < length (list_on s side) → length (served_on t side) < length (served_on s side)
+  served_fewer s t side new old less = rw (new, old) less
+
+  front_took : (e : End) (i : ℕ) (s : QueuePair K) (side : Side) (P : ℕ → Side × Msg → Type 0) (q : List Msg) → IsThere e i s → s.shape.noenable ≡ false → list_on s side ≡ q → is_some (first_offer q) ≡ true → ((m : Msg) → Each (P (w.waits side e i)) (w.means.acts s.shape.kind side m).outs) → Took P e i side s (pair_front w.means s side q)
+  front_took e i s side P [] there served at some outs = cc
+  front_took e i s side P (m ∷ q) there served at some outs =
       let shape : Shape K = record s.shape { kind = (w.means.acts s.shape.kind side m).kind } in
       inl (
         record {
           role_same = same_role s (record (with_list s side q) { shape = shape }) (λ other. laws.stays.acts s.shape.kind side other m);
-          lists = λ other high. front_lists s side other shape m q at;
+          lists = λ other high. served_less s (record (with_list s side q) { shape = shape }) other refl (λ none. front_lists s side other shape m q at);
           debts = λ owing high. acts_owed (w.waits side e i) e i s side owing m (is_high m.kind) there refl (λ ordinary. le_same (w.waits side e i)) high;
         },
-        front_less s side shape m q at,
+        served_fewer s (record (with_list s side q) { shape = shape }) side served served (front_less s side shape m q at),
         outs m,
       )
 
@@ -245,15 +259,15 @@ module _ {K : Type 0} (w : Ranking K) (laws : IsOrderly w.means w.debt) (ranked 
   shape_lists s shape Rd = le_same (length s.rd)
   shape_lists s shape Wr = le_same (length s.wr)
 
-  turns_took : (e : End) (i : ℕ) (s : QueuePair K) (side : Side) (P : ℕ → Side × Msg → Type 0) (turn : Turn) → IsThere e i s → w.means.turn s.shape.kind side ≡ turn → is_some (offer_by turn (list_on s side)) ≡ true → ((m : Msg) → Each (P (w.waits side e i)) (w.means.acts s.shape.kind side m).outs) → ((band : Option ℕ) → w.means.turn s.shape.kind side ≡ Sends band → Each (P (w.owes side e i)) (w.means.own s.shape.kind side).outs) → Took P e i side s (pair_turns w.means s side turn)
-  turns_took e i s side P Serves there is some outs own = front_took e i s side P (list_on s side) there refl some outs
-  turns_took e i s side P Shut there is some outs own = cc
-  turns_took e i s side P (Sends band) there is some outs own =
+  turns_took : (e : End) (i : ℕ) (s : QueuePair K) (side : Side) (P : ℕ → Side × Msg → Type 0) (turn : Turn) → IsThere e i s → s.shape.noenable ≡ false → w.means.turn s.shape.kind side ≡ turn → is_some (offer_by turn (list_on s side)) ≡ true → ((m : Msg) → Each (P (w.waits side e i)) (w.means.acts s.shape.kind side m).outs) → ((band : Option ℕ) → w.means.turn s.shape.kind side ≡ Sends band → Each (P (w.owes side e i)) (w.means.own s.shape.kind side).outs) → Took P e i side s (pair_turns w.means s side turn)
+  turns_took e i s side P Serves there served is some outs own = front_took e i s side P (list_on s side) there served refl some outs
+  turns_took e i s side P Shut there served is some outs own = cc
+  turns_took e i s side P (Sends band) there served is some outs own =
       let shape : Shape K = record s.shape { kind = (w.means.own s.shape.kind side).kind } in
       inr (
         record {
           role_same = same_role s (record s { shape = shape }) (λ other. laws.stays.own s.shape.kind side other);
-          lists = λ other high. shape_lists s shape other;
+          lists = λ other high. served_less s (record s { shape = shape }) other refl (λ none. shape_lists s shape other);
           debts = λ owing high. own_owed s side owing band is;
         },
         laws.owns s.shape.kind side band is,
@@ -264,10 +278,15 @@ module _ {K : Type 0} (w : Ranking K) (laws : IsOrderly w.means w.debt) (ranked 
   offered true offer h = h
   offered false offer h = cc
 
+  -- a side that offers something is served by the stream
+  turns_by : (e : End) (i : ℕ) (s : QueuePair K) (side : Side) (P : ℕ → Side × Msg → Type 0) (noenable : Bool) → IsThere e i s → s.shape.noenable ≡ noenable → is_some (offer_by (cond noenable Shut (w.means.turn s.shape.kind side)) (list_on s side)) ≡ true → ((m : Msg) → Each (P (w.waits side e i)) (w.means.acts s.shape.kind side m).outs) → ((band : Option ℕ) → w.means.turn s.shape.kind side ≡ Sends band → Each (P (w.owes side e i)) (w.means.own s.shape.kind side).outs) → Took P e i side s (pair_turns w.means s side (cond noenable Shut (w.means.turn s.shape.kind side)))
+  turns_by e i s side P true there is some outs own = cc
+  turns_by e i s side P false there is some outs own = turns_took e i s side P (w.means.turn s.shape.kind side) there is refl some outs own
+
   -- the service of a side that offers something
   pub serves_took : (e : End) (i : ℕ) (s : QueuePair K) (side : Side) (P : ℕ → Side × Msg → Type 0) → IsThere e i s → is_some (offer_on w.means s side) ≡ true → ((m : Msg) → Each (P (w.waits side e i)) (w.means.acts s.shape.kind side m).outs) → ((band : Option ℕ) → w.means.turn s.shape.kind side ≡ Sends band → Each (P (w.owes side e i)) (w.means.own s.shape.kind side).outs) → Took P e i side s (pair_serves w.means s side)
   serves_took e i s side P there some outs own =
-      turns_took e i s side P (w.means.turn s.shape.kind side) there refl (offered (queues_on s.shape side) (offer_by (w.means.turn s.shape.kind side) (list_on s side)) some) outs own
+      turns_by e i s side P s.shape.noenable there refl (offered (queues_on s.shape side) (offer_by (service_turn w.means s.shape side) (list_on s side)) some) outs own
 
 -- no data is high
 pub data_low : (m : Msg) → m.kind ≡ MData → is_high m.kind ≡ true → ⊥

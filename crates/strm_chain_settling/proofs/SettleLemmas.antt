@@ -8,7 +8,7 @@ use Rattle.strm_msg.specs.declared.words.End.TheVariants.{A, B}
 use Rattle.strm_msg.specs.declared.words.Side.{Side}
 use Rattle.strm_msg.specs.declared.words.Side.TheVariants.{Rd, Wr}
 use Rattle.strm_module.specs.Driver.{is_serviced}
-use Rattle.strm_chain_end.specs.End.{EndState, list_at}
+use Rattle.strm_chain_end.specs.End.{EndState, served_at}
 use Rattle.strm_chain_ends.specs.Image.{Image, end_of}
 use Rattle.strm_chain.specs.Service.{move}
 use Rattle.strm_chain_settling.specs.Ends.{Ends}
@@ -52,7 +52,7 @@ module _ {K : Type 0} (w : Ranking K) where
   -- what of a rank may still move of a module, of n modules and their driver's list, and of both ends
   abbrev side_held : ℕ → End → ℕ → Side → EndState K → ℕ
   side_held r e i side s =
-      messages_of_rank r (w.waits side e i) (length (list_at s i side)) + messages_of_rank r (w.owes side e i) (debt_at w s i side)
+      messages_of_rank r (w.waits side e i) (length (served_at s i side)) + messages_of_rank r (w.owes side e i) (debt_at w s i side)
 
   abbrev module_held : ℕ → End → ℕ → EndState K → ℕ
   module_held r e i s = side_held r e i Rd s + side_held r e i Wr s
@@ -71,7 +71,7 @@ module _ {K : Type 0} (w : Ranking K) where
   module _ (q r : ℕ) (low : q ≤ r) (e : End) (s t : EndState K) (below : EndBelow w q e s t) where
     side_less : (i : ℕ) (side : Side) → side_held r e i side t ≤ side_held r e i side s
     side_less i side =
-        let p = at_less q r (w.waits side e i) (length (list_at t i side)) (length (list_at s i side)) low (below.lists side i) in
+        let p = at_less q r (w.waits side e i) (length (served_at t i side)) (length (served_at s i side)) low (below.lists side i) in
         let o = at_less q r (w.owes side e i) (debt_at w t i side) (debt_at w s i side) low (below.debts side i) in
         omega (arith, p, o)
 
@@ -146,7 +146,7 @@ module _ {K : Type 0} (w : Ranking K) (laws : IsOrderly w.means w.debt) (ranked 
   fell_falls x y (queue side e i first last below less) =
       let r = w.waits side e i in
       let there = bounded.waits side e i last in
-      let q = at_falls r (length (list_at (end_of y e) i side)) (length (list_at (end_of x e) i side)) less in
+      let q = at_falls r (length (served_at (end_of y e) i side)) (length (served_at (end_of x e) i side)) less in
       let o = at_less r r (w.owes side e i) (debt_at w (end_of y e) i side) (debt_at w (end_of x e) i side) (le_same r) ((below.ends e).debts side i) in
       let here : side_held w r e i side (end_of y e) < side_held w r e i side (end_of x e) = omega (arith, q, o) in
       levels_fall w most r x y there below
@@ -156,7 +156,7 @@ module _ {K : Type 0} (w : Ranking K) (laws : IsOrderly w.means w.debt) (ranked 
       let there = bounded.waits side e i last in
       let under = ranked.owed side e i in
       let o = at_falls r (debt_at w (end_of y e) i side) (debt_at w (end_of x e) i side) less in
-      let q = at_less r r (w.waits side e i) (length (list_at (end_of y e) i side)) (length (list_at (end_of x e) i side)) (le_same r) ((below.ends e).lists side i) in
+      let q = at_less r r (w.waits side e i) (length (served_at (end_of y e) i side)) (length (served_at (end_of x e) i side)) (le_same r) ((below.ends e).lists side i) in
       let here : side_held w r e i side (end_of y e) < side_held w r e i side (end_of x e) = omega (arith, q, o) in
       levels_fall w most r x y (omega (arith, there, under)) below
       (held_falls w r e x y below (end_falls w r r (le_same r) e (end_of x e) (end_of y e) (below.ends e) (modules_of w e) i side first last here))

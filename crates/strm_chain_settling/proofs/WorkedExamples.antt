@@ -99,7 +99,7 @@ five = record { hi = 5; lo = 4 }
 
 abbrev module_with : ℕ → List Msg → QueuePair ℕ
 module_with n rd =
-    record { shape = record { serial = 1; name = record { items = 101 ∷ [] }; rd = Some five; wr = Some five; kind = n }; rd = rd; wr = [] }
+    record { shape = record { serial = 1; name = record { items = 101 ∷ [] }; rd = Some five; wr = Some five; noenable = false; kind = n }; rd = rd; wr = [] }
 
 abbrev end_with : List (QueuePair ℕ) → List Msg → EndState ℕ
 end_with modules drv =

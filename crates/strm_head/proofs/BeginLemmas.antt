@@ -8,7 +8,7 @@ use Rattle.strm_chain_ends.specs.Image.{Image, end_of}
 use Rattle.strm_chain.specs.Deliver.{is_there}
 use Rattle.strm_chain.specs.declared.spot.Spot.TheVariants.{Down}
 use Rattle.strm_head_calls.specs.declared.request.Request.{Request}
-use Rattle.strm_head_calls.specs.declared.request.Request.TheVariants.{Close, Take, Poll}
+use Rattle.strm_head_calls.specs.declared.request.Request.TheVariants.{Close, Take, Service, Poll}
 use Rattle.strm_head_calls.specs.declared.refusal.Refusal.{Refusal}
 use Rattle.strm_head_calls.specs.declared.refusal.Refusal.TheVariants.{Closed, Broken}
 use Rattle.strm_head_calls.specs.Refusal.{first_that_holds}
@@ -45,6 +45,7 @@ ready_of means image e request kept h other finds =
 
 pub may_begin : {K : Type 0} (means : Meaning K) (image : Image K) (e : End) (request : Request (Shape K)) → IsWholeStream means image → refusal_of means image e request ≡ None → MayBegin image e request
 may_begin means image e Close kept h = kept.ends
+may_begin means image e (Service name side call) kept h = kept.ends
 may_begin means image e Take kept h = tt
 may_begin means image e Poll kept h = tt
 may_begin means image e request kept h = ready_of means image e request kept h refl refl

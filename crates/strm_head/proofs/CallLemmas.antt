@@ -11,7 +11,7 @@ use Rattle.strm_chain_ends.specs.Image.{Image, end_of}
 use Rattle.strm_chain_ends.specs.Flow.{NoneMay}
 use Rattle.strm_chain.specs.Fault.{Breaks}
 use Rattle.strm_head_calls.specs.declared.request.Request.{Request}
-use Rattle.strm_head_calls.specs.declared.request.Request.TheVariants.{Read, Push, Pop, Str, Close, Take, Poll}
+use Rattle.strm_head_calls.specs.declared.request.Request.TheVariants.{Read, Push, Pop, Str, Close, Take, Service, Poll}
 use Rattle.strm_head_calls.specs.declared.refusal.Refusal.{Refusal}
 use Rattle.strm_head_calls.specs.Refusal.{first_that_holds}
 use Rattle.strm_head_calls.specs.declared.answer.Reply.{Reply}
@@ -25,6 +25,7 @@ use Rattle.strm_head_calls.specs.Request.{changes_no_queue}
 use Rattle.strm_head.specs.Effects.{effect_of, refusal_of, awaits_answer, takes_no_memory_at, can_lack_memory, pushed_of, errors_looked_at, error_refusals, closed_refusals, common_refusals, own_refusals, finds_whole, handed_out, back_of, out_of, serials_of, is_no_memory, wants_memory, BreaksNone, takes_no_memory}
 use Rattle.strm_head.specs.TakesEffect.{needs_no_service}
 use Rattle.strm_head_ioctl.specs.Outside.{take_refusals}
+use Rattle.strm_head_service.specs.Serve.{service_refusals}
 use Rattle.strm_head_ioctl.proofs.OutsideLemmas.{taken_none, taken_plain}
 use Rattle.strm_head.specs.Inside.{IsWholeStream}
 use Rattle.strm_head.specs.Step.{Answers, Finishes, SettlesUnless, answered_if}
@@ -213,6 +214,7 @@ own_are_other means image e request = refl
 pub refused_memory : {K : Type 0} (means : Meaning K) (image : Image K) (e : End) (request : Request (Shape K)) (refusal : Refusal) → refusal_of means image e request ≡ Some refusal → wants_memory (Refused refusal) ≡ false
 refused_memory means image e Close refusal is = rows_not_memory (closed_refusals image e) refl refusal is
 refused_memory means image e Take refusal is = rows_not_memory (take_refusals image e) refl refusal is
+refused_memory means image e (Service name side call) refusal is = rows_not_memory (service_refusals image e name.items side call) refl refusal is
 refused_memory means image e Poll refusal is = cc
 refused_memory means image e request refusal is =
     let state = (end_of image e).state in

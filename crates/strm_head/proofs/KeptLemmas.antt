@@ -32,7 +32,7 @@ use Rattle.strm_chain.proofs.QuietLemmas.{same_end}
 use Rattle.strm_chain.proofs.SameLemmas.{deliver_keeps, leads_keeps, with_end_keeps}
 use Rattle.strm_chain.proofs.OrderLemmas.{delivered_ordered, led_ordered}
 use Rattle.strm_head_calls.specs.declared.request.Request.{Request}
-use Rattle.strm_head_calls.specs.declared.request.Request.TheVariants.{Putmsg, Putpmsg, Getmsg, Getpmsg, Read, Write, Push, Nread, Peek, SetRead, GetRead, Canput, Ckband, Getband, Pop, Look, Find, Str, Flush, FlushBand, Close, Take, Poll}
+use Rattle.strm_head_calls.specs.declared.request.Request.TheVariants.{Putmsg, Putpmsg, Getmsg, Getpmsg, Read, Write, Push, Nread, Peek, SetRead, GetRead, Canput, Ckband, Getband, Pop, Look, Find, Str, Flush, FlushBand, Close, Take, Service, Poll}
 use Rattle.strm_head_calls.specs.declared.request.Request.TheVariants as Requests
 use Rattle.strm_head_calls.specs.declared.refusal.Refusal.{Refusal}
 use Rattle.strm_head_calls.specs.declared.refusal.Refusal.TheVariants.{Closed, Broken, Invalid, HungUp, WouldWait}
@@ -40,12 +40,14 @@ use Rattle.strm_head_calls.specs.declared.answer.Reply.{Reply}
 use Rattle.strm_head_calls.specs.declared.answer.Answer.{Answer}
 use Rattle.strm_head_calls.specs.declared.answer.Answer.TheVariants.{Done, Refused, Broke}
 use Rattle.strm_head_calls.specs.Refusal.{first_that_holds}
-use Rattle.strm_head_calls.specs.Effect.{Effect}
+use Rattle.strm_head_calls.specs.Effect.{Effect, effect}
 use Rattle.strm_head_msg.specs.Send.{sent_of, putmsg_message, putpmsg_message, ordinary_message}
 use Rattle.strm_head_ioctl.specs.Ioctl.{asked_of}
 use Rattle.strm_head_ioctl.specs.Close.{closed_image, hung_up_if, after_close, HasItsEnds}
 use Rattle.strm_head_ioctl.proofs.CloseLemmas.{hung_up_keeps}
 use Rattle.strm_head_calls.specs.Request.{changes_no_queue}
+use Rattle.strm_head_service.specs.Own.{own_at}
+use Rattle.strm_head_service.proofs.ServeLemmas.{unrefused, service_keeps, service_leaves, service_ordered}
 use Rattle.strm_head.specs.Effects.{effect_of, refusal_of, errors_at, finds_whole, common_refusals, own_refusals}
 use Rattle.strm_head.proofs.RefusalLemmas.{first_of_all, own_none}
 use Rattle.strm_head.specs.Inside.{IsIdle, AreIdle, IsWholeStream, OpensNone}
@@ -109,6 +111,7 @@ pub whole_of : {K : Type 0} (means : Meaning K) (image : Image K) (e : End) (req
 whole_of means image e Close h finds = cc
 whole_of means image e Poll h finds = cc
 whole_of means image e Take h finds = take_whole image e h
+whole_of means image e (Service name side call) h finds = (unrefused image e name.items side call h).whole
 whole_of means image e request h finds =
     whole_if (end_of image e).is_open image.broken (errors_at image e request)
     (none_before (first_that_holds (common_refusals image e request)) (first_that_holds (own_refusals means image e request)) (sym (first_of_all means image e request refl) ∙ h))
@@ -240,6 +243,15 @@ pub record IsQuietly {K : Type 0} (means : Meaning K) (image : Image K) (effect 
   pub broken : effect.image.broken ≡ image.broken
   pub awaits : effect.awaits ≡ false
 
+-- a call that has left the image as it was
+pub left_quiet : {K : Type 0} (means : Meaning K) (image after : Image K) (reply : Reply) → after ≡ image → IsQuiet means image → IsQuietly means image (effect after reply)
+left_quiet {K} means image after reply same quiet =
+    record {
+      quiet = subst (λ (i : Image K). IsQuiet means i) (sym same) quiet;
+      broken = ap (λ (i : Image K). i.broken) same;
+      awaits = refl;
+    }
+
 -- for kinds of any meaning
 module _ {K : Type 0} (means : Meaning K) where
   sent_opens : (image : Image K) (e : End) (m : Option Msg) → OpensNone image (sent_of means image e m)
@@ -286,6 +298,8 @@ module _ {K : Type 0} (means : Meaning K) where
   effect_opens image e (Flush r w) = same_opens image _ (deliver_keeps means image (Down e 1) _)
   effect_opens image e (FlushBand band r w) = same_opens image _ (deliver_keeps means image (Down e 1) _)
   effect_opens image e Take = taken_opens image e (end_of image e).drv
+  effect_opens image e (Service name side call) =
+      same_opens image _ (service_keeps means image e (own_at (end_of image e) name.items) side call)
   effect_opens image e Poll = none_opens image
   effect_opens image e Close =
       opens_trans image (closed_image image e) _ (closed_opens image e) (same_opens (closed_image image e) _ (after_keeps image.broken (closed_image image e) e))
@@ -317,6 +331,8 @@ module _ {K : Type 0} (means : Meaning K) where
   quiet_effect image e (FlushBand band r w) is quiet = cc
   quiet_effect image e Close is quiet = cc
   quiet_effect image e Take is quiet = cc
+  quiet_effect image e (Service name side call) is quiet =
+      left_quiet means image _ _ (service_leaves means image e (own_at (end_of image e) name.items) side call is) quiet
   quiet_effect image e Poll is quiet = record { quiet = quiet; broken = refl; awaits = refl }
 
   -- ---- calls leave heads that await no answer
@@ -362,6 +378,8 @@ module _ {K : Type 0} (means : Meaning K) where
   effect_idle image e (Flush r w) idle = idle_same image _ (deliver_keeps means image (Down e 1) _) idle
   effect_idle image e (FlushBand band r w) idle = idle_same image _ (deliver_keeps means image (Down e 1) _) idle
   effect_idle image e Take idle = taken_idle image e (end_of image e).drv idle
+  effect_idle image e (Service name side call) idle =
+      idle_same image _ (service_keeps means image e (own_at (end_of image e) name.items) side call) idle
   effect_idle image e Poll idle = idle
   effect_idle image e Close idle =
       idle_same (closed_image image e) _ (after_keeps image.broken (closed_image image e) e) (idle_with image e (closed (end_of image e)) (idle e) idle)
@@ -435,6 +453,8 @@ module _ {K : Type 0} (means : Meaning K) where
     effect_ordered image e (Flush r w) h ordered = delivered_ordered means stay image (Down e 1) _ ordered
     effect_ordered image e (FlushBand band r w) h ordered = delivered_ordered means stay image (Down e 1) _ ordered
     effect_ordered image e Take h ordered = taken_ordered image e (end_of image e).drv ordered
+    effect_ordered image e (Service name side call) h ordered =
+        service_ordered means stay image e (own_at (end_of image e) name.items) side call ordered
     effect_ordered image e Poll h ordered = ordered
     effect_ordered image e Close h ordered =
         after_ordered image.broken (closed_image image e) e (closed_ordered means image e ordered)

@@ -22,7 +22,6 @@ use Rattle.strm_head_calls.specs.declared.answer.Reply.{Reply}
 use Rattle.strm_head_calls.specs.declared.answer.Reply.TheVariants as Replies
 use Rattle.strm_head_calls.specs.Reply.{has_bytes}
 use Rattle.strm_head_calls.specs.ReplyForm.{said}
-use Rattle.strm_head_calls.specs.Effect.{effect}
 use Rattle.strm_head_calls.specs.Request.{changes_no_queue}
 use Rattle.strm_head_msg.specs.Send.{sent_of, putmsg_message, putpmsg_message}
 use Rattle.strm_head_msg.specs.Take.{taken_from, peeked_of, peek_effect, shows_nothing}
@@ -31,7 +30,7 @@ use Rattle.strm_head_ioctl.specs.Ask.{is_empty}
 use Rattle.strm_head_ioctl.specs.Outside.{taken_out}
 use Rattle.strm_head.specs.Effects.{effect_of, has_nothing_to_do, takes_no_memory_at, sends_no_message, awaits_answer}
 use Rattle.strm_head.specs.TakesEffect.{needs_no_service}
-use Rattle.strm_head.proofs.KeptLemmas.{IsQuietly, quiet_effect}
+use Rattle.strm_head.proofs.KeptLemmas.{IsQuietly, left_quiet, quiet_effect}
 
 -- ---- where nothing is to be done, no memory is taken
 
@@ -104,15 +103,6 @@ none_taken (m ∷ q) maxctl maxdat none = absurd cc
 none_read : (mode : ReadMode) (prot : Prot) (n : ℕ) (q : List Msg) → is_empty q ≡ true → (read_of mode prot n q).stays ≡ q
 none_read mode prot n [] none = refl
 none_read mode prot n (m ∷ q) none = absurd cc
-
--- a call that has left the image as it was
-left_quiet : {K : Type 0} (means : Meaning K) (image after : Image K) (reply : Reply) → after ≡ image → IsQuiet means image → IsQuietly means image (effect after reply)
-left_quiet {K} means image after reply same quiet =
-    record {
-      quiet = subst (λ (i : Image K). IsQuiet means i) (sym same) quiet;
-      broken = ap (λ (i : Image K). i.broken) same;
-      awaits = refl;
-    }
 
 -- ---- calls that a service follows
 

@@ -6,7 +6,7 @@ use Rattle.strm_module.specs.declared.shape.Shape.{Shape}
 use Rattle.strm_module.specs.Kinds.{Meaning}
 use Rattle.strm_chain_ends.specs.Image.{Image, end_of}
 use Rattle.strm_head_calls.specs.declared.request.Request.{Request}
-use Rattle.strm_head_calls.specs.declared.request.Request.TheVariants.{Putmsg, Putpmsg, Getmsg, Getpmsg, Read, Write, Push, Nread, Peek, SetRead, GetRead, Canput, Ckband, Getband, Pop, Look, Find, Str, Flush, FlushBand, Close, Take, Poll}
+use Rattle.strm_head_calls.specs.declared.request.Request.TheVariants.{Putmsg, Putpmsg, Getmsg, Getpmsg, Read, Write, Push, Nread, Peek, SetRead, GetRead, Canput, Ckband, Getband, Pop, Look, Find, Str, Flush, FlushBand, Close, Take, Service, Poll}
 use Rattle.strm_head_calls.specs.declared.request.Request.TheVariants as Requests
 use Rattle.strm_head_calls.specs.declared.refusal.Refusal.{Refusal}
 use Rattle.strm_head_calls.specs.declared.refusal.Refusal.TheVariants.{Closed, Broken}
@@ -59,4 +59,5 @@ in_order means image e (Flush r w) = ordered image e (true, true) (flush_refusal
 in_order means image e (FlushBand band r w) = ordered image e (true, true) (flush_refusals image e r w) refl (λ x. refl) (λ y. refl) (λ x y. refl)
 in_order means image e Close = refl
 in_order means image e Take = refl
+in_order means image e (Service name side call) = refl
 in_order means image e Poll = refl

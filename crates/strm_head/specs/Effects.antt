@@ -9,7 +9,7 @@ use Rattle.strm_module.specs.declared.shape.Shape.{Shape}
 use Rattle.strm_chain_ends.specs.Image.{Image, end_of}
 use Rattle.strm_chain_ends.specs.Flow.{NoneMay}
 use Rattle.strm_head_calls.specs.declared.request.Request.{Request}
-use Rattle.strm_head_calls.specs.declared.request.Request.TheVariants.{Putmsg, Putpmsg, Getmsg, Getpmsg, Read, Write, Push, Nread, Peek, SetRead, GetRead, Canput, Ckband, Getband, Pop, Look, Find, Str, Flush, FlushBand, Close, Take, Poll}
+use Rattle.strm_head_calls.specs.declared.request.Request.TheVariants.{Putmsg, Putpmsg, Getmsg, Getpmsg, Read, Write, Push, Nread, Peek, SetRead, GetRead, Canput, Ckband, Getband, Pop, Look, Find, Str, Flush, FlushBand, Close, Take, Service, Poll}
 use Rattle.strm_head_calls.specs.declared.refusal.Refusal.{Refusal}
 use Rattle.strm_head_calls.specs.declared.refusal.Refusal.TheVariants.{Closed, Broken, ReadError, WriteError, NoMemory}
 use Rattle.strm_head_calls.specs.declared.answer.Answer.{Answer}
@@ -17,6 +17,7 @@ use Rattle.strm_head_calls.specs.declared.answer.Answer.TheVariants.{Done, Refus
 use Rattle.strm_head_calls.specs.Refusal.{first_that_holds, is_before}
 use Rattle.strm_head_calls.specs.Effect.{Effect}
 use Rattle.strm_head_calls.specs.Calls.{changes_modules}
+use Rattle.strm_head_calls.specs.Service.{is_question}
 use Rattle.strm_head_msg.specs.Send.{putmsg_refusals, putpmsg_refusals, write_refusals, putmsg_effect, putpmsg_effect, write_effect}
 use Rattle.strm_head_read.specs.Read.{read_refusals, read_effect}
 use Rattle.strm_head_msg.specs.Take.{getmsg_refusals, getpmsg_refusals, getmsg_effect, getpmsg_effect, peek_effect, shows_nothing}
@@ -29,6 +30,7 @@ use Rattle.strm_head_ioctl.specs.Flush.{flush_refusals, flush_effect, flush_band
 use Rattle.strm_head_ioctl.specs.Close.{hangs_up, close_effect}
 use Rattle.strm_head_ioctl.specs.Outside.{take_refusals, take_effect}
 use Rattle.strm_head_ioctl.specs.Poll.{poll_effect}
+use Rattle.strm_head_service.specs.Serve.{service_refusals, service_effect, sends_on}
 
 -- the refusals of a call of its kind alone, in the order in which they are looked for: whether each holds,
 -- and the refusal
@@ -48,10 +50,12 @@ own_refusals means image e (Str cmd dat) = str_refusals image e dat
 own_refusals means image e (Flush r w) = flush_refusals image e r w
 own_refusals means image e (FlushBand band r w) = flush_refusals image e r w
 own_refusals means image e Take = take_refusals image e
+own_refusals means image e (Service name side call) = service_refusals image e name.items side call
 own_refusals means image e request = []
 
 -- the errors that a call looks at, that of the read side and that of the write side: calls that receive look
--- at the first, calls that send at the second, a close, a take and a poll at neither, and all others at both
+-- at the first, calls that send at the second, a close, a take, a service call and a poll at neither, and all
+-- others at both
 abbrev pub errors_looked_at : {P : Type 0} → Request P → Bool × Bool
 errors_looked_at (Getmsg maxctl maxdat flag) = (true, false)
 errors_looked_at (Getpmsg maxctl maxdat band flag) = (true, false)
@@ -66,6 +70,7 @@ errors_looked_at (Write dat) = (false, true)
 errors_looked_at (Canput band) = (false, true)
 errors_looked_at Close = (false, false)
 errors_looked_at Take = (false, false)
+errors_looked_at (Service name side call) = (false, false)
 errors_looked_at Poll = (false, false)
 errors_looked_at request = (true, true)
 
@@ -87,24 +92,27 @@ errors_at image e request =
 abbrev pub closed_refusals : {K : Type 0} → Image K → End → List (Bool × Refusal)
 closed_refusals image e = (not (end_of image e).is_open, Closed) ∷ []
 
--- the refusals of every call but a close, a take and a poll, in this order: a closed end, a broken stream,
--- the errors that came up and that it looks at
+-- the refusals of every call but a close, a take, a service call and a poll, in this order: a closed end, a
+-- broken stream, the errors that came up and that it looks at
 abbrev pub common_refusals : {K : Type 0} → Image K → End → Request (Shape K) → List (Bool × Refusal)
 common_refusals image e request =
     (not (end_of image e).is_open, Closed) ∷ (image.broken, Broken) ∷ errors_at image e request
 
 -- all refusals of a call, in the order in which they are looked for. An end is closed also after an error,
--- and on a broken stream. A take is made outside of the stream, and a poll reports the refusals of the others
+-- and on a broken stream. A take is made outside of the stream, a service call below the head, and a poll
+-- reports the refusals of the others
 abbrev pub refusals : {K : Type 0} → Meaning K → Image K → End → Request (Shape K) → List (Bool × Refusal)
 refusals means image e Close = closed_refusals image e
 refusals means image e Take = take_refusals image e
+refusals means image e (Service name side call) = service_refusals image e name.items side call
 refusals means image e Poll = []
 refusals means image e request = common_refusals image e request ++ own_refusals means image e request
 
--- the calls that share most refusals: all but a close, a take and a poll
+-- the calls that share most refusals: all but a close, a take, a service call and a poll
 abbrev pub is_common : {P : Type 0} → Request P → Bool
 is_common Close = false
 is_common Take = false
+is_common (Service name side call) = false
 is_common Poll = false
 is_common request = true
 
@@ -148,6 +156,7 @@ effect_of means image e (Flush r w) = flush_effect means image e r w
 effect_of means image e (FlushBand band r w) = flush_band_effect means image e band r w
 effect_of means image e Close = close_effect means image e
 effect_of means image e Take = take_effect image e
+effect_of means image e (Service name side call) = service_effect means image e name.items side call
 effect_of means image e Poll = poll_effect image e
 
 -- the calls that never run out of memory
@@ -162,6 +171,7 @@ takes_no_memory Poll = true
 takes_no_memory Look = true
 takes_no_memory Request.List = true
 takes_no_memory (Find name) = true
+takes_no_memory (Service name side call) = is_question call
 takes_no_memory request = false
 
 -- a call that has nothing to send, or finds nothing to take. It is a putmsg and a putpmsg without parts, and
@@ -184,7 +194,8 @@ takes_no_memory_at image e (Peek maxctl maxdat flag) = shows_nothing image e max
 takes_no_memory_at image e request = takes_no_memory request || has_nothing_to_do image e request
 
 -- the calls that send no message. A putmsg and a putpmsg send one of their parts. A write, an ioctl and a
--- flush send one each. A close sends a hangup to the other end of a loop that is still open
+-- flush send one each, and so does a putnext. A close sends a hangup to the other end of a loop that is still
+-- open
 abbrev pub sends_no_message : {K : Type 0} → Image K → End → Request (Shape K) → Bool
 sends_no_message image e (Putmsg flag parts) = is_none parts.ctl && is_none parts.dat
 sends_no_message image e (Putpmsg band flag parts) = is_none parts.ctl && is_none parts.dat
@@ -192,6 +203,7 @@ sends_no_message image e (Write dat) = false
 sends_no_message image e (Str cmd dat) = false
 sends_no_message image e (Flush r w) = false
 sends_no_message image e (FlushBand band r w) = false
+sends_no_message image e (Service name side call) = not (sends_on call)
 sends_no_message image e Close = not (hangs_up image e)
 sends_no_message image e request = true
 

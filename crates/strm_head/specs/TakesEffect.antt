@@ -11,7 +11,7 @@ use Rattle.strm_chain.specs.declared.spot.Spot.TheVariants.{Down}
 use Rattle.strm_chain.specs.declared.fault.ChainFault.{ChainFault}
 use Rattle.strm_chain.specs.declared.fault.ChainFault.TheVariants.{NoMem, Broken}
 use Rattle.strm_head_calls.specs.declared.request.Request.{Request}
-use Rattle.strm_head_calls.specs.declared.request.Request.TheVariants.{Close, Take, Poll}
+use Rattle.strm_head_calls.specs.declared.request.Request.TheVariants.{Close, Take, Service, Poll}
 use Rattle.strm_head_calls.specs.declared.answer.Reply.{Reply}
 use Rattle.strm_chain.specs.Fault.{Fails}
 use Rattle.strm_head_calls.specs.Effect.{effect, effect_ioctl}
@@ -29,10 +29,11 @@ pub record CanSend {K : Type 0} (image : Image K) (e : End) : Type 0 where
   pub whole : image.broken ≡ false
   pub idle : IsIdle (end_of image e).state
 
--- the conditions of a call that is not refused: of a close that the ends that are open are among the
--- driver's, of a take and a poll nothing, and of each other call that a message can be sent
+-- the conditions of a call that is not refused: of a close and a service call that the ends that are open are
+-- among the driver's, of a take and a poll nothing, and of each other call that a message can be sent
 abbrev pub MayBegin : {K : Type 0} → Image K → End → Request (Shape K) → Type 0
 MayBegin image e Close = HasItsEnds image
+MayBegin image e (Service name side call) = HasItsEnds image
 MayBegin image e Take = Unit {0}
 MayBegin image e Poll = Unit {0}
 MayBegin image e request = CanSend image e

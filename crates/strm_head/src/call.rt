@@ -26,6 +26,7 @@ use strm_head_msg::{
     getmsg_refusal, getpmsg_refusal, putmsg_refusal, putpmsg_refusal, write_refusal,
 };
 use strm_head_read::read_refusal;
+use strm_head_service::service_refusal;
 use strm_module::{BoxedModule, ModuleOf};
 use strm_msg::{BoxedMessage, End, Errno, Message, NoMem};
 
@@ -69,7 +70,7 @@ fn errors_looked_at<P>(request: &Request<P>) -> (bool, bool)
         | Request::Putpmsg { .. }
         | Request::Write { .. }
         | Request::Canput { .. } => (false, true),
-        Request::Close | Request::Take | Request::Poll => (false, false),
+        Request::Close | Request::Take | Request::Service { .. } | Request::Poll => (false, false),
         _ => (true, true),
     }
 }
@@ -88,8 +89,8 @@ fn error_refusal(looks: (bool, bool), rd: Option<Errno>, wr: Option<Errno>) -> O
     }
 }
 
-/// The refusal that every call but a close, a take and a poll shares: a closed end, a broken stream, an error
-/// that came up and that the call looks at.
+/// The refusal that every call but a close, a take, a service call and a poll shares: a closed end, a broken
+/// stream, an error that came up and that the call looks at.
 pub(crate) fn common_refusal<M: ModuleOf>(
     chain: &Chain<M>,
     end: End,
@@ -128,6 +129,7 @@ fn own_refusal<M: ModuleOf>(
         Request::Getband => getband_refusal(chain, end),
         Request::Pop => pop_refusal(chain, end),
         Request::Take => take_refusal(chain, end),
+        Request::Service { name, side, call } => service_refusal(chain, end, name, *side, call),
         Request::Look => look_refusal(chain, end),
         Request::Find { name } => find_refusal(name),
         Request::Str { dat, .. } => str_refusal(chain, end, dat),
@@ -149,6 +151,7 @@ pub(crate) fn first_refusal<M: ModuleOf>(
     match request {
         Request::Close => closed_refusal(chain, end),
         Request::Take => take_refusal(chain, end),
+        Request::Service { name, side, call } => service_refusal(chain, end, name, *side, call),
         Request::Poll => None,
         _ => match common_refusal(chain, end, request) {
             Some(refusal) => Some(refusal),
@@ -161,20 +164,21 @@ pub(crate) fn first_refusal<M: ModuleOf>(
 fn changes_no_queue<P>(request: &Request<P>) -> bool
     ensures { result ≡ changes_no_queue request.now }
 {
-    matches!(
-        request,
+    match request {
         Request::Nread
-            | Request::Peek { .. }
-            | Request::SetRead { .. }
-            | Request::GetRead
-            | Request::Canput { .. }
-            | Request::Ckband { .. }
-            | Request::Getband
-            | Request::Poll
-            | Request::Look
-            | Request::List
-            | Request::Find { .. }
-    )
+        | Request::Peek { .. }
+        | Request::SetRead { .. }
+        | Request::GetRead
+        | Request::Canput { .. }
+        | Request::Ckband { .. }
+        | Request::Getband
+        | Request::Poll
+        | Request::Look
+        | Request::List
+        | Request::Find { .. } => true,
+        Request::Service { call, .. } => call.is_question(),
+        _ => false,
+    }
 }
 
 /// Whether a call has nothing to send, or finds nothing to take.

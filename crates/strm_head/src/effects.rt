@@ -17,7 +17,8 @@ use crate::call::Back;
 use std::alloc::Global;
 use strm_chain::{Chain, ChainFault};
 use strm_head_calls::{
-    Acknowledged, BoxedParts, GetFlag, Priority, PutFlag, Reply, ReplyForm, Request, Wanted,
+    Acknowledged, BoxedParts, GetFlag, Name, Priority, PutFlag, Reply, ReplyForm, Request,
+    ServiceCall, Wanted,
 };
 use strm_head_ioctl::{
     canput, ckband, close, find, flush, get_read, getband, list, look, nread, poll, pop, push,
@@ -25,8 +26,9 @@ use strm_head_ioctl::{
 };
 use strm_head_msg::{getmsg, getpmsg, peek, putmsg, putpmsg, write};
 use strm_head_read::read;
+use strm_head_service::{ask, serve};
 use strm_module::{BoxedModule, ModuleOf};
-use strm_msg::{Bytes, End, NoMem};
+use strm_msg::{Bytes, End, NoMem, Side};
 
 /// The reply to an ioctl that nothing answers.
 fn no_answer<A: ReplyForm>() -> A
@@ -305,6 +307,7 @@ fn query_reply<M: ModuleOf>(
         Request::Look => look(chain, end),
         Request::List => list(chain, end),
         Request::Find { name } => find(chain, end, name),
+        Request::Service { name, side, call } => ask(chain, end, name, *side, call),
         _ => unreachable!(),
     }
 }
@@ -323,6 +326,25 @@ fn begin_query<M: ModuleOf, A: ReplyForm>(
     let reply = query_reply(chain, end, &request);
     drop(request);
     Ok(A::plain(reply))
+}
+
+/// Begins a service call.
+#[inline(never)]
+fn begin_service<M: ModuleOf, A: ReplyForm>(
+    chain: &mut Chain<M>,
+    end: End,
+    name: Name,
+    side: Side,
+    call: ServiceCall,
+) -> Result<A, ChainFault>
+    requires ends { HasItsEnds chain.old.image }
+    requires own { HasNoOwnRefusal M.Kind.means chain.old.image end (Requests.Service name side call) }
+    ensures begins { Begins M.Kind.means A.says chain.old end (Requests.Service name side call) result chain.new }
+{
+    if call.is_question() {
+        return begin_query(chain, end, Request::Service { name, side, call });
+    }
+    serve(chain, end, &name, side, call)
 }
 
 /// Takes the effect of a call, before any queue moves. The modules that it takes out are handed out, also
@@ -367,6 +389,7 @@ pub(crate) fn begin<M: ModuleOf, A: ReplyForm>(
         Request::FlushBand { band, r, w } => begin_flush_band(chain, end, band, r, w),
         Request::Close => begin_close(chain, end, back),
         Request::Take => begin_take(chain, end),
+        Request::Service { name, side, call } => begin_service(chain, end, name, side, call),
         other => begin_query(chain, end, other),
     }
 }

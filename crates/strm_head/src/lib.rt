@@ -21,5 +21,6 @@ pub use stream::Stream;
 pub use strm_chain::{Driver, MOST_MODULES, Moves, Place};
 pub use strm_head_calls::{
     Acknowledged, Answer, Event, GetFlag, MAX_CONTROL, MAX_DATA, More, Name, NameList, Peeked,
-    Polled, Priority, PutFlag, Received, Refusal, Reply, ReplyAndCopy, ReplyForm, Request, Wanted,
+    Polled, Priority, PutFlag, Received, Refusal, Reply, ReplyAndCopy, ReplyForm, Request,
+    ServiceCall, Serviced, Wanted,
 };

@@ -37,6 +37,7 @@ plain_of (Request.Find name) = Some (Request.Find name)
 plain_of (Request.Str cmd dat) = Some (Request.Str cmd dat)
 plain_of (Request.Flush r w) = Some (Request.Flush r w)
 plain_of (Request.FlushBand band r w) = Some (Request.FlushBand band r w)
+plain_of (Request.Service name side call) = Some (Request.Service name side call)
 plain_of Request.Close = Some Request.Close
 plain_of Request.Take = Some Request.Take
 plain_of Request.Poll = Some Request.Poll

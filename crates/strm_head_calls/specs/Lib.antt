@@ -1,4 +1,5 @@
 pub mod Request
+pub mod Service
 pub mod Calls
 pub mod Refusal
 pub mod Reply

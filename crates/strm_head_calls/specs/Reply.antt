@@ -7,7 +7,6 @@ use Rattle.strm_msg.specs.declared.kind.MsgKind.TheVariants.{MIocack, MIocnak}
 use Rattle.strm_head_calls.specs.declared.answer.Acknowledged.{Acknowledged}
 use Rattle.strm_head_calls.specs.declared.answer.Acknowledged.TheVariants.{Ack, Nak, Timeout}
 use Rattle.strm_head_calls.specs.declared.answer.Received.{Received}
-use Rattle.strm_head_calls.specs.declared.answer.Received.TheVariants as Received
 use Rattle.strm_head_calls.specs.declared.answer.Reply.{Reply}
 use Rattle.strm_head_calls.specs.declared.answer.Reply.TheVariants.{Getmsg, Getpmsg, Read, Peek, Str, Message}
 

@@ -7,6 +7,7 @@ use crate::name::Name;
 use crate::name_list::NameList;
 use crate::refusal::Refusal;
 use crate::request::Priority;
+use crate::service::Serviced;
 use std::alloc::Global;
 use strm_module::Driver;
 use strm_msg::{BoxedMessage, Bytes, Errno, Message, NoMem, Prot, ReadMode};
@@ -242,13 +243,19 @@ pub enum Reply {
     },
     /// A message that came in from a line was taken.
     Line,
-    /// A message was taken that had been sent down to a wire.
+    /// A message was taken: one that had been sent down to a wire, or the first of a queue that the program
+    /// services.
     Message {
-        /// The message: data, or a protocol message.
+        /// The message.
         m: BoxedMessage,
     },
     /// A wire is closed, and all that had been sent down to it was taken.
     Hangup,
+    /// A service call was done that takes no message.
+    Service {
+        /// The reply, by the call.
+        told: Serviced,
+    },
     /// The state of an end, as poll(2) reports it.
     Poll {
         /// The facts that hold.
@@ -374,6 +381,7 @@ impl Reply {
             },
             Reply::Line => Reply::Line,
             Reply::Hangup => Reply::Hangup,
+            Reply::Service { told } => Reply::Service { told: *told },
             Reply::Poll { told } => Reply::Poll { told: *told },
             Reply::Peek { .. } => Reply::Peek { found: None },
             Reply::Getmsg { .. }

@@ -105,6 +105,7 @@ fn plain_request<P: Drop, Q>(request: Request<P>) -> Request<Q>
         Request::FlushBand { band, r, w } => Request::FlushBand { band, r, w },
         Request::Close => Request::Close,
         Request::Take => Request::Take,
+        Request::Service { name, side, call } => Request::Service { name, side, call },
         Request::Poll => Request::Poll,
     }
 }

@@ -3,11 +3,13 @@ ghost use Rattle.std.specs.Prelude.{◌≡◌, IfOk};
 ghost use Rattle.strm_head_calls.specs.declared.request.Request.TheVariants as Requests;
 
 use crate::answer::copy_part;
+use crate::name::Name;
 use crate::parts::BoxedParts;
 use crate::request::{Priority, PutFlag, Request};
+use crate::service::ServiceCall;
 use std::alloc::Global;
 use strm_module::{BoxedModule, BoxedShape, ModuleOf};
-use strm_msg::{Bytes, NoMem};
+use strm_msg::{Bytes, NoMem, Side};
 
 /// A putmsg of copies. Fails only when memory runs out.
 fn copy_putmsg<P>(alloc: Global, flag: Priority, parts: &BoxedParts) -> Result<Request<P>, NoMem>
@@ -66,6 +68,23 @@ fn copy_str<P>(cmd: u32, dat: &Option<Bytes>) -> Result<Request<P>, NoMem>
     Ok(Request::Str { cmd, dat })
 }
 
+/// A service call of a copy. Fails only when memory runs out.
+fn copy_service<P>(
+    alloc: Global,
+    name: &Name,
+    side: Side,
+    call: &ServiceCall,
+) -> Result<Request<P>, NoMem>
+    ensures { IfOk result (λ copy. copy ≡ Requests.Service name.now side call.now) }
+{
+    let call = call.copy(alloc)?;
+    Ok(Request::Service {
+        name: name.copy(),
+        side,
+        call,
+    })
+}
+
 /// A request as a history has it: a copy, with the module's shape in the module's place. Fails only when
 /// memory runs out.
 pub fn copy_request<M: ModuleOf>(
@@ -119,6 +138,7 @@ pub fn copy_request<M: ModuleOf>(
         Request::Ckband { band } => Ok(Request::Ckband { band: *band }),
         Request::Getband => Ok(Request::Getband),
         Request::Take => Ok(Request::Take),
+        Request::Service { name, side, call } => copy_service(alloc, name, *side, call),
         Request::Poll => Ok(Request::Poll),
         Request::Pop => Ok(Request::Pop),
         Request::Look => Ok(Request::Look),

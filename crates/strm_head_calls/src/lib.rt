@@ -18,6 +18,7 @@ mod reply_form;
 mod request;
 mod same;
 mod same_request;
+mod service;
 mod setup;
 
 pub use answer::{Acknowledged, Answer, More, Peeked, Polled, Received, Reply, copy_part};
@@ -34,4 +35,5 @@ pub use reply_form::ReplyForm;
 pub use request::{GetFlag, MAX_CONTROL, MAX_DATA, Priority, PutFlag, Request, Wanted};
 pub use same::{is_same_message, is_same_part};
 pub use same_request::{SameKind, is_same_request};
+pub use service::{ServiceCall, Serviced};
 pub use setup::{MOST_RING, Setup};

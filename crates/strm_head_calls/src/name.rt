@@ -1,5 +1,6 @@
 //! Names of modules and of drivers.
-ghost use Rattle.std.specs.Prelude.{◌≡◌};
+ghost use Rattle.std.specs.Prelude.{◌≡◌, is_some, length, nat_le, IfSome};
+ghost use Rattle.strm_module.specs.declared.shape.TheConstants.{LONGEST_NAME};
 ghost use Rattle.std.specs.Str.{bytes_eq};
 ghost use Rattle.std.specs.Cmp.Rules.{comparing};
 ghost use Rattle.std.proofs.Common.{rules};
@@ -74,6 +75,22 @@ impl Name {
             len: len as u8,
             bytes,
         }
+    }
+
+    /// The name of these bytes; nothing where they are more than `LONGEST_NAME`.
+    pub fn of(bytes: &[u8]) -> Option<Name>
+        ensures some { IfSome result (λ name. name.items ≡ bytes.now) }
+        ensures variant { is_some result ≡ nat_le (length bytes.now) LONGEST_NAME }
+    {
+        if bytes.len() > LONGEST_NAME {
+            return None;
+        }
+        let mut name = [0; LONGEST_NAME];
+        name[..bytes.len()].copy_from_slice(bytes);
+        Some(Name {
+            len: bytes.len() as u8,
+            bytes: name,
+        })
     }
 
     /// An equal one.

@@ -2,9 +2,11 @@
 ghost use Rattle.std.specs.Prelude.{◌≡◌, IfOk};
 ghost use Rattle.strm_head_calls.specs.declared.request.Request.TheVariants as Requests;
 
+use crate::name::Name;
 use crate::parts::BoxedParts;
+use crate::service::ServiceCall;
 use std::alloc::Global;
-use strm_msg::{Bytes, NoMem, Prot, ReadMode};
+use strm_msg::{Bytes, NoMem, Prot, ReadMode, Side};
 
 /// The most bytes of control that a call sends; more is refused with ERANGE.
 pub const MAX_CONTROL: usize = 1024;
@@ -61,10 +63,10 @@ pub enum GetFlag {
 /// A push carries `P`: the module when the call is made, and the module's shape in a history. Small fields
 /// are first in each call, so that a request has 32 bytes.
 ///
-/// Each call but a close, a take and a poll has three refusals more than those that it names. Its end is
-/// closed, the stream is broken, or an error came up for a side that it looks at. These three are looked at
-/// first. Out of memory is looked at last: it refuses a call that has changed nothing yet, and else breaks
-/// the stream.
+/// Each call but a close, a take, a service call and a poll has three refusals more than those that it names.
+/// Its end is closed, the stream is broken, or an error came up for a side that it looks at. These three are
+/// looked at first. Out of memory is looked at last: it refuses a call that has changed nothing yet, and else
+/// breaks the stream.
 #[derive(Debug, Drop)]
 pub enum Request<P> {
     /// Sends a message (putmsg(2)): `MProto` of band 0 with control, `MPcproto` with control and
@@ -241,6 +243,21 @@ pub enum Request<P> {
     /// EINVAL (the driver is no wire), EAGAIN (no message is there, and the end is open) and ENOSR (memory
     /// runs out for a copy), in this order; and by no error that came up.
     Take,
+    /// Does a part of a service procedure that is the program's (srv(9E)), of the topmost module of a name
+    /// that was pushed under noenable(9F). It looks at no error and no hangup: the module works on.
+    ///
+    /// Refused with EBADF (the end is closed), ENOSR (the stream is broken), EINVAL (no module of that name
+    /// is the program's, or it has no queue on the side and the call needs one) and EAGAIN, in this order.
+    /// EAGAIN is a getq where no message waits or the first is not the one that is wanted, and a putnext of
+    /// an ordinary message where the next queue is full in its band.
+    Service {
+        /// The name of the module.
+        name: Name,
+        /// The side of the queue, and for a putnext and a bcanputnext the one to which a message goes on.
+        side: Side,
+        /// The call.
+        call: ServiceCall,
+    },
     /// Asks for the state of the end, as poll(2) reports it (Programmer's Guide: STREAMS, "Input and Output
     /// Polling"). Never refused, not even at a closed end or on a broken stream, and takes no memory.
     Poll,

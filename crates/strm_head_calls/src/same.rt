@@ -276,6 +276,10 @@ impl Reply {
                 _ => false,
             },
             Reply::Hangup => matches!(other, Reply::Hangup),
+            Reply::Service { told } => match other {
+                Reply::Service { told: t } => told.is_same(*t),
+                _ => false,
+            },
             Reply::Poll { told } => match other {
                 Reply::Poll { told: t } => is_same_poll(*told, *t),
                 _ => false,

@@ -3,11 +3,13 @@ ghost use Rattle.std.specs.Prelude.{◌≡◌, ◌↔◌, true};
 ghost use Rattle.strm_head_calls.specs.declared.request.Request.TheVariants as Requests;
 ghost use Rattle.strm_head_calls.specs.Request.{changes_no_queue};
 
+use crate::name::Name;
 use crate::parts::BoxedParts;
 use crate::request::{GetFlag, Priority, PutFlag, Request, Wanted};
 use crate::same::is_same_part;
+use crate::service::ServiceCall;
 use strm_module::{BoxedShape, Kind, Shape};
-use strm_msg::{Bytes, Marks};
+use strm_msg::{Bytes, Marks, Side};
 
 /// Comparison of kinds of module, as they must be compared where the entry of a push is compared with a
 /// receipt's.
@@ -55,6 +57,7 @@ fn is_same_shape<K: SameKind>(one: &Shape<K>, other: &Shape<K>) -> bool
         && one.name.as_slice() == other.name.as_slice()
         && are_same_marks(&one.rd, &other.rd)
         && are_same_marks(&one.wr, &other.wr)
+        && one.noenable == other.noenable
         && one.kind.is_same(&other.kind)
 }
 
@@ -168,6 +171,20 @@ fn is_flush_band<P>(request: &Request<P>, band: u8, r: bool, w: bool) -> bool
     }
 }
 
+/// Whether a request is this call of a service procedure.
+fn is_service<P>(request: &Request<P>, name: &Name, side: Side, call: &ServiceCall) -> bool
+    ensures { result ≡ true ↔ Requests.Service name.now side call.now ≡ request.now }
+{
+    match request {
+        Request::Service {
+            name: n,
+            side: s,
+            call: c,
+        } => name.as_slice() == n.as_slice() && side == *s && call.is_same(c),
+        _ => false,
+    }
+}
+
 /// Whether another request is the same as one that changes no queue.
 fn is_same_query<K: SameKind + Drop>(
     one: &Request<BoxedShape<K>>,
@@ -211,6 +228,7 @@ fn is_same_query<K: SameKind + Drop>(
             Request::Find { name: n } => name.as_slice() == n.as_slice(),
             _ => false,
         },
+        Request::Service { name, side, call } => is_service(other, name, *side, call),
         _ => false,
     }
 }
@@ -254,6 +272,7 @@ pub fn is_same_request<K: SameKind + Drop>(
         Request::FlushBand { band, r, w } => is_flush_band(other, *band, *r, *w),
         Request::Close => matches!(other, Request::Close),
         Request::Take => matches!(other, Request::Take),
+        Request::Service { name, side, call } => is_service(other, name, *side, call),
         Request::Nread
         | Request::Peek { .. }
         | Request::SetRead { .. }

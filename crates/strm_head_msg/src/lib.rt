@@ -9,4 +9,4 @@ mod send;
 mod take;
 
 pub use send::{putmsg, putmsg_refusal, putpmsg, putpmsg_refusal, write, write_refusal};
-pub use take::{getmsg, getmsg_refusal, getpmsg, getpmsg_refusal, peek};
+pub use take::{getmsg, getmsg_refusal, getpmsg, getpmsg_refusal, matches_getmsg, peek};

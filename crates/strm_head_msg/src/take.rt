@@ -24,8 +24,8 @@ struct Taken<A> {
     rest: Option<Message>,
 }
 
-/// Whether a getmsg or a peek wants a message.
-fn matches_getmsg(flag: Wanted, m: &Message) -> bool
+/// Whether a getmsg, a peek or a getq wants a message.
+pub fn matches_getmsg(flag: Wanted, m: &Message) -> bool
     ensures { result ≡ matches_getmsg flag m.now }
 {
     match flag {

@@ -1,6 +1,6 @@
 -- The put and service procedures of a module, as functions of its shape (Programmer's Guide: STREAMS, "Put
 -- and Service Procedures"; put(9E), srv(9E)).
-use Rattle.std.specs.Prelude.{◌≡◌, ◌&&◌, not, Bool, true, false, if◌then◌else◌}
+use Rattle.std.specs.Prelude.{◌≡◌, ◌&&◌, ◌||◌, not, Bool, true, false, if◌then◌else◌}
 use Rattle.strm_msg.specs.Kind.{is_high}
 use Rattle.strm_msg.specs.Message.{Msg}
 use Rattle.strm_msg.specs.declared.words.Side.{Side}
@@ -20,9 +20,14 @@ pub record Taken (K : Type 0) : Type 0 where
   pub shape : Shape K
   pub answer : Put
 
--- ordinary messages of a side with marks wait in its queue; high ones never do
+-- the messages that wait where there is a queue: the ordinary ones, and all where the service procedures are
+-- the program's, as nobody else is there to process a high one
+abbrev pub waits_here : {K : Type 0} → Shape K → Msg → Bool
+waits_here s m = s.noenable || not (is_high m.kind)
+
+-- these wait in the queue of a side with marks
 abbrev pub is_queued : {K : Type 0} → Shape K → Side → Msg → Bool
-is_queued s side m = not (is_high m.kind) && queues_on s side
+is_queued s side m = waits_here s m && queues_on s side
 
 -- for kinds of any meaning
 module _ {K : Type 0} (means : Meaning K) where
@@ -50,11 +55,12 @@ abbrev pub sends_up : Put → Bool
 sends_up (Queue m) = true
 sends_up (Sent outs) = all_go_up outs.items
 
--- a message that a put queues is the one that came; it is ordinary, its side has marks, and nothing changes
+-- a message that a put queues is the one that came; it is one that waits, its side has marks, and nothing
+-- changes
 pub record IsTaken {K : Type 0} (side : Side) (m q : Msg) (old new : Shape K) : Type 0 where
   pub same : q ≡ m
   pub queues : queues_on old side ≡ true
-  pub ordinary : is_high m.kind ≡ false
+  pub waits : waits_here old m ≡ true
   pub shape : new ≡ old
 
 abbrev pub IsQueued : {K : Type 0} → Put → Side → Msg → Shape K → Shape K → Type 0

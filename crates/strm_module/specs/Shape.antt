@@ -1,5 +1,5 @@
 -- The shape of a module: its name, its marks and its kind with its state (qinit(9S), module_info(9S)).
-use Rattle.std.specs.Prelude.{◌≡◌, ℕ, ◌==◌, ◌&&◌, ◌||◌, nat_le, nat_lt, Bool, true, Option, Some, None, List, length, if◌then◌else◌, is_some, option_map, codes}
+use Rattle.std.specs.Prelude.{◌≡◌, ℕ, ◌==◌, ◌&&◌, ◌||◌, nat_le, nat_lt, Bool, true, false, Option, Some, None, List, length, if◌then◌else◌, is_some, option_map, codes}
 use Rattle.std.specs.Char.{is_ascii_alphanumeric}
 use Rattle.std.specs.List.{list_all}
 use Rattle.std.specs.Option.{option_or}
@@ -74,8 +74,13 @@ new_shape serial name rd wr kind =
       name = record { items = name };
       rd = marks_of rd;
       wr = marks_of wr;
+      noenable = false;
       kind = kind;
     }
+
+-- the same module, with its service procedures left to the program (noenable(9F))
+abbrev pub noenabled : {K : Type 0} → Shape K → Shape K
+noenabled s = record s { noenable = true }
 
 -- the same module with the same queues: only the state of its kind can differ
 pub record IsSameModule {K : Type 0} (old new : Shape K) : Type 0 where
@@ -83,3 +88,4 @@ pub record IsSameModule {K : Type 0} (old new : Shape K) : Type 0 where
   pub name : new.name ≡ old.name
   pub rd : new.rd ≡ old.rd
   pub wr : new.wr ≡ old.wr
+  pub noenable : new.noenable ≡ old.noenable

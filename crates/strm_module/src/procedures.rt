@@ -3,18 +3,27 @@ ghost use Rattle.std.specs.Prelude.{◌≡◌, IfOk, OnOk, OnErr, IsTrue};
 ghost use Rattle.strm_msg.specs.declared.words.Side.TheVariants as Side;
 ghost use Rattle.strm_module.specs.Kinds.{all_go_up};
 ghost use Rattle.strm_module.specs.Shape.{IsSameModule};
-ghost use Rattle.strm_module.specs.Module.{put_of, serve_of, own_of, sends_up};
+ghost use Rattle.strm_module.specs.Module.{put_of, serve_of, own_of, sends_up, waits_here};
 
 use crate::outs::{Outs, Put};
 use crate::shape::Shape;
 use crate::turn::Turn;
 use crate::vocabulary::Kinds;
 use std::alloc::Global;
-use strm_msg::{BoxedMessage, Class, NoMem, Side as Sides};
+use strm_msg::{BoxedMessage, Message, NoMem, Side as Sides};
 
 impl<K: Kinds> Shape<K> {
+    /// Whether a message waits where there is a queue: an ordinary one does, and where the service procedures
+    /// are the program's a high one too.
+    fn waits(&self, m: &Message) -> bool
+        ensures { result ≡ waits_here self.now m.now }
+    {
+        !m.is_high() || self.noenable
+    }
+
     /// Puts a message that comes on a side to a module of this shape (put(9E)): an ordinary one is queued
-    /// where the side has marks, and any other is served at once.
+    /// where the side has marks, and any other is served at once. Where the service procedures are the
+    /// program's, a high one is queued too (`noenabled`).
     ///
     /// Fails only when memory runs out: then the shape is as before, and the message is dropped.
     pub fn put(&mut self, alloc: Global, side: Sides, m: BoxedMessage) -> Result<Put, NoMem>
@@ -24,7 +33,7 @@ impl<K: Kinds> Shape<K> {
         ensures same { IsSameModule self.old self.new }
         ensures upward { side ≡ Side.Rd → IfOk result (λ put. IsTrue (sends_up put)) }
     {
-        if m.class() == Class::Ordinary && self.queues(side) {
+        if self.waits(&m) && self.queues(side) {
             return Ok(Put::Queue(m));
         }
         Ok(Put::Sent(self.serve(alloc, side, m)?))

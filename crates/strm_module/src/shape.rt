@@ -2,7 +2,7 @@
 ghost use Rattle.std.specs.Prelude.{◌≡◌, is_some, is_ok, is_none, IfSome, IfOk, IfErr, Some};
 ghost use Rattle.std.specs.Fmt.{padded};
 ghost use Rattle.std.specs.List.{list_all};
-ghost use Rattle.strm_module.specs.Shape.{queues_on, is_name_byte, is_name, are_marks, marks_of, make_fault, make_fault_number, make_fault_text, new_shape};
+ghost use Rattle.strm_module.specs.Shape.{queues_on, is_name_byte, is_name, are_marks, marks_of, make_fault, make_fault_number, make_fault_text, new_shape, noenabled};
 
 use crate::kind::Kind;
 use crate::vocabulary::Kinds;
@@ -30,6 +30,9 @@ pub struct Shape<K = Kind> {
     pub rd: Option<Marks>,
     /// The water marks of the write queue, in bytes, where ordinary messages of that side wait.
     pub wr: Option<Marks>,
+    /// Whether the service procedures of both queues are the program's (noenable(9F)), for good. Then all
+    /// messages wait, high ones too, and no service of the stream takes them.
+    pub noenable: bool,
     /// The kind of the module, with the state that it keeps.
     pub kind: K,
 }
@@ -146,8 +149,18 @@ impl<K: Kinds> Shape<K> {
             name,
             rd,
             wr,
+            noenable: false,
             kind,
         })
+    }
+
+    /// The same shape, with the service procedures of its queues left to the program (noenable(9F)).
+    pub fn noenabled(self) -> Self
+        ensures { result ≡ noenabled self }
+    {
+        let mut shape = self;
+        shape.noenable = true;
+        shape
     }
 
     /// An equal shape. Fails only when memory runs out.
@@ -159,12 +172,12 @@ impl<K: Kinds> Shape<K> {
             name: self.name.clone()?,
             rd: self.rd,
             wr: self.wr,
+            noenable: self.noenable,
             kind: self.kind.copy(alloc)?,
         })
     }
 
-    /// Whether the module queues ordinary messages of a side, which it does exactly where it has
-    /// marks for that side.
+    /// Whether the module has a queue on a side, which it has exactly where it has marks for that side.
     pub fn queues(&self, side: Side) -> bool
         ensures { result ≡ queues_on self.now side }
     {

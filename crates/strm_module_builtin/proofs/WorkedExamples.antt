@@ -19,7 +19,7 @@ use Rattle.strm_module.specs.declared.outs.Put.TheVariants.{Queue, Sent}
 -- a module named m with these marks on the write side
 abbrev module_with : Option WaterMarks → Kind → Shape Kind
 module_with wr kind =
-    record { serial = 1; name = record { items = 109 ∷ [] }; rd = None; wr = wr; kind = kind }
+    record { serial = 1; name = record { items = 109 ∷ [] }; rd = None; wr = wr; noenable = false; kind = kind }
 
 abbrev without_queue : Kind → Shape Kind
 without_queue = module_with None

@@ -8,14 +8,14 @@ use Rattle.strm_msg.specs.declared.kind.MsgKind.TheVariants.{MSetopts, MFlush, M
 use Rattle.strm_module.specs.declared.driver.Driver.{Driver}
 use Rattle.strm_module.specs.declared.driver.Driver.TheVariants.{Echo, Loop, Line, Wire}
 use Rattle.strm_module.specs.Driver.{is_line}
-use Rattle.strm_head_calls.specs.declared.request.TheConstants.{MAX_CONTROL, MAX_DATA}
 use Rattle.strm_script_text.specs.Text.{number_of, number_from, limited, halves_of}
 use Rattle.strm_head_calls.specs.Setup.{is_fit, is_ring}
 use Rattle.strm_head_calls.specs.declared.setup.Setup.{Setup}
 use Rattle.strm_head_calls.specs.declared.setup.TheConstants.{MOST_RING}
 use Rattle.strm_script_words.specs.Fault.{or_fault}
 use Rattle.strm_script_words.specs.Field.{number_at, marks_at, optional_marks_at, part_upto, optional_upto, errno_at}
-use Rattle.strm_script_words.specs.Arrival.{message_at, data_at, proto_at, pcproto_at, optional_mode_at, optional_prot_at, setopts_at, flush_at, flush_msg_at, hangup_at, error_at, optional_errno_at, error2_at}
+use Rattle.strm_script_words.specs.Arrival.{message_at, call_limits, data_at, proto_at, pcproto_at, optional_mode_at, optional_prot_at, setopts_at, flush_at, flush_msg_at, hangup_at, error_at, optional_errno_at, error2_at}
+use Rattle.strm_script_words.specs.declared.arrival.Limits.{Limits}
 use Rattle.strm_script_words.specs.declared.arrival.MessageWord.{MessageWord}
 use Rattle.strm_script_words.specs.declared.fault.Cause.TheVariants as causes
 use Rattle.strm_script_words.specs.declared.field.TheConstants.{MOST_BAND, MOST_U32}
@@ -92,34 +92,34 @@ setup_fits driver (head ∷ drv ∷ texts) setup is =
 abbrev FromLine : Msg → Type 0
 FromLine m = is_from_line m.kind ≡ true
 
-data_from_line : (texts : List (List ℕ)) (m : Msg) → data_at texts ≡ Ok m → FromLine m
-data_from_line [] m is = absurd cc
-data_from_line (band ∷ []) m is = absurd cc
-data_from_line (band ∷ dat ∷ []) m is =
+data_from_line : (limits : Limits) (texts : List (List ℕ)) (m : Msg) → data_at limits texts ≡ Ok m → FromLine m
+data_from_line limits [] m is = absurd cc
+data_from_line limits (band ∷ []) m is = absurd cc
+data_from_line limits (band ∷ dat ∷ []) m is =
     through (number_at MOST_BAND band) _ m is (λ b _ is.
-    through (part_upto MAX_DATA dat) _ m is (λ bytes _ is.
+    through (part_upto limits.dat dat) _ m is (λ bytes _ is.
     same FromLine (data_msg b bytes) m is refl))
-data_from_line (band ∷ dat ∷ more ∷ texts) m is = absurd cc
+data_from_line limits (band ∷ dat ∷ more ∷ texts) m is = absurd cc
 
-proto_from_line : (texts : List (List ℕ)) (m : Msg) → proto_at texts ≡ Ok m → FromLine m
-proto_from_line [] m is = absurd cc
-proto_from_line (band ∷ []) m is = absurd cc
-proto_from_line (band ∷ ctl ∷ []) m is = absurd cc
-proto_from_line (band ∷ ctl ∷ dat ∷ []) m is =
+proto_from_line : (limits : Limits) (texts : List (List ℕ)) (m : Msg) → proto_at limits texts ≡ Ok m → FromLine m
+proto_from_line limits [] m is = absurd cc
+proto_from_line limits (band ∷ []) m is = absurd cc
+proto_from_line limits (band ∷ ctl ∷ []) m is = absurd cc
+proto_from_line limits (band ∷ ctl ∷ dat ∷ []) m is =
     through (number_at MOST_BAND band) _ m is (λ b _ is.
-    through (part_upto MAX_CONTROL ctl) _ m is (λ control _ is.
-    through (optional_upto MAX_DATA dat) _ m is (λ bytes _ is.
+    through (part_upto limits.ctl ctl) _ m is (λ control _ is.
+    through (optional_upto limits.dat dat) _ m is (λ bytes _ is.
     same FromLine (proto_msg b control bytes) m is refl)))
-proto_from_line (band ∷ ctl ∷ dat ∷ more ∷ texts) m is = absurd cc
+proto_from_line limits (band ∷ ctl ∷ dat ∷ more ∷ texts) m is = absurd cc
 
-pcproto_from_line : (texts : List (List ℕ)) (m : Msg) → pcproto_at texts ≡ Ok m → FromLine m
-pcproto_from_line [] m is = absurd cc
-pcproto_from_line (ctl ∷ []) m is = absurd cc
-pcproto_from_line (ctl ∷ dat ∷ []) m is =
-    through (part_upto MAX_CONTROL ctl) _ m is (λ control _ is.
-    through (optional_upto MAX_DATA dat) _ m is (λ bytes _ is.
+pcproto_from_line : (limits : Limits) (texts : List (List ℕ)) (m : Msg) → pcproto_at limits texts ≡ Ok m → FromLine m
+pcproto_from_line limits [] m is = absurd cc
+pcproto_from_line limits (ctl ∷ []) m is = absurd cc
+pcproto_from_line limits (ctl ∷ dat ∷ []) m is =
+    through (part_upto limits.ctl ctl) _ m is (λ control _ is.
+    through (optional_upto limits.dat dat) _ m is (λ bytes _ is.
     same FromLine (pcproto_msg control bytes) m is refl))
-pcproto_from_line (ctl ∷ dat ∷ more ∷ texts) m is = absurd cc
+pcproto_from_line limits (ctl ∷ dat ∷ more ∷ texts) m is = absurd cc
 
 setopts_from_line : (texts : List (List ℕ)) (m : Msg) → setopts_at texts ≡ Ok m → FromLine m
 setopts_from_line [] m is = absurd cc
@@ -157,9 +157,9 @@ error2_from_line (read ∷ write ∷ more ∷ texts) m is = absurd cc
 
 -- a message of a feed is of a kind that comes from a line
 pub message_from_line : (word : MessageWord) (texts : List (List ℕ)) (m : Msg) → message_at word texts ≡ Ok m → FromLine m
-message_from_line MessageWord.Data texts m is = data_from_line texts m is
-message_from_line MessageWord.Proto texts m is = proto_from_line texts m is
-message_from_line MessageWord.Pcproto texts m is = pcproto_from_line texts m is
+message_from_line MessageWord.Data texts m is = data_from_line call_limits texts m is
+message_from_line MessageWord.Proto texts m is = proto_from_line call_limits texts m is
+message_from_line MessageWord.Pcproto texts m is = pcproto_from_line call_limits texts m is
 message_from_line MessageWord.Setopts texts m is = setopts_from_line texts m is
 message_from_line MessageWord.Flush texts m is = flush_from_line texts m is
 message_from_line MessageWord.Hangup texts m is = hangup_from_line texts m is

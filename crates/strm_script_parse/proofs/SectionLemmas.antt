@@ -13,7 +13,8 @@ use Rattle.std.proofs.lemmas.Slice.Eq.{bytes_eq-Decides}
 use Rattle.strm_script_text.proofs.LineLemmas.{line_before}
 use Rattle.strm_script_words.specs.Naming.{KindWords, shape_at}
 use Rattle.strm_script_words.specs.Fault.{◌>>=◌, or_fault}
-use Rattle.strm_script_words.specs.Table.{Asked, Pushed, word_of, all_verbs, verb_named, is_push, arity_at, request_at, told_at}
+use Rattle.strm_script_words.specs.Table.{Asked, Pushed, word_of, all_verbs, verb_named, is_push, arity_at, request_at, served_at, told_at}
+use Rattle.strm_script_words.specs.Service.{is_service}
 use Rattle.strm_script_words.specs.declared.fault.Cause.{Cause}
 use Rattle.strm_script_words.specs.declared.fault.Cause.TheVariants as causes
 use Rattle.strm_script_words.specs.declared.verb.Verb.{Verb}
@@ -135,6 +136,11 @@ no_declaration Verb.Ckband = (refl, refl, refl)
 no_declaration Verb.Getband = (refl, refl, refl)
 no_declaration Verb.Close = (refl, refl, refl)
 no_declaration Verb.Take = (refl, refl, refl)
+no_declaration Verb.Getq = (refl, refl, refl)
+no_declaration Verb.Putbq = (refl, refl, refl)
+no_declaration Verb.Putnext = (refl, refl, refl)
+no_declaration Verb.Bcanputnext = (refl, refl, refl)
+no_declaration Verb.Qsize = (refl, refl, refl)
 no_declaration Verb.Poll = (refl, refl, refl)
 
 verb_declares_nothing : (word : List ℕ) (verb : Verb) → verb_named word ≡ Some verb → IsNoDeclaration word
@@ -144,8 +150,8 @@ verb_declares_nothing word verb is =
 
 module _ {K : Type 0} (words : KindWords K) (streams : Streams) where
   -- what is no push is read by itself as it is anywhere
-  request_is : (serial : ℕ) (verb : Verb) (texts : List (List ℕ)) → is_push verb ≡ false → request_at words serial verb texts ≡ told_at verb texts
-  request_is serial verb texts none = ap (λ b. cond b (shape_at words serial texts >>= λ shape. Ok (Pushed shape)) (told_at verb texts)) none
+  request_is : (serial : ℕ) (verb : Verb) (texts : List (List ℕ)) → is_push verb ≡ false → request_at words serial verb texts ≡ cond (is_service verb) (served_at verb texts) (told_at verb texts)
+  request_is serial verb texts none = ap (λ b. cond b (shape_at words serial texts >>= λ shape. Ok (Pushed shape)) (cond (is_service verb) (served_at verb texts) (told_at verb texts))) none
 
   abbrev call_by : Result (Asked K) Cause → Verb → List (List ℕ) → Result (Call K) Cause
   call_by asked verb [] = Err causes.Fields

@@ -8,20 +8,24 @@ use Rattle.strm_msg.specs.Message.{Msg}
 use Rattle.strm_msg.specs.Text.{name_of}
 use Rattle.strm_msg.specs.declared.errno.Errno.{Errno}
 use Rattle.strm_msg.specs.declared.kind.MsgKind.{MsgKind}
-use Rattle.strm_msg.specs.declared.kind.MsgKind.TheVariants.{MData, MProto, MPcproto, MSetopts, MFlush, MHangup, MError}
+use Rattle.strm_msg.specs.declared.kind.MsgKind.TheVariants.{MData, MProto, MPcproto, MIoctl, MSetopts, MIocack, MIocnak, MFlush, MHangup, MError}
 use Rattle.strm_msg.specs.Marks.{WaterMarks}
 use Rattle.strm_module.specs.declared.kind.Kind.{Kind}
 use Rattle.strm_module.specs.declared.shape.Shape.{Shape}
 use Rattle.strm_head_calls.specs.declared.request.Request.{Request}
+use Rattle.strm_head_calls.specs.declared.service.ServiceCall.{ServiceCall}
+use Rattle.strm_head_calls.specs.declared.service.ServiceCall.TheVariants.{Getq, Putbq, Putnext, Bcanputnext, Qsize}
 use Rattle.strm_script_text.specs.Spelling.{part_text}
-use Rattle.strm_script_words.specs.Words.{mode_word, prot_word, flush_word}
+use Rattle.strm_script_words.specs.Words.{wanted_word, mode_word, prot_word, side_word, flush_word}
 use Rattle.strm_script_words.specs.Field.{Field, Bytes, Number, Pair, Word, part_field}
 use Rattle.strm_script_words.specs.Push.{kind_word}
 use Rattle.strm_script_print.specs.declared.field.Field as printed
-use Rattle.strm_script_words.specs.Table.{Asked, Told, Pushed}
+use Rattle.strm_script_words.specs.Table.{Asked, Told, Serves, Pushed}
 use Rattle.strm_script_words.specs.Arrival.{message_word}
+use Rattle.strm_script_words.specs.Service.{inner_word, service_verb}
 use Rattle.strm_script_words.specs.declared.push.KindWord.{KindWord}
 use Rattle.strm_script_words.specs.declared.arrival.MessageWord.{MessageWord}
+use Rattle.strm_script_words.specs.declared.service.InnerWord.{InnerWord}
 use Rattle.strm_script_words.specs.declared.verb.Verb.{Verb}
 
 abbrev pub fields_text : Field → List ℕ
@@ -89,29 +93,21 @@ abbrev pub side_field : Option WaterMarks → Field
 side_field None = Word (codes "-")
 side_field (Some marks) = Pair marks.hi marks.lo
 
--- the fields of a push: KIND NAME RD WR, and the fields of the kind
-abbrev pub push_fields : {K : Type 0} → KindSpelling K → Shape K → List Field
-push_fields spelling shape =
+-- `noenable`, where the service procedures are the program's
+abbrev pub noenable_fields : Bool → List Field
+noenable_fields true = Word (codes "noenable") ∷ []
+noenable_fields false = []
+
+-- KIND NAME RD WR, and the fields of the kind
+abbrev pub module_fields : {K : Type 0} → KindSpelling K → Shape K → List Field
+module_fields spelling shape =
     Word (spelling.word shape.kind) ∷ Word shape.name.items ∷ side_field shape.rd ∷ side_field shape.wr ∷ spelling.fields shape.kind
 
--- ---- calls
+-- the fields of a push
+abbrev pub push_fields : {K : Type 0} → KindSpelling K → Shape K → List Field
+push_fields spelling shape = noenable_fields shape.noenable ++ module_fields spelling shape
 
-abbrev pub verb_of : {K : Type 0} → Asked K → Verb
-verb_of (Told verb fields) = verb
-verb_of (Pushed shape) = Verb.Push
-
--- the fields of a call behind NAME:END
-abbrev pub fields_of : {K : Type 0} → KindSpelling K → Asked K → List Field
-fields_of spelling (Told verb fields) = fields
-fields_of spelling (Pushed shape) = push_fields spelling shape
-
--- whether it is a read or a write (no public clause cites it)
-abbrev pub is_read_or_write : {X : Type 0} → Request X → Bool
-is_read_or_write (Request.Read max) = true
-is_read_or_write (Request.Write dat) = true
-is_read_or_write request = false
-
--- ---- messages that came in
+-- ---- messages
 
 -- the word of a choice, or `-` if it stays as it is
 abbrev pub kept_field : {X : Type 0} → (X → List ℕ) → Option X → Field
@@ -146,10 +142,39 @@ message_fields_by MPcproto m = Word (message_word MessageWord.Pcproto) ∷ part_
 message_fields_by (MSetopts mode prot marks) m =
     Word (message_word MessageWord.Setopts) ∷ kept_field mode_word mode ∷ kept_field prot_word prot ∷ kept_marks marks ∷ []
 message_fields_by (MFlush r w band) m = flush_fields band (flush_word r w)
+message_fields_by (MIoctl id cmd) m = Word (inner_word InnerWord.Ioctl) ∷ Number id ∷ Number cmd ∷ part_field m.dat ∷ []
+message_fields_by (MIocack id rval) m = Word (inner_word InnerWord.Iocack) ∷ Number id ∷ Number rval ∷ part_field m.dat ∷ []
+message_fields_by (MIocnak id errno) m = Word (inner_word InnerWord.Iocnak) ∷ Number id ∷ Word (name_of errno) ∷ []
 message_fields_by MHangup m = Word (message_word MessageWord.Hangup) ∷ []
 message_fields_by (MError rd wr) m = error_fields rd wr
-message_fields_by kind m = []
 
--- the fields of a message, as a feed has it; none for a kind that comes from no line
+-- the fields of a message, as a feed and a service call have it
 abbrev pub message_fields : Msg → List Field
 message_fields m = message_fields_by m.kind m
+
+-- ---- calls
+
+abbrev pub verb_of : {K : Type 0} → Asked K → Verb
+verb_of (Told verb fields) = verb
+verb_of (Serves name side call) = service_verb call
+verb_of (Pushed shape) = Verb.Push
+
+-- the fields of a service call behind MODULE and SIDE
+abbrev pub service_fields : ServiceCall → List Field
+service_fields (Getq flag) = Word (wanted_word flag) ∷ []
+service_fields (Putbq m) = message_fields m
+service_fields (Putnext m) = message_fields m
+service_fields (Bcanputnext band) = Number band ∷ []
+service_fields Qsize = []
+
+-- the fields of a call behind NAME:END
+abbrev pub fields_of : {K : Type 0} → KindSpelling K → Asked K → List Field
+fields_of spelling (Told verb fields) = fields
+fields_of spelling (Serves name side call) = Word name ∷ Word (side_word side) ∷ service_fields call
+fields_of spelling (Pushed shape) = push_fields spelling shape
+
+-- whether it is a read or a write (no public clause cites it)
+abbrev pub is_read_or_write : {X : Type 0} → Request X → Bool
+is_read_or_write (Request.Read max) = true
+is_read_or_write (Request.Write dat) = true
+is_read_or_write request = false

@@ -15,6 +15,8 @@ use Rattle.strm_head_calls.specs.Polled.{is_in, is_rdnorm, is_rdband, is_pri}
 use Rattle.strm_head_calls.specs.declared.answer.Acknowledged.{Acknowledged}
 use Rattle.strm_head_calls.specs.declared.answer.Acknowledged.TheVariants.{Ack, Nak, Timeout}
 use Rattle.strm_head_calls.specs.declared.answer.Reply.{Reply}
+use Rattle.strm_head_calls.specs.declared.service.Serviced.{Serviced}
+use Rattle.strm_head_calls.specs.declared.service.Serviced.TheVariants as serviced
 use Rattle.strm_head_calls.specs.declared.answer.Answer.{Answer}
 use Rattle.strm_head_calls.specs.declared.answer.Answer.TheVariants.{Done, Refused, Broke}
 use Rattle.strm_script_words.specs.Words.{priority_word, mode_word, prot_word}
@@ -86,6 +88,13 @@ poll_word told = or_zero (joined [] (poll_flags told))
 abbrev pub list_fields : List (ArrayVec ℕ) → Driver → List Field
 list_fields names driver = name_fields names ++ Word (driver_name driver) ∷ []
 
+-- a service call that takes no message
+abbrev pub serviced_fields : Serviced → List Field
+serviced_fields serviced.Putbq = done_fields
+serviced_fields serviced.Putnext = done_fields
+serviced_fields (serviced.Bcanputnext can) = Word (holds_word can) ∷ []
+serviced_fields (serviced.Qsize messages) = Number messages ∷ []
+
 abbrev pub reply_fields : Reply → List Field
 reply_fields Reply.Putmsg = done_fields
 reply_fields Reply.Putpmsg = done_fields
@@ -112,6 +121,7 @@ reply_fields (Reply.Close names) = Word (codes "closed") ∷ name_fields names.i
 reply_fields Reply.Line = done_fields
 reply_fields (Reply.Message m) = message_fields m
 reply_fields Reply.Hangup = Word (message_word MessageWord.Hangup) ∷ []
+reply_fields (Reply.Service told) = serviced_fields told
 reply_fields (Reply.Poll told) = Word (poll_word told) ∷ []
 
 -- whether it is the reply of a read or of a write (no public clause cites it)

@@ -1,4 +1,4 @@
-//! The printed messages that came in.
+//! The printed messages.
 ghost use Rattle.std.specs.Prelude.{◌≡◌};
 ghost use Rattle.strm_msg.specs.Text.{name_of};
 ghost use Rattle.strm_script_words.specs.Words as words;
@@ -10,7 +10,7 @@ use crate::field::{Field, add_all, part_field};
 use crate::line_buffer::LineBuffer;
 use std::io::Write;
 use strm_msg::{Errno, Message, MsgKind, Prot, ReadMode};
-use strm_script_words::{Keyword, MessageWord, Verb};
+use strm_script_words::{InnerWord, Keyword, MessageWord, Verb};
 
 /// Adds a flush of all bands, or of one.
 fn add_flush<W: Write>(w: &mut W, out: &mut LineBuffer, band: Option<u8>, read: bool, write: bool)
@@ -88,8 +88,7 @@ fn add_error<W: Write>(w: &mut W, out: &mut LineBuffer, rd: Option<Errno>, wr: O
     add_all(w, out, &[word, errno_field(rd), errno_field(wr)]);
 }
 
-/// Adds a message as a feed has it.
-#[tactic(auto, using(crate::proofs::GatheredLemmas::puts_nothing))]
+/// Adds a message as a feed and a service call have it.
 pub(crate) fn add_message<W: Write>(w: &mut W, out: &mut LineBuffer, m: &Message)
     ensures { AddsFields W.contents w.old w.new out.old out.new (text.message_fields m.now) }
 {
@@ -109,6 +108,20 @@ pub(crate) fn add_message<W: Write>(w: &mut W, out: &mut LineBuffer, m: &Message
         MsgKind::MFlush { r, w: write, band } => add_flush(w, out, band, r, write),
         MsgKind::MHangup => add_all(w, out, &[Word(MessageWord::Hangup.word())]),
         MsgKind::MError { rd, wr } => add_error(w, out, rd, wr),
-        MsgKind::MIoctl { .. } | MsgKind::MIocack { .. } | MsgKind::MIocnak { .. } => {}
+        MsgKind::MIoctl { id, cmd } => {
+            let (word, cmd) = (Word(InnerWord::Ioctl.word()), Number(u64::from(cmd)));
+            add_all(w, out, &[word, Number(id), cmd, dat])
+        }
+        MsgKind::MIocack { id, rval } => {
+            let word = Word(InnerWord::Iocack.word());
+            add_all(w, out, &[word, Number(id), Number(rval), dat])
+        }
+        MsgKind::MIocnak { id, errno } => {
+            let (word, errno) = (
+                Word(InnerWord::Iocnak.word()),
+                Word(errno.name().as_bytes()),
+            );
+            add_all(w, out, &[word, Number(id), errno])
+        }
     }
 }

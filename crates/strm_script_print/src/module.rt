@@ -2,11 +2,11 @@
 ghost use Rattle.std.specs.Prelude.{◌≡◌, []};
 ghost use Rattle.strm_script_text.specs.Writing.{Writes};
 ghost use Rattle.strm_script_print.specs.Fields as text;
-ghost use Rattle.strm_script_print.specs.Fields.{push_fields};
+ghost use Rattle.strm_script_print.specs.Fields.{module_fields, noenable_fields, push_fields};
 ghost use Rattle.strm_script_print.specs.LineBuffer.{AddsFields};
 
 use crate::field::Field::{Pair, Word};
-use crate::field::{Field, add_all, put_number, put_part};
+use crate::field::{Field, add_all, add_word, put_number, put_part};
 use crate::line_buffer::LineBuffer;
 use arrayvec::ArrayVec;
 use std::io::{self, Write};
@@ -135,10 +135,20 @@ fn add_kind<W: Write, K: PrintKind>(w: &mut W, out: &mut LineBuffer, kind: &K)
     }
 }
 
+/// Adds that the service procedures of a module are the program's, where they are.
+#[tactic(auto, using(crate::proofs::GatheredLemmas::puts_nothing))]
+fn add_noenable<W: Write>(w: &mut W, out: &mut LineBuffer, noenable: bool)
+    ensures { AddsFields W.contents w.old w.new out.old out.new (noenable_fields noenable) }
+{
+    if noenable {
+        add_word(w, out, b"noenable");
+    }
+}
+
 /// Adds a module: its kind, its name, the marks of its sides, and the fields of the kind.
 #[tactic(auto, using(crate::proofs::GatheredLemmas::puts_on))]
-pub(crate) fn add_module<W: Write, K: PrintKind>(w: &mut W, out: &mut LineBuffer, shape: &Shape<K>)
-    ensures { AddsFields W.contents w.old w.new out.old out.new (push_fields K.spelling shape.now) }
+fn add_shape<W: Write, K: PrintKind>(w: &mut W, out: &mut LineBuffer, shape: &Shape<K>)
+    ensures { AddsFields W.contents w.old w.new out.old out.new (module_fields K.spelling shape.now) }
 {
     let (kind, name) = (Word(shape.kind.word()), Word(shape.name.as_slice()));
     add_all(
@@ -147,4 +157,13 @@ pub(crate) fn add_module<W: Write, K: PrintKind>(w: &mut W, out: &mut LineBuffer
         &[kind, name, side_field(shape.rd), side_field(shape.wr)],
     );
     add_kind(w, out, &shape.kind);
+}
+
+/// Adds the module of a push, which may be the program's to service.
+#[tactic(auto, using(crate::proofs::GatheredLemmas::puts_on))]
+pub(crate) fn add_module<W: Write, K: PrintKind>(w: &mut W, out: &mut LineBuffer, shape: &Shape<K>)
+    ensures { AddsFields W.contents w.old w.new out.old out.new (push_fields K.spelling shape.now) }
+{
+    add_noenable(w, out, shape.noenable);
+    add_shape(w, out, shape);
 }

@@ -5,7 +5,7 @@ ghost use Rattle.strm_script_print.specs.LineBuffer.{Adds, AddsFields};
 ghost use Rattle.strm_script_print.specs.Lines.{answer_text};
 ghost use Rattle.strm_script_print.specs.Replies as text;
 ghost use Rattle.strm_script_print.specs.Replies.{acknowledged_fields, answer_fields, list_fields};
-ghost use Rattle.strm_script_print.specs.Replies.{peeked_fields, reply_fields};
+ghost use Rattle.strm_script_print.specs.Replies.{peeked_fields, reply_fields, serviced_fields};
 
 use crate::field::Field::{Number, Word};
 use crate::field::{add_all, add_names, add_number, add_part, add_word, part_field};
@@ -13,7 +13,7 @@ use crate::line_buffer::LineBuffer;
 use crate::message::add_message;
 use crate::polled::add_polled;
 use std::io::{self, Write};
-use strm_head_calls::{Acknowledged, Answer, More, Name, Peeked, Received, Reply};
+use strm_head_calls::{Acknowledged, Answer, More, Name, Peeked, Received, Reply, Serviced};
 use strm_module::Driver;
 use strm_msg::Bytes;
 use strm_script_words::{Keyword, MessageWord};
@@ -96,6 +96,17 @@ fn add_list<W: Write>(w: &mut W, out: &mut LineBuffer, names: &[Name], driver: D
     add_word(w, out, driver.name());
 }
 
+/// Adds the reply of a service call that takes no message.
+fn add_serviced<W: Write>(w: &mut W, out: &mut LineBuffer, told: Serviced)
+    ensures { AddsFields W.contents w.old w.new out.old out.new (serviced_fields told) }
+{
+    match told {
+        Serviced::Putbq | Serviced::Putnext => add_word(w, out, b"0"),
+        Serviced::Bcanputnext { can } => add_word(w, out, holds_word(can)),
+        Serviced::Qsize { messages } => add_number(w, out, messages),
+    }
+}
+
 /// Adds the reply of a call that is no read and no write, from a list of fields. It is a function apart, so
 /// that room for the lists is made only for replies that have some.
 #[inline(never)]
@@ -147,6 +158,7 @@ fn add_as_list<W: Write>(w: &mut W, out: &mut LineBuffer, reply: &Reply)
         }
         Reply::Message { m } => add_message(w, out, m),
         Reply::Hangup => add_word(w, out, MessageWord::Hangup.word()),
+        Reply::Service { told } => add_serviced(w, out, *told),
         Reply::Poll { told } => add_polled(w, out, *told),
     }
 }

@@ -1,17 +1,35 @@
 //! The printed requests of calls.
-ghost use Rattle.std.specs.Prelude.{◌≡◌, false};
+ghost use Rattle.std.specs.Prelude.{◌≡◌, ◌∷◌, false};
+ghost use Rattle.strm_script_words.specs.Field as says;
+ghost use Rattle.strm_script_words.specs.Service.{service_verb};
 ghost use Rattle.strm_script_words.specs.Table.{asked_of};
+ghost use Rattle.strm_script_words.specs.Words.{side_word};
 ghost use Rattle.strm_script_print.specs.Fields as text;
 ghost use Rattle.strm_script_print.specs.LineBuffer.{AddsFields};
 
 use crate::field::Field::{Number, Word};
-use crate::field::{add_all, add_number, add_part, maximum_field, part_field};
+use crate::field::{add_all, add_number, add_part, add_word, maximum_field, part_field};
 use crate::line_buffer::LineBuffer;
+use crate::message::add_message;
 use crate::module::{PrintKind, add_module};
 use std::io::Write;
-use strm_head_calls::Request;
+use strm_head_calls::{Name, Request, ServiceCall};
 use strm_module::BoxedShape;
+use strm_msg::Side;
 use strm_script_words::{Keyword, Verb};
+
+/// The verb of a service call.
+fn service_verb(call: &ServiceCall) -> Verb
+    ensures { result ≡ service_verb call.now }
+{
+    match call {
+        ServiceCall::Getq { .. } => Verb::Getq,
+        ServiceCall::Putbq { .. } => Verb::Putbq,
+        ServiceCall::Putnext { .. } => Verb::Putnext,
+        ServiceCall::Bcanputnext { .. } => Verb::Bcanputnext,
+        ServiceCall::Qsize => Verb::Qsize,
+    }
+}
 
 /// The verb of a request.
 pub(crate) fn verb_of<K>(request: &Request<BoxedShape<K>>) -> Verb
@@ -41,8 +59,37 @@ pub(crate) fn verb_of<K>(request: &Request<BoxedShape<K>>) -> Verb
         Request::Getband => Verb::Getband,
         Request::Close => Verb::Close,
         Request::Take => Verb::Take,
+        Request::Service { call, .. } => service_verb(call),
         Request::Poll => Verb::Poll,
     }
+}
+
+/// Adds the fields of a service call behind MODULE and SIDE.
+#[tactic(auto, using(crate::proofs::GatheredLemmas::puts_nothing))]
+fn add_service_call<W: Write>(w: &mut W, out: &mut LineBuffer, call: &ServiceCall)
+    ensures { AddsFields W.contents w.old w.new out.old out.new (text.service_fields call.now) }
+{
+    match call {
+        ServiceCall::Getq { flag } => add_word(w, out, flag.word()),
+        ServiceCall::Putbq { m } | ServiceCall::Putnext { m } => add_message(w, out, m),
+        ServiceCall::Bcanputnext { band } => add_number(w, out, u64::from(*band)),
+        ServiceCall::Qsize => {}
+    }
+}
+
+/// Adds the fields of a service call behind NAME:END.
+#[tactic(auto, using(crate::proofs::GatheredLemmas::puts_on))]
+fn add_service<W: Write>(
+    w: &mut W,
+    out: &mut LineBuffer,
+    name: &Name,
+    side: Side,
+    call: &ServiceCall,
+)
+    ensures { AddsFields W.contents w.old w.new out.old out.new (says.Word name.now.items ∷ says.Word (side_word side) ∷ text.service_fields call.now) }
+{
+    add_all(w, out, &[Word(name.as_slice()), Word(side.word())]);
+    add_service_call(w, out, call);
 }
 
 /// Adds the fields of a call that is no read and no write, behind NAME:END, from a list of them. It is a
@@ -125,6 +172,7 @@ fn add_as_list<W: Write, K: PrintKind + Drop>(
         Request::SetRead { mode, prot } => {
             add_all(w, out, &[Word(mode.word()), Word(prot.word())])
         }
+        Request::Service { name, side, call } => add_service(w, out, name, *side, call),
         Request::Canput { band } | Request::Ckband { band } => add_number(w, out, u64::from(*band)),
         Request::Pop
         | Request::Look

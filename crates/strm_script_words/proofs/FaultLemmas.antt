@@ -1,6 +1,5 @@
 -- What fails first.
 use Rattle.std.proofs.Common.{◌≡◌, ℕ, ◌<◌, ◌≤◌, List, [], ◌∷◌, length, get_or, Bor, Option, Result, Ok, Err, ap, arith}
-use Rattle.strm_head_calls.specs.declared.request.TheConstants.{MAX_CONTROL, MAX_DATA}
 use Rattle.strm_msg.specs.Message.{bare, proto_msg}
 use Rattle.strm_msg.specs.declared.kind.MsgKind.TheVariants.{MSetopts}
 use Rattle.strm_msg.specs.declared.words.ReadMode.{ReadMode}
@@ -8,7 +7,8 @@ use Rattle.strm_script_text.specs.Text.{texts_of}
 use Rattle.strm_script_words.specs.Fault.{◌>>=◌, Fails}
 use Rattle.strm_script_words.specs.Field.{number_at, part_at, part_upto, optional_upto, optional_marks_at}
 use Rattle.strm_script_words.specs.Push.{table_at}
-use Rattle.strm_script_words.specs.Arrival.{proto_at, optional_mode_at, optional_prot_at, setopts_at, optional_errno_at, error2_at}
+use Rattle.strm_script_words.specs.Arrival.{proto_at, pcproto_at, optional_mode_at, optional_prot_at, setopts_at, optional_errno_at, error2_at}
+use Rattle.strm_script_words.specs.declared.arrival.Limits.{Limits}
 use Rattle.strm_script_words.specs.declared.fault.Cause.{Cause}
 use Rattle.strm_script_words.specs.declared.fault.ReadError.{ReadError}
 use Rattle.strm_script_words.specs.declared.fault.ReadError.TheVariants as errors
@@ -39,13 +39,28 @@ read_fails error (a ∷ b ∷ []) d least below fails = fails_first error (optio
 read_fails error (a ∷ b ∷ c ∷ texts) d least below fails = absurd (omega (arith, below))
 
 -- PART is no part behind a band
-pub control_fails : (error : ReadError) (texts : List (Bor (List ℕ))) (d : Bor (List ℕ)) (b : ℕ) → 3 ≤ length texts → length texts < 4 → number_at MOST_BAND (get_or texts 0 d).now ≡ Ok b → Fails error (part_upto MAX_CONTROL (get_or texts 1 d).now) → Fails error (proto_at (texts_of texts))
-control_fails error [] d b least below band fails = absurd (omega (arith, least))
-control_fails error (x ∷ []) d b least below band fails = absurd (omega (arith, least))
-control_fails error (x ∷ y ∷ []) d b least below band fails = absurd (omega (arith, least))
-control_fails error (x ∷ y ∷ z ∷ []) d b least below band fails =
-    fails_second error (number_at MOST_BAND x.now) b (λ n. part_upto MAX_CONTROL y.now) (λ n control. optional_upto MAX_DATA z.now >>= λ bytes. Ok (proto_msg n control bytes)) band fails
-control_fails error (x ∷ y ∷ z ∷ w ∷ texts) d b least below band fails = absurd (omega (arith, below))
+pub control_fails : (limits : Limits) (error : ReadError) (texts : List (Bor (List ℕ))) (d : Bor (List ℕ)) (b : ℕ) → 3 ≤ length texts → length texts < 4 → number_at MOST_BAND (get_or texts 0 d).now ≡ Ok b → Fails error (part_upto limits.ctl (get_or texts 1 d).now) → Fails error (proto_at limits (texts_of texts))
+control_fails limits error [] d b least below band fails = absurd (omega (arith, least))
+control_fails limits error (x ∷ []) d b least below band fails = absurd (omega (arith, least))
+control_fails limits error (x ∷ y ∷ []) d b least below band fails = absurd (omega (arith, least))
+control_fails limits error (x ∷ y ∷ z ∷ []) d b least below band fails =
+    fails_second error (number_at MOST_BAND x.now) b (λ n. part_upto limits.ctl y.now) (λ n control. optional_upto limits.dat z.now >>= λ bytes. Ok (proto_msg n control bytes)) band fails
+control_fails limits error (x ∷ y ∷ z ∷ w ∷ texts) d b least below band fails = absurd (omega (arith, below))
+
+-- BAND is no band, before control and data
+pub band_fails : (limits : Limits) (error : ReadError) (texts : List (Bor (List ℕ))) (d : Bor (List ℕ)) → 3 ≤ length texts → length texts < 4 → Fails error (number_at MOST_BAND (get_or texts 0 d).now) → Fails error (proto_at limits (texts_of texts))
+band_fails limits error [] d least below fails = absurd (omega (arith, least))
+band_fails limits error (x ∷ []) d least below fails = absurd (omega (arith, least))
+band_fails limits error (x ∷ y ∷ []) d least below fails = absurd (omega (arith, least))
+band_fails limits error (x ∷ y ∷ z ∷ []) d least below fails = fails_first error (number_at MOST_BAND x.now) _ fails
+band_fails limits error (x ∷ y ∷ z ∷ w ∷ texts) d least below fails = absurd (omega (arith, below))
+
+-- PART is no part before DAT
+pub first_control_fails : (limits : Limits) (error : ReadError) (texts : List (Bor (List ℕ))) (d : Bor (List ℕ)) → 2 ≤ length texts → length texts < 3 → Fails error (part_upto limits.ctl (get_or texts 0 d).now) → Fails error (pcproto_at limits (texts_of texts))
+first_control_fails limits error [] d least below fails = absurd (omega (arith, least))
+first_control_fails limits error (a ∷ []) d least below fails = absurd (omega (arith, least))
+first_control_fails limits error (a ∷ b ∷ []) d least below fails = fails_first error (part_upto limits.ctl a.now) _ fails
+first_control_fails limits error (a ∷ b ∷ c ∷ texts) d least below fails = absurd (omega (arith, below))
 
 -- MODE is no mode
 pub mode_fails : (error : ReadError) (texts : List (Bor (List ℕ))) (d : Bor (List ℕ)) → 3 ≤ length texts → length texts < 4 → Fails error (optional_mode_at (get_or texts 0 d).now) → Fails error (setopts_at (texts_of texts))

@@ -1,4 +1,5 @@
 pub mod ChoiceLemmas
 pub mod FaultLemmas
 pub mod RequestLemmas
+pub mod ServiceLemmas
 pub mod TableLemmas

@@ -1,4 +1,5 @@
--- The messages of a feed. Their parts are no longer than those that a call may send.
+-- Messages by their words and fields. The parts of those of a feed are no longer than those that a call may
+-- send.
 use Rattle.std.specs.Prelude.{ℕ, Bool, true, false, List, [], ◌∷◌, Option, Some, None, Result, Ok, Err, codes, if◌then◌else◌}
 use Rattle.std.specs.Str.{bytes_eq}
 use Rattle.strm_msg.specs.Message.{Msg, bare, data_msg, proto_msg, pcproto_msg}
@@ -13,6 +14,7 @@ use Rattle.strm_script_words.specs.Field.{number_at, value_at, part_upto, option
 use Rattle.strm_script_words.specs.declared.fault.Cause.{Cause}
 use Rattle.strm_script_words.specs.declared.fault.Cause.TheVariants as causes
 use Rattle.strm_script_words.specs.declared.arrival.MessageWord.{MessageWord}
+use Rattle.strm_script_words.specs.declared.arrival.Limits.{Limits}
 use Rattle.strm_script_words.specs.declared.field.TheConstants.{MOST_BAND}
 
 -- the word of a message
@@ -51,30 +53,30 @@ optional_prot_at text = if bytes_eq text (codes "-") then Ok None else (prot_at 
 abbrev pub flush_at : List ℕ → Result (Bool × Bool) Cause
 flush_at text = value_at (λ sides. flush_word sides.0 sides.1) all_sides text
 
--- the message of BAND PART
-abbrev pub data_at : List (List ℕ) → Result Msg Cause
-data_at (band ∷ dat ∷ []) = do
+-- the message of BAND PART, whose parts have at most these lengths
+abbrev pub data_at : Limits → List (List ℕ) → Result Msg Cause
+data_at limits (band ∷ dat ∷ []) = do
   b ← number_at MOST_BAND band
-  bytes ← part_upto MAX_DATA dat
+  bytes ← part_upto limits.dat dat
   Ok (data_msg b bytes)
-data_at texts = Err causes.Fields
+data_at limits texts = Err causes.Fields
 
 -- the message of BAND PART DAT
-abbrev pub proto_at : List (List ℕ) → Result Msg Cause
-proto_at (band ∷ ctl ∷ dat ∷ []) = do
+abbrev pub proto_at : Limits → List (List ℕ) → Result Msg Cause
+proto_at limits (band ∷ ctl ∷ dat ∷ []) = do
   b ← number_at MOST_BAND band
-  control ← part_upto MAX_CONTROL ctl
-  bytes ← optional_upto MAX_DATA dat
+  control ← part_upto limits.ctl ctl
+  bytes ← optional_upto limits.dat dat
   Ok (proto_msg b control bytes)
-proto_at texts = Err causes.Fields
+proto_at limits texts = Err causes.Fields
 
 -- the message of PART DAT
-abbrev pub pcproto_at : List (List ℕ) → Result Msg Cause
-pcproto_at (ctl ∷ dat ∷ []) = do
-  control ← part_upto MAX_CONTROL ctl
-  bytes ← optional_upto MAX_DATA dat
+abbrev pub pcproto_at : Limits → List (List ℕ) → Result Msg Cause
+pcproto_at limits (ctl ∷ dat ∷ []) = do
+  control ← part_upto limits.ctl ctl
+  bytes ← optional_upto limits.dat dat
   Ok (pcproto_msg control bytes)
-pcproto_at texts = Err causes.Fields
+pcproto_at limits texts = Err causes.Fields
 
 -- the message of MODE PROT HI/LO, where `-` leaves each as it is
 abbrev pub setopts_at : List (List ℕ) → Result Msg Cause
@@ -118,13 +120,21 @@ takes_memory MessageWord.Proto = true
 takes_memory MessageWord.Pcproto = true
 takes_memory word = false
 
--- the message of this word with these fields
+-- the message of this word with these fields, whose parts have at most these lengths
+abbrev pub limited_at : Limits → MessageWord → List (List ℕ) → Result Msg Cause
+limited_at limits MessageWord.Data texts = data_at limits texts
+limited_at limits MessageWord.Proto texts = proto_at limits texts
+limited_at limits MessageWord.Pcproto texts = pcproto_at limits texts
+limited_at limits MessageWord.Setopts texts = setopts_at texts
+limited_at limits MessageWord.Flush texts = flush_msg_at texts
+limited_at limits MessageWord.Hangup texts = hangup_at texts
+limited_at limits MessageWord.Error texts = error_at texts
+limited_at limits MessageWord.Error2 texts = error2_at texts
+
+-- the greatest lengths that a call may send
+abbrev pub call_limits : Limits
+call_limits = record { ctl = MAX_CONTROL; dat = MAX_DATA }
+
+-- the message of this word with these fields, as a feed offers it
 abbrev pub message_at : MessageWord → List (List ℕ) → Result Msg Cause
-message_at MessageWord.Data texts = data_at texts
-message_at MessageWord.Proto texts = proto_at texts
-message_at MessageWord.Pcproto texts = pcproto_at texts
-message_at MessageWord.Setopts texts = setopts_at texts
-message_at MessageWord.Flush texts = flush_msg_at texts
-message_at MessageWord.Hangup texts = hangup_at texts
-message_at MessageWord.Error texts = error_at texts
-message_at MessageWord.Error2 texts = error2_at texts
+message_at word texts = limited_at call_limits word texts

@@ -5,3 +5,4 @@ pub mod Naming
 pub mod Push
 pub mod Table
 pub mod Arrival
+pub mod Service

@@ -8,6 +8,8 @@ use Rattle.strm_msg.specs.declared.words.ReadMode.{ReadMode}
 use Rattle.strm_msg.specs.declared.words.ReadMode.TheVariants.{Rnorm, Rmsgn, Rmsgd}
 use Rattle.strm_msg.specs.declared.words.Prot.{Prot}
 use Rattle.strm_msg.specs.declared.words.Prot.TheVariants as prots
+use Rattle.strm_msg.specs.declared.words.Side.{Side}
+use Rattle.strm_msg.specs.declared.words.Side.TheVariants as sides
 use Rattle.strm_head_calls.specs.declared.request.Priority.{Priority}
 use Rattle.strm_head_calls.specs.declared.request.Priority.TheVariants as priorities
 use Rattle.strm_head_calls.specs.declared.request.PutFlag.{PutFlag}
@@ -73,6 +75,14 @@ prot_word prots.Dis = codes "dis"
 
 abbrev pub all_prots : List Prot
 all_prots = prots.Norm ∷ prots.Dat ∷ prots.Dis ∷ []
+
+-- the queue of a side
+abbrev pub side_word : Side → List ℕ
+side_word sides.Rd = codes "rd"
+side_word sides.Wr = codes "wr"
+
+abbrev pub all_queues : List Side
+all_queues = sides.Rd ∷ sides.Wr ∷ []
 
 -- the sides of a flush, read and write
 abbrev pub flush_word : Bool → Bool → List ℕ

@@ -1,4 +1,4 @@
-//! The messages of a feed.
+//! Messages by their words and fields: those of a feed.
 ghost use Rattle.std.specs.Prelude.{◌≡◌, true, false, IfOk, IsErrOf};
 ghost use Rattle.strm_msg.specs.Kind.{is_from_line};
 ghost use Rattle.strm_script_text.specs.Text.{texts_of};
@@ -67,16 +67,25 @@ impl Keyword for MessageWord {
     }
 }
 
+/// The greatest lengths of the parts of a message, in bytes.
+#[derive(Clone, Copy, Debug, PartialEq, Eq)]
+pub struct Limits {
+    /// That of its control.
+    pub ctl: usize,
+    /// That of its data.
+    pub dat: usize,
+}
+
 /// Reads `data BAND PART`.
-fn data(alloc: Global, texts: &[&[u8]]) -> Result<Message, ReadError>
-    ensures message { Gives (λ m. m) result (arrivals.data_at (texts_of texts.now)) }
+fn data(alloc: Global, limits: Limits, texts: &[&[u8]]) -> Result<Message, ReadError>
+    ensures message { Gives (λ m. m) result (arrivals.data_at limits (texts_of texts.now)) }
     ensures line { IfOk result (λ m. is_from_line m.kind ≡ true) }
 {
     let [band, dat] = texts else {
         return Err(ReadError::Fault(Cause::Fields));
     };
     let band = u8_at(band)?;
-    let dat = part_upto(alloc, dat, MAX_DATA)?;
+    let dat = part_upto(alloc, dat, limits.dat)?;
     Ok(Message {
         kind: MsgKind::MData,
         band,
@@ -86,16 +95,16 @@ fn data(alloc: Global, texts: &[&[u8]]) -> Result<Message, ReadError>
 }
 
 /// Reads `proto BAND PART DAT`.
-fn proto(alloc: Global, texts: &[&[u8]]) -> Result<Message, ReadError>
-    ensures message { Gives (λ m. m) result (arrivals.proto_at (texts_of texts.now)) }
+fn proto(alloc: Global, limits: Limits, texts: &[&[u8]]) -> Result<Message, ReadError>
+    ensures message { Gives (λ m. m) result (arrivals.proto_at limits (texts_of texts.now)) }
     ensures line { IfOk result (λ m. is_from_line m.kind ≡ true) }
 {
     let [band, ctl, dat] = texts else {
         return Err(ReadError::Fault(Cause::Fields));
     };
     let band = u8_at(band)?;
-    let ctl = part_upto(alloc, ctl, MAX_CONTROL)?;
-    let dat = optional_upto(alloc, dat, MAX_DATA)?;
+    let ctl = part_upto(alloc, ctl, limits.ctl)?;
+    let dat = optional_upto(alloc, dat, limits.dat)?;
     Ok(Message {
         kind: MsgKind::MProto,
         band,
@@ -105,15 +114,15 @@ fn proto(alloc: Global, texts: &[&[u8]]) -> Result<Message, ReadError>
 }
 
 /// Reads `pcproto PART DAT`.
-fn pcproto(alloc: Global, texts: &[&[u8]]) -> Result<Message, ReadError>
-    ensures message { Gives (λ m. m) result (arrivals.pcproto_at (texts_of texts.now)) }
+fn pcproto(alloc: Global, limits: Limits, texts: &[&[u8]]) -> Result<Message, ReadError>
+    ensures message { Gives (λ m. m) result (arrivals.pcproto_at limits (texts_of texts.now)) }
     ensures line { IfOk result (λ m. is_from_line m.kind ≡ true) }
 {
     let [ctl, dat] = texts else {
         return Err(ReadError::Fault(Cause::Fields));
     };
-    let ctl = part_upto(alloc, ctl, MAX_CONTROL)?;
-    let dat = optional_upto(alloc, dat, MAX_DATA)?;
+    let ctl = part_upto(alloc, ctl, limits.ctl)?;
+    let dat = optional_upto(alloc, dat, limits.dat)?;
     Ok(Message {
         kind: MsgKind::MPcproto,
         band: 0,
@@ -230,17 +239,37 @@ fn bare_at(word: MessageWord, texts: &[&[u8]]) -> Result<Message, Cause>
     }
 }
 
-/// The message of a word with its fields. Refused for a wrong number of fields, then for the first field with
-/// a fault, such as a part of more bytes than a call may send; and when memory runs out, if it has a part.
+/// The message of a word with its fields, whose parts have at most these lengths. Refused for a wrong number
+/// of fields, then for the first field with a fault; and when memory runs out, if it has a part.
+pub(crate) fn limited_at(
+    alloc: Global,
+    limits: Limits,
+    word: MessageWord,
+    texts: &[&[u8]],
+) -> Result<Message, ReadError>
+    ensures message { Gives (λ m. m) result (arrivals.limited_at limits word (texts_of texts.now)) }
+    ensures memory { IsErrOf result ReadError.Memory → arrivals.takes_memory word ≡ true }
+    ensures line { IfOk result (λ m. is_from_line m.kind ≡ true) }
+{
+    match word {
+        MessageWord::Data => data(alloc, limits, texts),
+        MessageWord::Proto => proto(alloc, limits, texts),
+        MessageWord::Pcproto => pcproto(alloc, limits, texts),
+        bare => Ok(bare_at(bare, texts)?),
+    }
+}
+
+/// The message of a word with its fields, as a feed offers it. Refused for a wrong number of fields, then for
+/// the first field with a fault, such as a part of more bytes than a call may send; and when memory runs out,
+/// if it has a part.
 pub fn message_at(alloc: Global, word: MessageWord, texts: &[&[u8]]) -> Result<Message, ReadError>
     ensures message { Gives (λ m. m) result (arrivals.message_at word (texts_of texts.now)) }
     ensures memory { IsErrOf result ReadError.Memory → arrivals.takes_memory word ≡ true }
     ensures line { IfOk result (λ m. is_from_line m.kind ≡ true) }
 {
-    match word {
-        MessageWord::Data => data(alloc, texts),
-        MessageWord::Proto => proto(alloc, texts),
-        MessageWord::Pcproto => pcproto(alloc, texts),
-        bare => Ok(bare_at(bare, texts)?),
-    }
+    let limits = Limits {
+        ctl: MAX_CONTROL,
+        dat: MAX_DATA,
+    };
+    limited_at(alloc, limits, word, texts)
 }

@@ -1,5 +1,5 @@
 //! The kinds of module that a script can name, and the modules that it pushes.
-ghost use Rattle.std.specs.Prelude.{◌≡◌};
+ghost use Rattle.std.specs.Prelude.{◌≡◌, ◌≤◌, IfOk};
 ghost use Rattle.strm_script_text.specs.Text.{name_of, name_text, texts_of};
 ghost use Rattle.strm_script_words.specs.Fault.{Gives, Tells, or_fault};
 ghost use Rattle.strm_script_words.specs.Naming as naming;
@@ -27,7 +27,7 @@ impl PlayModule for Plain {
 }
 
 /// Kinds of module that a script can name, each by a word: the built-in ones of `Kind`, or those of a
-/// program.
+/// program. No kind is named `noenable`: a push has that word before the kind.
 ///
 /// An implementation gives the results of both functions as `words`. For a vocabulary of one kind that has no
 /// fields of its own, with the word `turn`:
@@ -57,10 +57,18 @@ pub trait ReadKind: Drop {
         ensures { Gives (λ kind. kind) result (words.begins word.now (texts_of texts.now)) };
 }
 
-/// The number of fields of a push behind NAME:END. Refused if the first field is missing, and if it names no
-/// kind.
-pub(crate) fn push_arity<K: ReadKind>(texts: &[&[u8]]) -> Result<usize, Cause>
-    ensures { Tells (λ n. n) result (naming.push_arity K.words (texts_of texts.now)) }
+/// Whether a word leaves the service procedures of a module to the program.
+fn is_noenable(word: &[u8]) -> bool
+    ensures { result ≡ naming.is_noenable word.now }
+{
+    word == b"noenable".as_slice()
+}
+
+/// The number of the fields KIND NAME RD WR and those of the kind. Refused if the first field is missing, and
+/// if it names no kind.
+fn kind_arity<K: ReadKind>(texts: &[&[u8]]) -> Result<usize, Cause>
+    ensures value { Tells (λ n. n) result (naming.kind_arity K.words (texts_of texts.now)) }
+    ensures few { IfOk result (λ n. n ≤ 259) }
 {
     let [kind, ..] = texts else {
         return Err(Cause::Fields);
@@ -71,8 +79,22 @@ pub(crate) fn push_arity<K: ReadKind>(texts: &[&[u8]]) -> Result<usize, Cause>
     }
 }
 
+/// The number of fields of a push behind NAME:END. Refused if the first field is missing, and if the kind has
+/// no such word.
+pub(crate) fn push_arity<K: ReadKind>(texts: &[&[u8]]) -> Result<usize, Cause>
+    ensures { Tells (λ n. n) result (naming.push_arity K.words (texts_of texts.now)) }
+{
+    let [first, behind @ ..] = texts else {
+        return Err(Cause::Fields);
+    };
+    if is_noenable(first) {
+        return Ok(kind_arity::<K>(behind)? + 1);
+    }
+    kind_arity::<K>(texts)
+}
+
 /// The name of a module. Refused if the text is none.
-fn name_at(text: &[u8]) -> Result<ArrayVec<u8, LONGEST_NAME>, Cause>
+pub(crate) fn name_at(text: &[u8]) -> Result<ArrayVec<u8, LONGEST_NAME>, Cause>
     ensures { Tells name_text result (or_fault Cause.Name (name_of LONGEST_NAME text.now)) }
 {
     match name(text) {
@@ -83,12 +105,12 @@ fn name_at(text: &[u8]) -> Result<ArrayVec<u8, LONGEST_NAME>, Cause>
 
 /// The module of KIND NAME RD WR and the fields of its kind. Refused, from left to right, for the first field
 /// with a fault.
-pub(crate) fn shape_at<K: ReadKind>(
+fn kind_shape_at<K: ReadKind>(
     alloc: Global,
     serial: u64,
     texts: &[&[u8]],
 ) -> Result<Shape<K>, ReadError>
-    ensures { Gives (λ shape. shape) result (naming.shape_at K.words serial (texts_of texts.now)) }
+    ensures { Gives (λ shape. shape) result (naming.kind_shape_at K.words serial (texts_of texts.now)) }
 {
     let [kind, chosen, rd, wr, own @ ..] = texts else {
         return Err(ReadError::Fault(Cause::Fields));
@@ -105,6 +127,27 @@ pub(crate) fn shape_at<K: ReadKind>(
         name,
         rd,
         wr,
+        noenable: false,
         kind,
     })
+}
+
+/// The module of a push: of KIND NAME RD WR and the fields of its kind, or with `noenable` before them.
+/// Refused, from left to right, for the first field with a fault.
+pub(crate) fn shape_at<K: ReadKind>(
+    alloc: Global,
+    serial: u64,
+    texts: &[&[u8]],
+) -> Result<Shape<K>, ReadError>
+    ensures { Gives (λ shape. shape) result (naming.shape_at K.words serial (texts_of texts.now)) }
+{
+    let [first, behind @ ..] = texts else {
+        return Err(ReadError::Fault(Cause::Fields));
+    };
+    if is_noenable(first) {
+        let mut shape = kind_shape_at::<K>(alloc, serial, behind)?;
+        shape.noenable = true;
+        return Ok(shape);
+    }
+    kind_shape_at(alloc, serial, texts)
 }

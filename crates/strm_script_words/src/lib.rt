@@ -8,6 +8,7 @@ mod keyword;
 mod kinds;
 mod push;
 mod request;
+mod service;
 mod verb;
 mod words;
 
@@ -20,4 +21,5 @@ pub use keyword::{Keyword, from_keyword};
 pub use kinds::{PlayModule, ReadKind};
 pub use push::KindWord;
 pub use request::request_at;
+pub use service::{InnerWord, MOST_ID, MOST_PART};
 pub use verb::Verb;

@@ -2,12 +2,14 @@
 ghost use Rattle.std.specs.Prelude.{◌≡◌, true, false, IsErrOf};
 ghost use Rattle.strm_script_text.specs.Text.{texts_of};
 ghost use Rattle.strm_script_words.specs.Fault.{Gives, Tells};
+ghost use Rattle.strm_script_words.specs.Service.{is_service};
 ghost use Rattle.strm_script_words.specs.Table as table;
 
 use crate::fault::{Cause, ReadError};
 use crate::field::{maximum_at, optional_at, part_at, u8_at, u16_at, u32_at};
 use crate::keyword::keyword_at;
 use crate::kinds::{PlayModule, ReadKind, shape_at};
+use crate::service::service_at;
 use crate::verb::Verb;
 use std::alloc::Global;
 use strm_head_calls::Request;
@@ -229,7 +231,8 @@ fn plain<M: ModuleOf>(
 
 /// The request of a call that has no part and is no push.
 fn bare_at<M: ModuleOf>(verb: Verb, texts: &[&[u8]]) -> Result<Request<BoxedModule<M>>, Cause>
-    requires { table.takes_memory verb ≡ false }
+    requires memory { table.takes_memory verb ≡ false }
+    requires told { is_service verb ≡ false }
     ensures { Tells table.asked_of result (table.told_at verb (texts_of texts.now)) }
 {
     match verb {
@@ -257,7 +260,7 @@ fn bare_at<M: ModuleOf>(verb: Verb, texts: &[&[u8]]) -> Result<Request<BoxedModu
 
 /// The request of a call, by its fields behind NAME:END. The module of a push gets the serial. Refused for a
 /// wrong number of fields, then for the first field with a fault; and when memory runs out, if a field is a
-/// part or the call is a push.
+/// part, the call is a push or it sends a message.
 pub fn request_at<M: PlayModule>(
     alloc: Global,
     serial: u64,
@@ -276,6 +279,9 @@ where
         Verb::Push => push(alloc, serial, texts),
         Verb::Find => find(alloc, texts),
         Verb::Str => str(alloc, texts),
+        Verb::Getq | Verb::Putbq | Verb::Putnext | Verb::Bcanputnext | Verb::Qsize => {
+            service_at(alloc, verb, texts)
+        }
         bare => Ok(bare_at(bare, texts)?),
     }
 }

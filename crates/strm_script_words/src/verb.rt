@@ -2,11 +2,13 @@
 ghost use Rattle.std.specs.Prelude.{◌≡◌, length};
 ghost use Rattle.strm_script_text.specs.Text.{texts_of};
 ghost use Rattle.strm_script_words.specs.Fault.{Tells};
+ghost use Rattle.strm_script_words.specs.Service.{is_service};
 ghost use Rattle.strm_script_words.specs.Table as table;
 
 use crate::fault::Cause;
 use crate::keyword::{Keyword, from_keyword};
 use crate::kinds::{ReadKind, push_arity};
+use crate::service::service_arity;
 
 /// A call on an end of a stream.
 #[derive(Clone, Copy, Debug, PartialEq, Eq)]
@@ -57,12 +59,22 @@ pub enum Verb {
     Close,
     /// Takes a message that was sent down to a wire.
     Take,
+    /// Takes a message out of a queue that the program services (getq(9F)).
+    Getq,
+    /// Puts a message back into such a queue (putbq(9F)).
+    Putbq,
+    /// Sends a message on from such a module (putnext(9F)).
+    Putnext,
+    /// Asks whether a message of a band could be sent on from there (bcanputnext(9F)).
+    Bcanputnext,
+    /// Asks for the number of messages in such a queue (qsize(9F)).
+    Qsize,
     /// Asks for the state of the end, as poll(2) reports it.
     Poll,
 }
 
 impl Verb {
-    /// The number of fields of the call behind NAME:END, if it is no push.
+    /// The number of fields of the call behind NAME:END, if it is no push and no service call.
     fn count(self) -> usize
         ensures { result ≡ length (table.forms_of self) }
     {
@@ -80,17 +92,36 @@ impl Verb {
             | Verb::Getband
             | Verb::Close
             | Verb::Take
+            | Verb::Getq
+            | Verb::Putbq
+            | Verb::Putnext
+            | Verb::Bcanputnext
+            | Verb::Qsize
             | Verb::Poll => 0,
         }
     }
 
-    /// The number of fields of the call behind NAME:END. For a push it depends on the first of them. Refused
-    /// if that is missing, or names no kind of module.
+    /// Whether it is the call of a service procedure.
+    fn is_service(self) -> bool
+        ensures { result ≡ is_service self }
+    {
+        matches!(
+            self,
+            Verb::Getq | Verb::Putbq | Verb::Putnext | Verb::Bcanputnext | Verb::Qsize
+        )
+    }
+
+    /// The number of fields of the call behind NAME:END. For a push it depends on the first of them, or on the
+    /// second behind `noenable`, and for a call that sends a message on that message's word. Refused if these
+    /// are missing, or name no kind of module and no message.
     pub fn arity<K: ReadKind>(self, texts: &[&[u8]]) -> Result<usize, Cause>
         ensures { Tells (λ n. n) result (table.arity_at K.words self (texts_of texts.now)) }
     {
         if matches!(self, Verb::Push) {
             return push_arity::<K>(texts);
+        }
+        if self.is_service() {
+            return service_arity(self, texts);
         }
         Ok(self.count())
     }
@@ -128,6 +159,11 @@ impl Keyword for Verb {
             Verb::Getband => b"getband",
             Verb::Close => b"close",
             Verb::Take => b"take",
+            Verb::Getq => b"getq",
+            Verb::Putbq => b"putbq",
+            Verb::Putnext => b"putnext",
+            Verb::Bcanputnext => b"bcanputnext",
+            Verb::Qsize => b"qsize",
             Verb::Poll => b"poll",
         }
     }
@@ -157,6 +193,11 @@ impl Keyword for Verb {
             Verb::Getband,
             Verb::Close,
             Verb::Take,
+            Verb::Getq,
+            Verb::Putbq,
+            Verb::Putnext,
+            Verb::Bcanputnext,
+            Verb::Qsize,
             Verb::Poll,
         ]
     }

@@ -1,7 +1,7 @@
-//! The words of flags, of modes, of the sides of a flush and of errors.
+//! The words of flags, of modes, of sides and of errors.
 use crate::keyword::Keyword;
 use strm_head_calls::{GetFlag, Priority, PutFlag, Wanted};
-use strm_msg::{Errno, Prot, ReadMode};
+use strm_msg::{Errno, Prot, ReadMode, Side};
 
 /// The priority of a putmsg.
 impl Keyword for Priority {
@@ -125,6 +125,26 @@ impl Keyword for Prot {
 
     fn all() -> &'static [Prot] {
         &[Prot::Norm, Prot::Dat, Prot::Dis]
+    }
+}
+
+/// The side of a queue.
+impl Keyword for Side {
+    ghost use Rattle.strm_script_words.specs.Words.{all_queues, side_word};
+
+    ghost word = { side_word };
+
+    ghost all = { all_queues };
+
+    fn word(self) -> &'static [u8] {
+        match self {
+            Side::Rd => b"rd",
+            Side::Wr => b"wr",
+        }
+    }
+
+    fn all() -> &'static [Side] {
+        &[Side::Rd, Side::Wr]
     }
 }
 

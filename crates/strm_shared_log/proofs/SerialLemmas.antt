@@ -16,7 +16,7 @@ use Rattle.strm_chain_ends.specs.Same.{SameModules}
 use Rattle.strm_chain.specs.Fault.{Breaks}
 use Rattle.strm_chain.proofs.SameLemmas.{deliver_keeps, leads_keeps}
 use Rattle.strm_head_calls.specs.declared.request.Request.{Request}
-use Rattle.strm_head_calls.specs.declared.request.Request.TheVariants.{Putmsg, Putpmsg, Getmsg, Getpmsg, Read, Write, Push, Nread, Peek, SetRead, GetRead, Canput, Ckband, Getband, Pop, Look, Find, Str, Flush, FlushBand, Close, Take, Poll}
+use Rattle.strm_head_calls.specs.declared.request.Request.TheVariants.{Putmsg, Putpmsg, Getmsg, Getpmsg, Read, Write, Push, Nread, Peek, SetRead, GetRead, Canput, Ckband, Getband, Pop, Look, Find, Str, Flush, FlushBand, Close, Take, Service, Poll}
 use Rattle.strm_head_calls.specs.declared.request.Request.TheVariants as Requests
 use Rattle.strm_head_calls.specs.declared.refusal.Refusal.{Refusal}
 use Rattle.strm_head_calls.specs.declared.answer.Reply.{Reply}
@@ -27,6 +27,8 @@ use Rattle.strm_head_msg.specs.Send.{sent_of, putmsg_message, putpmsg_message, o
 use Rattle.strm_head_ioctl.specs.Ioctl.{asked_of}
 use Rattle.strm_head_ioctl.specs.Close.{closed_image}
 use Rattle.strm_head_ioctl.specs.Outside.{taken_out}
+use Rattle.strm_head_service.specs.Own.{own_at}
+use Rattle.strm_head_service.proofs.ServeLemmas.{service_keeps}
 use Rattle.strm_head_calls.specs.declared.event.Event.{Event}
 use Rattle.strm_head_calls.specs.declared.event.Event.TheVariants.{Asked, Arrived}
 use Rattle.strm_shared_entry.specs.Entry.{Entry}
@@ -157,6 +159,8 @@ module _ {K : Type 0} (means : Meaning K) where
   plain_standing image e (FlushBand band r w) plain = standing_same image _ (deliver_keeps means image (Down e 1) _)
   plain_standing image e Close plain = cc
   plain_standing image e Take plain = taken_standing image e (end_of image e).drv
+  plain_standing image e (Service name side call) plain =
+      standing_same image _ (service_keeps means image e (own_at (end_of image e) name.items) side call)
   plain_standing image e Poll plain = refl
 
   -- the module that a call has put in

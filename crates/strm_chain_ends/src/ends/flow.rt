@@ -98,8 +98,8 @@ impl<M: ModuleOf> Ends<M> {
         }
     }
 
-    /// Whether the queue ahead of a place is full in a band.
-    fn full_ahead_of(&self, place: Place, band: u8) -> bool
+    /// Whether the queue ahead of a place is full in a band, where bcanputnext(9F) would answer the opposite.
+    pub fn full_ahead_of(&self, place: Place, band: u8) -> bool
         ensures { result ≡ full_in (ahead self.now.image place) band }
     {
         match self.queue_ahead(place) {

@@ -1,0 +1,3 @@
+pub mod OwnLemmas
+pub mod QueueLemmas
+pub mod ServeLemmas

@@ -1,0 +1,2 @@
+pub mod Own
+pub mod Serve

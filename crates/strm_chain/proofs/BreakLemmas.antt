@@ -18,7 +18,13 @@ use Rattle.strm_chain.proofs.SameLemmas.{deliver_keeps}
 
 ids_back : (old new : Record) → SameIds old new → SameIds new old
 ids_back old new s =
-    record { next = sym s.next; pending = sym s.pending; kept = λ none. sym (s.kept (sym s.pending ∙ none)) }
+    record {
+      next = sym s.next;
+      pending = sym s.pending;
+      kept = λ none. sym (s.kept (sym s.pending ∙ none));
+      asked = sym s.asked;
+      answer = λ none. sym (s.answer (sym s.asked ∙ none));
+    }
 
 end_back : {K : Type 0} (old new : EndState K) → SameEnd old new → SameEnd new old
 end_back old new s =

@@ -17,7 +17,13 @@ Leads-snoc means (p ∷ places) old mid new place l m n = (l.0, Leads-snoc means
 
 ids_trans : (old mid new : Record) → SameIds old mid → SameIds mid new → SameIds old new
 ids_trans old mid new x y =
-    record { next = y.next ∙ x.next; pending = y.pending ∙ x.pending; kept = λ none. y.kept (x.pending ∙ none) ∙ x.kept none }
+    record {
+      next = y.next ∙ x.next;
+      pending = y.pending ∙ x.pending;
+      kept = λ none. y.kept (x.pending ∙ none) ∙ x.kept none;
+      asked = y.asked ∙ x.asked;
+      answer = λ none. y.answer (x.asked ∙ none) ∙ x.answer none;
+    }
 
 pub end_trans : {K : Type 0} (old mid new : EndState K) → SameEnd old mid → SameEnd mid new → SameEnd old new
 end_trans old mid new x y =
@@ -30,7 +36,7 @@ end_trans old mid new x y =
 
 pub same_end : {K : Type 0} (e : EndState K) → SameEnd e e
 same_end e =
-    record { is_open = refl; drv_marks = refl; modules = refl; ids = record { next = refl; pending = refl; kept = λ _. refl } }
+    record { is_open = refl; drv_marks = refl; modules = refl; ids = record { next = refl; pending = refl; kept = λ _. refl; asked = refl; answer = λ _. refl } }
 
 pub same_trans : {K : Type 0} (old mid new : Image K) → SameModules old mid → SameModules mid new → SameModules old new
 same_trans old mid new x y =

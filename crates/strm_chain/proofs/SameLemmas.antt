@@ -59,26 +59,36 @@ in_head_keeps : {K : Type 0} (e : EndState K) (q : List Msg) → SameEnd e (in_h
 in_head_keeps e q =
     record { is_open = refl; drv_marks = refl; modules = refl; ids = (same_end e).ids }
 
-in_drv_keeps : {K : Type 0} (e : EndState K) (q : List Msg) → SameEnd e (in_drv e q)
+pub in_drv_keeps : {K : Type 0} (e : EndState K) (q : List Msg) → SameEnd e (in_drv e q)
 in_drv_keeps e q =
     record { is_open = refl; drv_marks = refl; modules = refl; ids = (same_end e).ids }
 
 in_state_keeps : {K : Type 0} (e : EndState K) (r : Record) → SameIds e.state r → SameEnd e (in_state e r)
 in_state_keeps e r ids = record { is_open = refl; drv_marks = refl; modules = refl; ids = ids }
 
--- an answer is kept only where an id is awaited
-answer_ids : (r : Record) (id : ℕ) (m : Msg) (b : Bool) → (is_id r.pending id && is_none r.kept) ≡ b → SameIds r (cond b (record r { kept = Some m }) r)
-answer_ids r id m false h = record { next = refl; pending = refl; kept = λ _. refl }
-answer_ids r id m true h =
+-- an answer is kept only where an id is awaited, or asked for
+answer_ids : (r : Record) (id : ℕ) (m : Msg) (b c : Bool) → (is_id r.pending id && is_none r.kept) ≡ b → (is_id r.asked id && is_none r.answer) ≡ c → SameIds r (cond b (record r { kept = Some m }) (cond c (record r { answer = Some m }) r))
+answer_ids r id m false false h g = record { next = refl; pending = refl; kept = λ _. refl; asked = refl; answer = λ _. refl }
+answer_ids r id m false true h g =
+    record {
+      next = refl;
+      pending = refl;
+      kept = λ _. refl;
+      asked = refl;
+      answer = λ none. let never : false ≡ true = ap (λ p. is_id p id && is_none r.answer) (sym none) ∙ g in cc;
+    }
+answer_ids r id m true c h g =
     record {
       next = refl;
       pending = refl;
       kept = λ none. let never : false ≡ true = ap (λ p. is_id p id && is_none r.kept) (sym none) ∙ h in cc;
+      asked = refl;
+      answer = λ _. refl;
     }
 
 answer_keeps : {K : Type 0} (e : EndState K) (id : ℕ) (m : Msg) → SameEnd e (in_state e (kept_answer e.state id m))
 answer_keeps e id m =
-    in_state_keeps e (kept_answer e.state id m) (answer_ids e.state id m (is_id e.state.pending id && is_none e.state.kept) refl)
+    in_state_keeps e (kept_answer e.state id m) (answer_ids e.state id m (is_id e.state.pending id && is_none e.state.kept) (is_id e.state.asked id && is_none e.state.answer) refl refl)
 
 either_keeps : {K : Type 0} (b : Bool) (e x y : EndState K) → SameEnd e x → SameEnd e y → SameEnd e (cond b x y)
 either_keeps true e x y hx hy = hx
@@ -91,14 +101,14 @@ open_head_keeps e MPcproto m =
     either_keeps (has_pcproto e.head) e e (in_head e (put_in e.head m)) (same_end e) (in_head_keeps e (put_in e.head m))
 open_head_keeps e (MIoctl id cmd) m = same_end e
 open_head_keeps e (MSetopts mode prot marks) m =
-    record { is_open = refl; drv_marks = refl; modules = refl; ids = record { next = refl; pending = refl; kept = λ _. refl } }
+    record { is_open = refl; drv_marks = refl; modules = refl; ids = record { next = refl; pending = refl; kept = λ _. refl; asked = refl; answer = λ _. refl } }
 open_head_keeps e (MIocack id rval) m = answer_keeps e id m
 open_head_keeps e (MIocnak id errno) m = answer_keeps e id m
 open_head_keeps e (MFlush r w band) m = in_head_keeps e (flushed_if r band e.head)
 open_head_keeps e MHangup m =
-    in_state_keeps e (record e.state { hung = true }) (record { next = refl; pending = refl; kept = λ _. refl })
+    in_state_keeps e (record e.state { hung = true }) (record { next = refl; pending = refl; kept = λ _. refl; asked = refl; answer = λ _. refl })
 open_head_keeps e (MError rd wr) m =
-    in_state_keeps e (with_errors e.state rd wr) (record { next = refl; pending = refl; kept = λ _. refl })
+    in_state_keeps e (with_errors e.state rd wr) (record { next = refl; pending = refl; kept = λ _. refl; asked = refl; answer = λ _. refl })
 
 head_step_keeps : {K : Type 0} (e : EndState K) (m : Msg) (is_open : Bool) → SameEnd e (cond is_open (open_head e m.kind m) (keeps e)).state
 head_step_keeps e m true = open_head_keeps e m.kind m

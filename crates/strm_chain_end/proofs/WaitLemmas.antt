@@ -10,7 +10,7 @@ use Rattle.strm_msg.specs.declared.kind.MsgKind.TheVariants.{MData, MProto, MPcp
 use Rattle.strm_msg.specs.declared.words.Side.{Side}
 use Rattle.strm_msg.specs.declared.words.Side.TheVariants.{Rd, Wr}
 use Rattle.strm_msg.specs.Marks.{WaterMarks}
-use Rattle.strm_queue.specs.Queue.{is_flushed, is_of_band, put_in, front_len}
+use Rattle.strm_queue.specs.Queue.{is_flushed, is_of_band, put_in, put_back_in, front_len}
 use Rattle.strm_queue.proofs.ListLemmas.{all_filter}
 use Rattle.strm_module.specs.Shape.{marks_on, IsSameModule}
 use Rattle.strm_module.specs.Module.{waits_here, IsTaken}
@@ -141,6 +141,11 @@ calm-flushed_if false band q h = h
 pub calm-tried : {A E : Type 0} (result : Result A E) (old new : List Msg) (m : Msg) → OnOk result (new ≡ put_in old m) → OnErr result (new ≡ old) → is_high m.kind ≡ false → are_calm old ≡ true → are_calm new ≡ true
 calm-tried (Ok x) old new m ok err low h = rw ok (calm-put old m (ordinary_calm m.kind low) h)
 calm-tried (Err e) old new m ok err low h = rw err h
+
+-- a message that is put back, where that may have been refused
+pub calm-put_back : {A E : Type 0} (result : Result A E) (old new : List Msg) (m : Msg) → OnOk result (new ≡ put_back_in old m) → OnErr result (new ≡ old) → is_calm m.kind ≡ true → are_calm old ≡ true → are_calm new ≡ true
+calm-put_back (Ok x) old new m ok err calm h = rw ok (all-insert (λ (x : Msg). is_calm x.kind) old (front_len _ old) m h calm)
+calm-put_back (Err e) old new m ok err calm h = rw err h
 
 -- data and protocol messages are calm
 pub calm-kind : (kind : MsgKind) → (kind ≡ MData) ⊎ (kind ≡ MProto) → is_calm kind ≡ true

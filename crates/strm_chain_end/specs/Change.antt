@@ -71,9 +71,25 @@ id_given_back r = record r { next = r.pending; pending = None }
 abbrev pub awaiting_none : Record → Record
 awaiting_none r = record r { pending = None; kept = None }
 
+-- the next id is taken, and an answer to it is asked for later
+abbrev pub asking : Record → Option ℕ → Record
+asking r None = r
+asking r (Some id) = record r { next = id_after id; asked = Some id }
+
+abbrev pub asking_next : Record → Record
+asking_next r = asking r r.next
+
+-- the id that was taken last is given back
+abbrev pub asked_given_back : Record → Record
+asked_given_back r = record r { next = r.asked; asked = None }
+
+-- no answer is asked for or kept for it any longer
+abbrev pub asking_none : Record → Record
+asking_none r = record r { asked = None; answer = None }
+
 -- the record of a new stream's head
 abbrev pub fresh_record : Record
-fresh_record = record { hung = false; rd_errno = None; wr_errno = None; mode = Rnorm; prot = Norm; next = Some 1; pending = None; kept = None }
+fresh_record = record { hung = false; rd_errno = None; wr_errno = None; mode = Rnorm; prot = Norm; next = Some 1; pending = None; kept = None; asked = None; answer = None }
 
 abbrev pub fresh_end : {K : Type 0} → Bool → WaterMarks → WaterMarks → EndState K
 fresh_end is_open head drv =

@@ -19,9 +19,13 @@ abbrev pub is_id : Option ℕ → ℕ → Bool
 is_id None id = false
 is_id (Some p) id = p == id
 
--- the answer to an ioctl is kept if it is the awaited one and none is kept (M_IOCACK, M_IOCNAK)
+-- the answer to an ioctl is kept if it is the awaited one, or the one that is asked for later, and none is kept
+-- of it (M_IOCACK, M_IOCNAK)
 abbrev pub kept_answer : Record → ℕ → Msg → Record
-kept_answer r id m = if is_id r.pending id && is_none r.kept then record r { kept = Some m } else r
+kept_answer r id m =
+    if is_id r.pending id && is_none r.kept then record r { kept = Some m }
+    else if is_id r.asked id && is_none r.answer then record r { answer = Some m }
+    else r
 
 -- an end afterwards, and the message that its head sends down
 pub record HeadStep (K : Type 0) : Type 0 where

@@ -27,11 +27,14 @@ identity_of s = record { serial = s.serial; name = s.name.items; rd = s.rd; wr =
 abbrev pub identities_of : {K : Type 0} → List (QueuePair K) → List Identity
 identities_of modules = map (λ s. identity_of s.shape) modules
 
--- the next id and the awaited one stay, and where none is awaited no answer is kept that was not kept before
+-- the next id, the awaited one and the one that is asked for later stay. Where none is awaited no answer is
+-- kept that was not kept before, nor where none is asked for
 pub record SameIds (old new : Record) : Type 0 where
   pub next : new.next ≡ old.next
   pub pending : new.pending ≡ old.pending
   pub kept : old.pending ≡ None → new.kept ≡ old.kept
+  pub asked : new.asked ≡ old.asked
+  pub answer : old.asked ≡ None → new.answer ≡ old.answer
 
 -- an end that is open or closed as before, over the same driver's marks, with the same modules and the same
 -- ids; the head's marks are set by messages

@@ -1,6 +1,6 @@
 //! The record of a head, in addition to its list.
 ghost use Rattle.std.specs.Prelude.{◌≡◌, unwrap_or};
-ghost use Rattle.strm_chain_end.specs.Change.{fresh_record, with_mode, awaiting_next, id_given_back, awaiting_none};
+ghost use Rattle.strm_chain_end.specs.Change.{fresh_record, with_mode, awaiting_next, id_given_back, awaiting_none, asking_next, asked_given_back, asking_none};
 ghost use Rattle.strm_chain_end.specs.Head.{kept_answer, with_errors};
 ghost use Rattle.strm_chain_end.specs.Modules.{SameIds};
 
@@ -25,6 +25,10 @@ pub struct Record {
     pub pending: Option<u64>,
     /// The answer to it.
     pub kept: Option<BoxedMessage>,
+    /// The id of the ioctl whose answer is asked for later.
+    pub asked: Option<u64>,
+    /// The answer to that one.
+    pub answer: Option<BoxedMessage>,
 }
 
 impl Record {
@@ -41,16 +45,20 @@ impl Record {
             next: Some(1),
             pending: None,
             kept: None,
+            asked: None,
+            answer: None,
         }
     }
 
-    /// Keeps an answer that is awaited.
+    /// Keeps an answer that is awaited, or asked for later.
     pub(crate) fn keep(&mut self, id: u64, m: BoxedMessage)
         ensures record { self.new ≡ kept_answer self.old id m }
         ensures same { SameIds self.old self.new }
     {
         if self.pending == Some(id) && self.kept.is_none() {
             self.kept = Some(m);
+        } else if self.asked == Some(id) && self.answer.is_none() {
+            self.answer = Some(m);
         }
     }
 
@@ -104,5 +112,33 @@ impl Record {
     {
         self.pending = None;
         self.kept.take()
+    }
+
+    /// Takes the next id, whose answer is asked for later.
+    pub(crate) fn ask(&mut self) -> Option<u64>
+        ensures id { result ≡ self.old.next }
+        ensures record { self.new ≡ asking_next self.old }
+    {
+        let id = self.next?;
+        self.next = if id == u64::MAX { None } else { Some(id + 1) };
+        self.asked = Some(id);
+        Some(id)
+    }
+
+    /// Gives back the latest id, whose answer was to be asked for later.
+    pub(crate) fn undo_ask(&mut self)
+        ensures { self.new ≡ asked_given_back self.old }
+    {
+        self.next = self.asked;
+        self.asked = None;
+    }
+
+    /// Takes the answer that was asked for, and asks for none any longer.
+    pub(crate) fn end_ask(&mut self) -> Option<BoxedMessage>
+        ensures answer { result ≡ self.old.answer }
+        ensures record { self.new ≡ asking_none self.old }
+    {
+        self.asked = None;
+        self.answer.take()
     }
 }

@@ -489,7 +489,7 @@ module _ {K : Type 0} (means : Meaning K) where
       queue_changes image e (end_serves means s i side).state i side new same is (found_serves_alone s i (pair_at s.modules i) side refl)
 
 same_ids : (r : Record) → SameIds r r
-same_ids r = record { next = refl; pending = refl; kept = λ none. refl }
+same_ids r = record { next = refl; pending = refl; kept = λ none. refl; asked = refl; answer = λ none. refl }
 
 same_end : {K : Type 0} (e : EndState K) → SameEnd e e
 same_end e = record { is_open = refl; drv_marks = refl; modules = refl; ids = same_ids e.state }
@@ -530,6 +530,13 @@ line_put_differs {K = K} image new e m is =
     let s = end_of image e in
     let q = put_in s.drv m in
     drv_changes image e (in_drv s q) new (subst (λ (j : Image K). SameModules image j) (sym is) (with_end_keeps image e (in_drv s q) (in_drv_keeps s q))) is (drv_alone s q (shift_put s.drv m))
+
+-- a message is put back into a driver's list
+pub driver_back_differs : {K : Type 0} (image new : Image K) (e : End) (m : Msg) → new ≡ with_drv image e (put_back_in (end_of image e).drv m) → DiffersIn image new (Of (Places.Drv e))
+driver_back_differs {K = K} image new e m is =
+    let s = end_of image e in
+    let q = put_back_in s.drv m in
+    drv_changes image e (in_drv s q) new (subst (λ (j : Image K). SameModules image j) (sym is) (with_end_keeps image e (in_drv s q) (in_drv_keeps s q))) is (drv_alone s q (shift_put_back s.drv m))
 
 -- nothing differs, as where a message was refused
 pub same_differs : {K : Type 0} (image new : Image K) (queue : NextQueue) → new ≡ image → DiffersIn image new queue

@@ -1,7 +1,9 @@
 -- What a call that is not refused may count on when it begins.
-use Rattle.std.proofs.Common.{◌≡◌, not, Bool, true, false, None, List, ◌∷◌, Result, Ok, Err, IfOk, IsOk, OnOk, IfErr, OnErr, refl, sym, ◌∙◌, rules}
+use Rattle.std.proofs.Common.{◌≡◌, ℕ, not, Bool, true, false, None, List, ◌∷◌, Result, Ok, Err, IfOk, IsOk, OnOk, IfErr, OnErr, refl, sym, ◌∙◌, rules}
 use Rattle.std.proofs.lemmas.Bool.{false_from_ne_true}
+use Rattle.arrayvec.specs.ArrayVec.{ArrayVec}
 use Rattle.strm_msg.specs.declared.words.End.{End}
+use Rattle.strm_msg.specs.declared.words.Side.{Side}
 use Rattle.strm_module.specs.declared.shape.Shape.{Shape}
 use Rattle.strm_module.specs.Driver.{has_end}
 use Rattle.strm_chain_ends.specs.Image.{Image, end_of}
@@ -13,8 +15,13 @@ use Rattle.strm_head_calls.specs.declared.refusal.Refusal.{Refusal}
 use Rattle.strm_head_calls.specs.declared.refusal.Refusal.TheVariants.{Closed, Broken}
 use Rattle.strm_head_calls.specs.Refusal.{first_that_holds}
 use Rattle.strm_head_calls.specs.Request.{changes_no_queue}
+use Rattle.strm_head_calls.specs.Service.{is_question}
+use Rattle.strm_head_calls.specs.declared.service.ServiceCall.{ServiceCall}
+use Rattle.strm_head_service.specs.Serve.{service_refusals, service_effect, sends_on, finds_nothing}
+use Rattle.strm_head_service.proofs.ServeLemmas.{unrefused}
 use Rattle.strm_head.specs.Effects.{refusal_of, effect_of, errors_at, common_refusals, own_refusals, is_common, finds_whole, takes_no_memory_at, sends_no_message, can_lack_memory}
 use Rattle.strm_chain.specs.declared.fault.ChainFault.{ChainFault}
+use Rattle.strm_chain.specs.declared.fault.ChainFault.TheVariants as Faults
 use Rattle.strm_head_calls.specs.declared.answer.Reply.{Reply}
 use Rattle.strm_chain.specs.Fault.{Fails}
 use Rattle.strm_head_calls.specs.Reply.{has_bytes}
@@ -107,4 +114,16 @@ module _ {K : Type 0} (means : Meaning K) where
     broken = λ is. cc;
     sends = λ is. cc;
     whole = whole;
+  }
+
+  -- a service call that changes queues
+  pub served_begins : {A : Type 0} (image : Image K) (e : End) (name : ArrayVec ℕ) (side : Side) (call : ServiceCall) (says : A → Reply) (r : Result A ChainFault) (after : Image K) → first_that_holds (service_refusals image e name.items side call) ≡ None → is_question call ≡ false → IfOk r (λ made. says made ≡ (service_effect means image e name.items side call).reply) → OnOk r (after ≡ (service_effect means image e name.items side call).image) → IfErr r (λ fault. Fails fault image (service_effect means image e name.items side call).image after) → IfErr r (λ fault. fault ≡ Faults.Broken → sends_on call ≡ true) → (finds_nothing image e name.items call ≡ true → IsOk r) → TakesEffect means image e (Service name side call) (said says r) after
+  served_begins image e name side call says (Ok made) after own changes same i fails breaks nothing = record { reply_is = same; image_is = i }
+  served_begins image e name side call says (Err fault) after own changes same i fails breaks nothing = record {
+    fails = fails;
+    takes = rw changes (is_given (finds_nothing image e name.items call) nothing);
+    refused = λ is. rw changes refl;
+    broken = λ is. changes;
+    sends = λ is. rw (breaks is) refl;
+    whole = (unrefused image e name.items side call own).whole;
   }

@@ -14,7 +14,7 @@ use Rattle.strm_head_ioctl.specs.Ask.{is_empty}
 use Rattle.strm_chain_end.specs.End.{EndState, in_drv}
 use Rattle.strm_chain_end.specs.Modules.{SameEnd}
 use Rattle.strm_chain_end.specs.Canput.{above, slack_in}
-use Rattle.strm_chain_end.specs.Change.{with_mode, has_room, inserted, removed, closed, awaiting, awaiting_none}
+use Rattle.strm_chain_end.specs.Change.{with_mode, has_room, inserted, removed, closed, awaiting, awaiting_none, asking, asking_none}
 use Rattle.strm_chain_end.specs.declared.record.Record.{Record}
 use Rattle.strm_chain_ends.specs.declared.place.Place.{Place}
 use Rattle.strm_chain_ends.specs.declared.place.Place.TheVariants as Places
@@ -32,7 +32,7 @@ use Rattle.strm_chain.proofs.QuietLemmas.{same_end}
 use Rattle.strm_chain.proofs.SameLemmas.{deliver_keeps, leads_keeps, with_end_keeps}
 use Rattle.strm_chain.proofs.OrderLemmas.{delivered_ordered, led_ordered}
 use Rattle.strm_head_calls.specs.declared.request.Request.{Request}
-use Rattle.strm_head_calls.specs.declared.request.Request.TheVariants.{Putmsg, Putpmsg, Getmsg, Getpmsg, Read, Write, Push, Nread, Peek, SetRead, GetRead, Canput, Ckband, Getband, Pop, Look, Find, Str, Flush, FlushBand, Close, Take, Service, Poll}
+use Rattle.strm_head_calls.specs.declared.request.Request.TheVariants.{Putmsg, Putpmsg, Getmsg, Getpmsg, Read, Write, Push, Nread, Peek, SetRead, GetRead, Canput, Ckband, Getband, Pop, Look, Find, Str, Strput, Strget, Flush, FlushBand, Close, Take, Service, Poll}
 use Rattle.strm_head_calls.specs.declared.request.Request.TheVariants as Requests
 use Rattle.strm_head_calls.specs.declared.refusal.Refusal.{Refusal}
 use Rattle.strm_head_calls.specs.declared.refusal.Refusal.TheVariants.{Closed, Broken, Invalid, HungUp, WouldWait}
@@ -43,10 +43,11 @@ use Rattle.strm_head_calls.specs.Refusal.{first_that_holds}
 use Rattle.strm_head_calls.specs.Effect.{Effect, effect}
 use Rattle.strm_head_msg.specs.Send.{sent_of, putmsg_message, putpmsg_message, ordinary_message}
 use Rattle.strm_head_ioctl.specs.Ioctl.{asked_of}
+use Rattle.strm_head_ioctl.specs.Later.{put_of}
 use Rattle.strm_head_ioctl.specs.Close.{closed_image, hung_up_if, after_close, HasItsEnds}
 use Rattle.strm_head_ioctl.proofs.CloseLemmas.{hung_up_keeps}
 use Rattle.strm_head_calls.specs.Request.{changes_no_queue}
-use Rattle.strm_head_service.specs.Own.{own_at}
+use Rattle.strm_head_service.specs.Served.{served_at}
 use Rattle.strm_head_service.proofs.ServeLemmas.{unrefused, service_keeps, service_leaves, service_ordered}
 use Rattle.strm_head.specs.Effects.{effect_of, refusal_of, errors_at, finds_whole, common_refusals, own_refusals}
 use Rattle.strm_head.proofs.RefusalLemmas.{first_of_all, own_none}
@@ -232,7 +233,7 @@ same_but_drv e q =
       is_open = refl;
       drv_marks = refl;
       modules = refl;
-      ids = record { next = refl; pending = refl; kept = λ none. refl };
+      ids = record { next = refl; pending = refl; kept = λ none. refl; asked = refl; answer = λ none. refl };
     }
 
 -- ---- calls, by kinds of any meaning
@@ -262,6 +263,12 @@ module _ {K : Type 0} (means : Meaning K) where
   asked_opens image e cmd dat None = none_opens image
   asked_opens image e cmd dat (Some id) =
       let asked = with_state image e (awaiting (end_of image e).state (Some id)) in
+      opens_trans image asked _ (state_opens image e _) (same_opens asked _ (deliver_keeps means asked (Down e 1) _))
+
+  put_opens : (image : Image K) (e : End) (cmd : ℕ) (dat : Part) (id : Option ℕ) → OpensNone image (put_of means image e cmd dat id)
+  put_opens image e cmd dat None = none_opens image
+  put_opens image e cmd dat (Some id) =
+      let asked = with_state image e (asking (end_of image e).state (Some id)) in
       opens_trans image asked _ (state_opens image e _) (same_opens asked _ (deliver_keeps means asked (Down e 1) _))
 
   pub after_keeps : (broken : Bool) (image : Image K) (e : End) → SameModules image (after_close means broken image e)
@@ -295,11 +302,13 @@ module _ {K : Type 0} (means : Meaning K) where
   effect_opens image e Requests.List = none_opens image
   effect_opens image e (Find name) = none_opens image
   effect_opens image e (Str cmd dat) = asked_opens image e cmd dat (end_of image e).state.next
+  effect_opens image e (Strput cmd dat) = put_opens image e cmd dat (end_of image e).state.next
+  effect_opens image e (Strget drops) = state_opens image e (asking_none (end_of image e).state)
   effect_opens image e (Flush r w) = same_opens image _ (deliver_keeps means image (Down e 1) _)
   effect_opens image e (FlushBand band r w) = same_opens image _ (deliver_keeps means image (Down e 1) _)
   effect_opens image e Take = taken_opens image e (end_of image e).drv
   effect_opens image e (Service name side call) =
-      same_opens image _ (service_keeps means image e (own_at (end_of image e) name.items) side call)
+      same_opens image _ (service_keeps means image e (served_at image e name.items) side call)
   effect_opens image e Poll = none_opens image
   effect_opens image e Close =
       opens_trans image (closed_image image e) _ (closed_opens image e) (same_opens (closed_image image e) _ (after_keeps image.broken (closed_image image e) e))
@@ -327,12 +336,16 @@ module _ {K : Type 0} (means : Meaning K) where
   quiet_effect image e Requests.List is quiet = record { quiet = quiet; broken = refl; awaits = refl }
   quiet_effect image e (Find name) is quiet = record { quiet = quiet; broken = refl; awaits = refl }
   quiet_effect image e (Str cmd dat) is quiet = cc
+  quiet_effect image e (Strput cmd dat) is quiet = cc
+  quiet_effect image e (Strget drops) is quiet =
+      let r = asking_none (end_of image e).state in
+      record { quiet = state_quiet means image e r quiet; broken = (state_opens image e r).broken; awaits = refl }
   quiet_effect image e (Flush r w) is quiet = cc
   quiet_effect image e (FlushBand band r w) is quiet = cc
   quiet_effect image e Close is quiet = cc
   quiet_effect image e Take is quiet = cc
   quiet_effect image e (Service name side call) is quiet =
-      left_quiet means image _ _ (service_leaves means image e (own_at (end_of image e) name.items) side call is) quiet
+      left_quiet means image _ _ (service_leaves means image e (served_at image e name.items) side call is) quiet
   quiet_effect image e Poll is quiet = record { quiet = quiet; broken = refl; awaits = refl }
 
   -- ---- calls leave heads that await no answer
@@ -347,6 +360,12 @@ module _ {K : Type 0} (means : Meaning K) where
   asked_idle image e cmd dat (Some id) idle =
       let r = awaiting (end_of image e).state (Some id) in
       idle_ended image e r _ (deliver_keeps means (with_state image e r) (Down e 1) _) idle
+
+  put_idle : (image : Image K) (e : End) (cmd : ℕ) (dat : Part) (id : Option ℕ) → AreIdle image → AreIdle (put_of means image e cmd dat id)
+  put_idle image e cmd dat None idle = idle
+  put_idle image e cmd dat (Some id) idle =
+      let r = asking (end_of image e).state (Some id) in
+      idle_same (with_state image e r) _ (deliver_keeps means (with_state image e r) (Down e 1) _) (idle_with image e (record (end_of image e) { state = r }) (record { pending = (idle e).pending; kept = (idle e).kept }) idle)
 
   taken_idle : (image : Image K) (e : End) (q : List Msg) → AreIdle image → AreIdle (answered_if (taken_out image e q).awaits e (taken_out image e q).image)
   taken_idle image e [] idle = idle
@@ -375,11 +394,14 @@ module _ {K : Type 0} (means : Meaning K) where
   effect_idle image e Requests.List idle = idle
   effect_idle image e (Find name) idle = idle
   effect_idle image e (Str cmd dat) idle = asked_idle image e cmd dat (end_of image e).state.next idle
+  effect_idle image e (Strput cmd dat) idle = put_idle image e cmd dat (end_of image e).state.next idle
+  effect_idle image e (Strget drops) idle =
+      idle_with image e (record (end_of image e) { state = asking_none (end_of image e).state }) (record { pending = (idle e).pending; kept = (idle e).kept }) idle
   effect_idle image e (Flush r w) idle = idle_same image _ (deliver_keeps means image (Down e 1) _) idle
   effect_idle image e (FlushBand band r w) idle = idle_same image _ (deliver_keeps means image (Down e 1) _) idle
   effect_idle image e Take idle = taken_idle image e (end_of image e).drv idle
   effect_idle image e (Service name side call) idle =
-      idle_same image _ (service_keeps means image e (own_at (end_of image e) name.items) side call) idle
+      idle_same image _ (service_keeps means image e (served_at image e name.items) side call) idle
   effect_idle image e Poll idle = idle
   effect_idle image e Close idle =
       idle_same (closed_image image e) _ (after_keeps image.broken (closed_image image e) e) (idle_with image e (closed (end_of image e)) (idle e) idle)
@@ -411,6 +433,12 @@ module _ {K : Type 0} (means : Meaning K) where
     asked_ordered image e cmd dat None ordered = ordered
     asked_ordered image e cmd dat (Some id) ordered =
         let r = awaiting (end_of image e).state (Some id) in
+        delivered_ordered means stay (with_state image e r) (Down e 1) _ (state_ordered image e r ordered)
+
+    put_ordered : (image : Image K) (e : End) (cmd : ℕ) (dat : Part) (id : Option ℕ) → IsOrdered means image → IsOrdered means (put_of means image e cmd dat id)
+    put_ordered image e cmd dat None ordered = ordered
+    put_ordered image e cmd dat (Some id) ordered =
+        let r = asking (end_of image e).state (Some id) in
         delivered_ordered means stay (with_state image e r) (Down e 1) _ (state_ordered image e r ordered)
 
     hangup_ordered : (opened : Bool) (image : Image K) (e : End) → IsOrdered means image → IsOrdered means (hung_up_if means opened image e)
@@ -450,11 +478,13 @@ module _ {K : Type 0} (means : Meaning K) where
     effect_ordered image e Requests.List h ordered = ordered
     effect_ordered image e (Find name) h ordered = ordered
     effect_ordered image e (Str cmd dat) h ordered = asked_ordered image e cmd dat (end_of image e).state.next ordered
+    effect_ordered image e (Strput cmd dat) h ordered = put_ordered image e cmd dat (end_of image e).state.next ordered
+    effect_ordered image e (Strget drops) h ordered = state_ordered image e (asking_none (end_of image e).state) ordered
     effect_ordered image e (Flush r w) h ordered = delivered_ordered means stay image (Down e 1) _ ordered
     effect_ordered image e (FlushBand band r w) h ordered = delivered_ordered means stay image (Down e 1) _ ordered
     effect_ordered image e Take h ordered = taken_ordered image e (end_of image e).drv ordered
     effect_ordered image e (Service name side call) h ordered =
-        service_ordered means stay image e (own_at (end_of image e) name.items) side call ordered
+        service_ordered means stay image e (served_at image e name.items) side call ordered
     effect_ordered image e Poll h ordered = ordered
     effect_ordered image e Close h ordered =
         after_ordered image.broken (closed_image image e) e (closed_ordered means image e ordered)

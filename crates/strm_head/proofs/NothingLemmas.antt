@@ -11,7 +11,7 @@ use Rattle.strm_module.specs.declared.shape.Shape.{Shape}
 use Rattle.strm_chain_ends.specs.Image.{Image, end_of, with_head}
 use Rattle.strm_chain_ends.specs.Flow.{IsQuiet}
 use Rattle.strm_head_calls.specs.declared.request.Request.{Request}
-use Rattle.strm_head_calls.specs.declared.request.Request.TheVariants.{Putmsg, Putpmsg, Getmsg, Getpmsg, Read, Peek, Str, Take}
+use Rattle.strm_head_calls.specs.declared.request.Request.TheVariants.{Putmsg, Putpmsg, Getmsg, Getpmsg, Read, Peek, Str, Strget, Take, Service}
 use Rattle.strm_head_calls.specs.declared.request.Priority.{Priority}
 use Rattle.strm_head_calls.specs.declared.request.Priority.TheVariants as Priorities
 use Rattle.strm_head_calls.specs.declared.request.PutFlag.{PutFlag}
@@ -28,6 +28,8 @@ use Rattle.strm_head_msg.specs.Take.{taken_from, peeked_of, peek_effect, shows_n
 use Rattle.strm_head_read.specs.Read.{read_of}
 use Rattle.strm_head_ioctl.specs.Ask.{is_empty}
 use Rattle.strm_head_ioctl.specs.Outside.{taken_out}
+use Rattle.strm_head_service.specs.Served.{served_at}
+use Rattle.strm_head_service.proofs.ServeLemmas.{nothing_leaves}
 use Rattle.strm_head.specs.Effects.{effect_of, has_nothing_to_do, takes_no_memory_at, sends_no_message, awaits_answer}
 use Rattle.strm_head.specs.TakesEffect.{needs_no_service}
 use Rattle.strm_head.proofs.KeptLemmas.{IsQuietly, left_quiet, quiet_effect}
@@ -109,6 +111,7 @@ none_read mode prot n (m ∷ q) none = absurd cc
 -- what takes no memory is followed by no service
 pub served_takes : {K : Type 0} (image : Image K) (e : End) (request : Request (Shape K)) → needs_no_service image e request ≡ false → takes_no_memory_at image e request ≡ false
 served_takes image e (Peek maxctl maxdat flag) needs = absurd cc
+served_takes image e (Strget drops) needs = absurd cc
 served_takes image e request needs = needs
 
 pub served_changes : {K : Type 0} (image : Image K) (e : End) (request : Request (Shape K)) → needs_no_service image e request ≡ false → changes_no_queue request ≡ false
@@ -148,6 +151,9 @@ module _ {K : Type 0} (means : Meaning K) where
       let end = end_of image e in
       left_quiet means image _ _ (stayed image e (read_of end.state.mode end.state.prot (suc n) end.head).stays (none_read end.state.mode end.state.prot (suc n) end.head none)) quiet
   nothing_effect image e Take none quiet = untaken image e (end_of image e).drv none quiet
+  nothing_effect image e (Service name side call) none quiet =
+      left_quiet means image _ _ (nothing_leaves means image e (served_at image e name.items) side call none) quiet
+  nothing_effect image e (Strget drops) none quiet = quiet_effect means image e (Strget drops) refl quiet
   nothing_effect image e request none quiet = absurd cc
 
   unserved_by : (image : Image K) (e : End) (request : Request (Shape K)) (quietly nothing : Bool) → changes_no_queue request ≡ quietly → has_nothing_to_do image e request ≡ nothing → (quietly || nothing) ≡ true → IsQuiet means image → IsQuietly means image (effect_of means image e request)

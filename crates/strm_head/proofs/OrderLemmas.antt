@@ -6,7 +6,7 @@ use Rattle.strm_module.specs.declared.shape.Shape.{Shape}
 use Rattle.strm_module.specs.Kinds.{Meaning}
 use Rattle.strm_chain_ends.specs.Image.{Image, end_of}
 use Rattle.strm_head_calls.specs.declared.request.Request.{Request}
-use Rattle.strm_head_calls.specs.declared.request.Request.TheVariants.{Putmsg, Putpmsg, Getmsg, Getpmsg, Read, Write, Push, Nread, Peek, SetRead, GetRead, Canput, Ckband, Getband, Pop, Look, Find, Str, Flush, FlushBand, Close, Take, Service, Poll}
+use Rattle.strm_head_calls.specs.declared.request.Request.TheVariants.{Putmsg, Putpmsg, Getmsg, Getpmsg, Read, Write, Push, Nread, Peek, SetRead, GetRead, Canput, Ckband, Getband, Pop, Look, Find, Str, Strput, Strget, Flush, FlushBand, Close, Take, Service, Poll}
 use Rattle.strm_head_calls.specs.declared.request.Request.TheVariants as Requests
 use Rattle.strm_head_calls.specs.declared.refusal.Refusal.{Refusal}
 use Rattle.strm_head_calls.specs.declared.refusal.Refusal.TheVariants.{Closed, Broken}
@@ -17,6 +17,7 @@ use Rattle.strm_head_ioctl.specs.Ask.{getband_refusals}
 use Rattle.strm_head_ioctl.specs.Modules.{push_refusals, pop_refusals, look_refusals}
 use Rattle.strm_head_ioctl.specs.Names.{find_refusals}
 use Rattle.strm_head_ioctl.specs.Ioctl.{str_refusals}
+use Rattle.strm_head_ioctl.specs.Later.{strput_refusals, strget_refusals}
 use Rattle.strm_head_ioctl.specs.Flush.{flush_refusals}
 use Rattle.strm_head.specs.Effects.{error_refusals, refusals, are_in_order}
 
@@ -55,6 +56,8 @@ in_order means image e Look = ordered image e (true, true) (look_refusals image 
 in_order means image e Requests.List = ordered image e (true, true) [] refl (λ x. refl) (λ y. refl) (λ x y. refl)
 in_order means image e (Find name) = ordered image e (true, true) (find_refusals name) refl (λ x. refl) (λ y. refl) (λ x y. refl)
 in_order means image e (Str cmd dat) = ordered image e (true, true) (str_refusals image e dat) refl (λ x. refl) (λ y. refl) (λ x y. refl)
+in_order means image e (Strput cmd dat) = ordered image e (true, true) (strput_refusals image e dat) refl (λ x. refl) (λ y. refl) (λ x y. refl)
+in_order means image e (Strget drops) = ordered image e (true, true) (strget_refusals image e drops) refl (λ x. refl) (λ y. refl) (λ x y. refl)
 in_order means image e (Flush r w) = ordered image e (true, true) (flush_refusals image e r w) refl (λ x. refl) (λ y. refl) (λ x y. refl)
 in_order means image e (FlushBand band r w) = ordered image e (true, true) (flush_refusals image e r w) refl (λ x. refl) (λ y. refl) (λ x y. refl)
 in_order means image e Close = refl

@@ -9,7 +9,7 @@ use Rattle.strm_module.specs.declared.shape.Shape.{Shape}
 use Rattle.strm_chain_ends.specs.Image.{Image, end_of}
 use Rattle.strm_chain_ends.specs.Flow.{NoneMay}
 use Rattle.strm_head_calls.specs.declared.request.Request.{Request}
-use Rattle.strm_head_calls.specs.declared.request.Request.TheVariants.{Putmsg, Putpmsg, Getmsg, Getpmsg, Read, Write, Push, Nread, Peek, SetRead, GetRead, Canput, Ckband, Getband, Pop, Look, Find, Str, Flush, FlushBand, Close, Take, Service, Poll}
+use Rattle.strm_head_calls.specs.declared.request.Request.TheVariants.{Putmsg, Putpmsg, Getmsg, Getpmsg, Read, Write, Push, Nread, Peek, SetRead, GetRead, Canput, Ckband, Getband, Pop, Look, Find, Str, Strput, Strget, Flush, FlushBand, Close, Take, Service, Poll}
 use Rattle.strm_head_calls.specs.declared.refusal.Refusal.{Refusal}
 use Rattle.strm_head_calls.specs.declared.refusal.Refusal.TheVariants.{Closed, Broken, ReadError, WriteError, NoMemory}
 use Rattle.strm_head_calls.specs.declared.answer.Answer.{Answer}
@@ -26,11 +26,12 @@ use Rattle.strm_head_ioctl.specs.Options.{set_read_effect, get_read_effect}
 use Rattle.strm_head_ioctl.specs.Modules.{push_refusals, pop_refusals, look_refusals, push_effect, pop_effect, look_effect}
 use Rattle.strm_head_ioctl.specs.Names.{find_refusals, list_effect, find_effect}
 use Rattle.strm_head_ioctl.specs.Ioctl.{str_refusals, str_effect}
+use Rattle.strm_head_ioctl.specs.Later.{strput_refusals, strput_effect, strget_refusals, strget_effect}
 use Rattle.strm_head_ioctl.specs.Flush.{flush_refusals, flush_effect, flush_band_effect}
 use Rattle.strm_head_ioctl.specs.Close.{hangs_up, close_effect}
 use Rattle.strm_head_ioctl.specs.Outside.{take_refusals, take_effect}
 use Rattle.strm_head_ioctl.specs.Poll.{poll_effect}
-use Rattle.strm_head_service.specs.Serve.{service_refusals, service_effect, sends_on}
+use Rattle.strm_head_service.specs.Serve.{service_refusals, service_effect, sends_on, finds_nothing}
 
 -- the refusals of a call of its kind alone, in the order in which they are looked for: whether each holds,
 -- and the refusal
@@ -47,6 +48,8 @@ own_refusals means image e Pop = pop_refusals image e
 own_refusals means image e Look = look_refusals image e
 own_refusals means image e (Find name) = find_refusals name
 own_refusals means image e (Str cmd dat) = str_refusals image e dat
+own_refusals means image e (Strput cmd dat) = strput_refusals image e dat
+own_refusals means image e (Strget drops) = strget_refusals image e drops
 own_refusals means image e (Flush r w) = flush_refusals image e r w
 own_refusals means image e (FlushBand band r w) = flush_refusals image e r w
 own_refusals means image e Take = take_refusals image e
@@ -152,6 +155,8 @@ effect_of means image e Look = look_effect image e
 effect_of means image e Request.List = list_effect image e
 effect_of means image e (Find name) = find_effect image e name
 effect_of means image e (Str cmd dat) = str_effect means image e cmd dat
+effect_of means image e (Strput cmd dat) = strput_effect means image e cmd dat
+effect_of means image e (Strget drops) = strget_effect image e
 effect_of means image e (Flush r w) = flush_effect means image e r w
 effect_of means image e (FlushBand band r w) = flush_band_effect means image e band r w
 effect_of means image e Close = close_effect means image e
@@ -176,7 +181,8 @@ takes_no_memory request = false
 
 -- a call that has nothing to send, or finds nothing to take. It is a putmsg and a putpmsg without parts, and
 -- a read of no bytes. Where no message waits it is a getmsg, a getpmsg and a read, which a hung up end does
--- not refuse. Of a closed wire that holds no output it is a take
+-- not refuse. Of a closed wire that holds no output it is a take, and a getq, which is the same. Of an ioctl
+-- that has no answer it is a strget
 abbrev pub has_nothing_to_do : {K : Type 0} → Image K → End → Request (Shape K) → Bool
 has_nothing_to_do image e (Putmsg flag parts) = is_none parts.ctl && is_none parts.dat
 has_nothing_to_do image e (Putpmsg band flag parts) = is_none parts.ctl && is_none parts.dat
@@ -185,6 +191,8 @@ has_nothing_to_do image e (Getpmsg maxctl maxdat band flag) = is_empty (end_of i
 has_nothing_to_do image e (Read zero) = true
 has_nothing_to_do image e (Read (suc n)) = is_empty (end_of image e).head
 has_nothing_to_do image e Take = is_empty (end_of image e).drv
+has_nothing_to_do image e (Service name side call) = finds_nothing image e name.items call
+has_nothing_to_do image e (Strget drops) = is_none (end_of image e).state.answer
 has_nothing_to_do image e request = false
 
 -- the calls that never run out of memory on a stream as it is: those that only say or set something, those
@@ -201,6 +209,7 @@ sends_no_message image e (Putmsg flag parts) = is_none parts.ctl && is_none part
 sends_no_message image e (Putpmsg band flag parts) = is_none parts.ctl && is_none parts.dat
 sends_no_message image e (Write dat) = false
 sends_no_message image e (Str cmd dat) = false
+sends_no_message image e (Strput cmd dat) = false
 sends_no_message image e (Flush r w) = false
 sends_no_message image e (FlushBand band r w) = false
 sends_no_message image e (Service name side call) = not (sends_on call)

@@ -1,8 +1,7 @@
 //! A call on a chain: the first refusal that holds, the effect of the call, and the services after it.
-ghost use Rattle.std.specs.Prelude.{◌≡◌, ◌≢◌, ◌||◌, true, false, [], None, IfOk};
+ghost use Rattle.std.specs.Prelude.{◌≡◌, ◌≢◌, ◌||◌, true, false, [], None};
 ghost use Rattle.strm_head_calls.specs.declared.answer.Answer.TheVariants as Answer;
 ghost use Rattle.strm_head_calls.specs.Refusal.{first_that_holds};
-ghost use Rattle.strm_head_calls.specs.Reply.{acknowledged};
 ghost use Rattle.strm_head_calls.specs.Request.{changes_no_queue};
 ghost use Rattle.strm_chain_ends.specs.Flow.{NoneMay};
 ghost use Rattle.strm_head.specs.Effects.{AreRefusalsInOrder, own_refusals, closed_refusals, errors_looked_at, error_refusals, common_refusals, refusal_of, awaits_answer, has_nothing_to_do, back_of, BreaksNone, HasItsMemory};
@@ -15,20 +14,19 @@ use crate::effects::begin;
 use crate::outcome::pushed;
 use crate::step_result::StepResult;
 use arrayvec::ArrayVec;
-use std::alloc::Global;
 use strm_chain::{Chain, ChainFault, MOST_MODULES, Settled};
-use strm_head_calls::{Acknowledged, Refusal, Reply, ReplyForm, Request};
+use strm_head_calls::{Refusal, Reply, ReplyForm, Request};
 use strm_head_ioctl::{
-    acknowledged, find_refusal, flush_refusal, getband_refusal, look_refusal, pop_refusal,
-    push_refusal, str_refusal, take_refusal,
+    acknowledged, acknowledged_copy, find_refusal, flush_refusal, getband_refusal, look_refusal,
+    pop_refusal, push_refusal, str_refusal, strget_refusal, strput_refusal, take_refusal,
 };
 use strm_head_msg::{
     getmsg_refusal, getpmsg_refusal, putmsg_refusal, putpmsg_refusal, write_refusal,
 };
 use strm_head_read::read_refusal;
-use strm_head_service::service_refusal;
+use strm_head_service::{finds_nothing, service_refusal};
 use strm_module::{BoxedModule, ModuleOf};
-use strm_msg::{BoxedMessage, End, Errno, Message, NoMem};
+use strm_msg::{BoxedMessage, End, Errno};
 
 /// States a law, and does nothing: refusals are looked for in their order, whatever the call.
 pub fn refusals_are_in_order<M: ModuleOf>()
@@ -133,6 +131,8 @@ fn own_refusal<M: ModuleOf>(
         Request::Look => look_refusal(chain, end),
         Request::Find { name } => find_refusal(name),
         Request::Str { dat, .. } => str_refusal(chain, end, dat),
+        Request::Strput { dat, .. } => strput_refusal(chain, end, dat),
+        Request::Strget { drops } => strget_refusal(chain, end, *drops),
         Request::Flush { r, w } | Request::FlushBand { r, w, .. } => {
             flush_refusal(chain, end, *r, *w)
         }
@@ -175,6 +175,7 @@ fn changes_no_queue<P>(request: &Request<P>) -> bool
         | Request::Poll
         | Request::Look
         | Request::List
+        | Request::Strget { .. }
         | Request::Find { .. } => true,
         Request::Service { call, .. } => call.is_question(),
         _ => false,
@@ -196,6 +197,8 @@ fn has_nothing_to_do<M: ModuleOf>(
         Request::Getmsg { .. } | Request::Getpmsg { .. } => chain.head(end).is_empty(),
         Request::Read { max } => *max == 0 || chain.head(end).is_empty(),
         Request::Take => chain.driver_list(end).is_empty(),
+        Request::Service { name, call, .. } => finds_nothing(chain, end, name, call),
+        Request::Strget { .. } => chain.state(end).answer.is_none(),
         _ => false,
     }
 }
@@ -250,16 +253,6 @@ fn finish<M: ModuleOf, A: ReplyForm>(chain: &mut Chain<M>, end: End, reply: A) -
     }
 }
 
-/// The answer to an ioctl that a head has kept, and an equal one. Fails only when memory runs out.
-fn answer_of(alloc: Global, kept: &Option<BoxedMessage>) -> Result<Acknowledged, NoMem>
-    ensures { IfOk result (λ answer. answer ≡ acknowledged kept.now) }
-{
-    match kept {
-        Some(m) => Ok(acknowledged(Some(Message::copy(m)?))),
-        None => Ok(Acknowledged::Timeout),
-    }
-}
-
 /// Runs services after an ioctl was sent, until no queue must move, and takes its answer.
 #[inline(never)]
 fn finish_ioctl<M: ModuleOf, A: ReplyForm>(chain: &mut Chain<M>, end: End) -> StepResult<A>
@@ -273,7 +266,7 @@ fn finish_ioctl<M: ModuleOf, A: ReplyForm>(chain: &mut Chain<M>, end: End) -> St
         Ok(settled) => settled,
         Err(_) => return broken(chain),
     };
-    let twin = match answer_of(chain.alloc(), &chain.state(end).kept) {
+    let twin = match acknowledged_copy(&chain.state(end).kept) {
         Ok(twin) => twin,
         Err(_) => return broken(chain),
     };

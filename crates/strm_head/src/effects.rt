@@ -22,7 +22,7 @@ use strm_head_calls::{
 };
 use strm_head_ioctl::{
     canput, ckband, close, find, flush, get_read, getband, list, look, nread, poll, pop, push,
-    send_ioctl, set_read, take,
+    send_ioctl, set_read, strget, strput, take,
 };
 use strm_head_msg::{getmsg, getpmsg, peek, putmsg, putpmsg, write};
 use strm_head_read::read;
@@ -251,6 +251,35 @@ fn begin_str<M: ModuleOf, A: ReplyForm>(
     reply_of_sending(send_ioctl(chain, end, cmd, dat), no_answer())
 }
 
+/// Begins an ioctl whose answer is asked for later.
+#[inline(never)]
+fn begin_strput<M: ModuleOf, A: ReplyForm>(
+    chain: &mut Chain<M>,
+    end: End,
+    cmd: u32,
+    dat: Option<Bytes>,
+) -> Result<A, ChainFault>
+    requires ready { CanSend chain.old.image end }
+    requires own { HasNoOwnRefusal M.Kind.means chain.old.image end (Requests.Strput cmd dat) }
+    ensures { Begins M.Kind.means A.says chain.old end (Requests.Strput cmd dat) result chain.new }
+{
+    sent_reply(strput(chain, end, cmd, dat))
+}
+
+/// Begins to ask for the answer to an ioctl.
+#[inline(never)]
+fn begin_strget<M: ModuleOf, A: ReplyForm>(
+    chain: &mut Chain<M>,
+    end: End,
+    drops: bool,
+) -> Result<A, ChainFault>
+    requires ready { CanSend chain.old.image end }
+    requires own { HasNoOwnRefusal M.Kind.means chain.old.image end (Requests.Strget drops) }
+    ensures { Begins M.Kind.means A.says chain.old end (Requests.Strget drops) result chain.new }
+{
+    taken_reply(strget(chain, end))
+}
+
 /// Begins a flush.
 #[inline(never)]
 fn begin_flush<M: ModuleOf, A: ReplyForm>(
@@ -385,6 +414,8 @@ pub(crate) fn begin<M: ModuleOf, A: ReplyForm>(
         } => begin_peek(chain, end, maxctl, maxdat, flag),
         Request::Pop => begin_pop(chain, end, back),
         Request::Str { cmd, dat } => begin_str(chain, end, cmd, dat),
+        Request::Strput { cmd, dat } => begin_strput(chain, end, cmd, dat),
+        Request::Strget { drops } => begin_strget(chain, end, drops),
         Request::Flush { r, w } => begin_flush(chain, end, r, w),
         Request::FlushBand { band, r, w } => begin_flush_band(chain, end, band, r, w),
         Request::Close => begin_close(chain, end, back),

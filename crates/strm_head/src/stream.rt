@@ -8,6 +8,7 @@ ghost use Rattle.strm_chain_ends.specs.Order.{IsOrdered};
 ghost use Rattle.strm_head_calls.specs.Setup.{are_marks};
 ghost use Rattle.strm_head_ioctl.specs.Names.{names_of};
 ghost use Rattle.strm_head_ioctl.specs.Outside.{first_output};
+ghost use Rattle.strm_head_service.specs.First.{first_served};
 ghost use Rattle.strm_head_calls.specs.declared.request.Request.TheVariants as Requests;
 ghost use Rattle.strm_head.specs.Effects.{refusal_of, back_of, BreaksNone, begun_of, HasItsMemory};
 ghost use Rattle.strm_module.specs.Calm.{IsCalm};
@@ -30,8 +31,9 @@ use strm_head_calls::{
     Answer, Name, Parts, Priority, PutFlag, Refusal, ReplyAndCopy, ReplyForm, Request,
 };
 use strm_head_ioctl::{first_output, names_of};
+use strm_head_service::first_served;
 use strm_module::{BoxedModule, ModuleOf, Shape};
-use strm_msg::{End, Marks, Message};
+use strm_msg::{End, Marks, Message, Side};
 
 /// A stream: a driver with its ends, the modules on each of them, and the stream heads.
 ///
@@ -125,6 +127,15 @@ impl<M: ModuleOf> Stream<M> {
         ensures { option_copied result ≡ first_output self.now end }
     {
         first_output(&self.chain, end)
+    }
+
+    /// The first message of a queue that the program serves, of the module of this name that is the program's,
+    /// or of the output of a wire by the driver's name. A getq of any message takes it. None where no message
+    /// waits, and where the name means neither.
+    pub fn first_served(&self, end: End, name: &Name, side: Side) -> Option<&Message>
+        ensures { option_copied result ≡ first_served self.now end name.now.items side }
+    {
+        first_served(&self.chain, end, name, side)
     }
 
     /// The refusal that the call would have if it were made now: the first that holds, but for out of memory.

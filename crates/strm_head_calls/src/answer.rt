@@ -232,6 +232,11 @@ pub enum Reply {
         /// The outcome of it.
         answer: Acknowledged,
     },
+    /// The ioctl was sent, and its answer is asked for later.
+    Strput {
+        /// The id of it.
+        id: u64,
+    },
     /// The flush was sent.
     Flush,
     /// The flush was sent.
@@ -374,6 +379,7 @@ impl Reply {
                 driver: *driver,
             },
             Reply::Find { found } => Reply::Find { found: *found },
+            Reply::Strput { id } => Reply::Strput { id: *id },
             Reply::Flush => Reply::Flush,
             Reply::FlushBand => Reply::FlushBand,
             Reply::Close { names } => Reply::Close {

@@ -101,6 +101,8 @@ fn plain_request<P: Drop, Q>(request: Request<P>) -> Request<Q>
         Request::List => Request::List,
         Request::Find { name } => Request::Find { name },
         Request::Str { cmd, dat } => Request::Str { cmd, dat },
+        Request::Strput { cmd, dat } => Request::Strput { cmd, dat },
+        Request::Strget { drops } => Request::Strget { drops },
         Request::Flush { r, w } => Request::Flush { r, w },
         Request::FlushBand { band, r, w } => Request::FlushBand { band, r, w },
         Request::Close => Request::Close,

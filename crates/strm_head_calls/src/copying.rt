@@ -68,6 +68,14 @@ fn copy_str<P>(cmd: u32, dat: &Option<Bytes>) -> Result<Request<P>, NoMem>
     Ok(Request::Str { cmd, dat })
 }
 
+/// An ioctl of copies whose answer is asked for later. Fails only when memory runs out.
+fn copy_strput<P>(cmd: u32, dat: &Option<Bytes>) -> Result<Request<P>, NoMem>
+    ensures { IfOk result (λ copy. copy ≡ Requests.Strput cmd dat.now) }
+{
+    let dat = copy_part(dat)?;
+    Ok(Request::Strput { cmd, dat })
+}
+
 /// A service call of a copy. Fails only when memory runs out.
 fn copy_service<P>(
     alloc: Global,
@@ -145,6 +153,8 @@ pub fn copy_request<M: ModuleOf>(
         Request::List => Ok(Request::List),
         Request::Find { name } => copy_find(name),
         Request::Str { cmd, dat } => copy_str(*cmd, dat),
+        Request::Strput { cmd, dat } => copy_strput(*cmd, dat),
+        Request::Strget { drops } => Ok(Request::Strget { drops: *drops }),
         Request::Flush { r, w } => Ok(Request::Flush { r: *r, w: *w }),
         Request::FlushBand { band, r, w } => Ok(Request::FlushBand {
             band: *band,

@@ -210,6 +210,24 @@ pub enum Request<P> {
         /// The data that goes with it, if any.
         dat: Option<Bytes>,
     },
+    /// Sends an ioctl down, and returns its id. Its answer is asked for later by a strget.
+    ///
+    /// Refused with EINVAL (over `MAX_DATA` bytes of data), ENXIO (hung up) and EAGAIN (an answer is asked for
+    /// already, or the greatest id was given out), in this order.
+    Strput {
+        /// The command, as the modules and the driver know it.
+        cmd: u32,
+        /// The data that goes with it, if any.
+        dat: Option<Bytes>,
+    },
+    /// Asks for the answer to the ioctl of a strput. It is then asked for no longer.
+    ///
+    /// Refused with EINVAL (no answer is asked for) and EAGAIN (none has come, and the ioctl is not dropped), in
+    /// this order.
+    Strget {
+        /// Whether the ioctl is dropped where no answer has come.
+        drops: bool,
+    },
     /// Sends a flush of all bands down (I_FLUSH).
     ///
     /// Refused with EINVAL (neither side is to be flushed) and ENXIO (hung up), in this order.

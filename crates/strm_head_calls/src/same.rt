@@ -264,6 +264,10 @@ impl Reply {
                 Reply::Str { answer: a } => answer.is_same(a),
                 _ => false,
             },
+            Reply::Strput { id } => match other {
+                Reply::Strput { id: i } => id == i,
+                _ => false,
+            },
             Reply::Flush => matches!(other, Reply::Flush),
             Reply::FlushBand => matches!(other, Reply::FlushBand),
             Reply::Close { names } => match other {

@@ -147,6 +147,16 @@ fn is_str<P>(request: &Request<P>, cmd: u32, dat: &Option<Bytes>) -> bool
     }
 }
 
+/// Whether a request is an ioctl of this command and data, whose answer is asked for later.
+fn is_strput<P>(request: &Request<P>, cmd: u32, dat: &Option<Bytes>) -> bool
+    ensures { result ≡ true ↔ Requests.Strput cmd dat.now ≡ request.now }
+{
+    match request {
+        Request::Strput { cmd: c, dat: d } => cmd == *c && is_same_part(dat, d),
+        _ => false,
+    }
+}
+
 /// Whether a request is a flush of these sides.
 fn is_flush<P>(request: &Request<P>, r: bool, w: bool) -> bool
     ensures { result ≡ true ↔ Requests.Flush r w ≡ request.now }
@@ -228,6 +238,10 @@ fn is_same_query<K: SameKind + Drop>(
             Request::Find { name: n } => name.as_slice() == n.as_slice(),
             _ => false,
         },
+        Request::Strget { drops } => match other {
+            Request::Strget { drops: d } => drops == d,
+            _ => false,
+        },
         Request::Service { name, side, call } => is_service(other, name, *side, call),
         _ => false,
     }
@@ -268,6 +282,7 @@ pub fn is_same_request<K: SameKind + Drop>(
         },
         Request::Pop => matches!(other, Request::Pop),
         Request::Str { cmd, dat } => is_str(other, *cmd, dat),
+        Request::Strput { cmd, dat } => is_strput(other, *cmd, dat),
         Request::Flush { r, w } => is_flush(other, *r, *w),
         Request::FlushBand { band, r, w } => is_flush_band(other, *band, *r, *w),
         Request::Close => matches!(other, Request::Close),
@@ -283,6 +298,7 @@ pub fn is_same_request<K: SameKind + Drop>(
         | Request::Poll
         | Request::Look
         | Request::List
+        | Request::Strget { .. }
         | Request::Find { .. } => is_same_query(one, other),
     }
 }

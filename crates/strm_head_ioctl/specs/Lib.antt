@@ -4,6 +4,7 @@ pub mod Modules
 pub mod Names
 pub mod Flush
 pub mod Ioctl
+pub mod Later
 pub mod Outcome
 pub mod Close
 pub mod Outside

@@ -1,5 +1,5 @@
 //! An ioctl of a program's own: it is sent down, and its answer comes up.
-ghost use Rattle.std.specs.Prelude.{◌≡◌, true, false, IsNone, IsSome};
+ghost use Rattle.std.specs.Prelude.{◌≡◌, true, false, is_none, IfOk, IsNone, IsOk, IsSome};
 ghost use Rattle.strm_chain.specs.Deliver.{is_there};
 ghost use Rattle.strm_chain_ends.specs.Image.{end_of};
 ghost use Rattle.strm_chain.specs.declared.spot.Spot.TheVariants as Spots;
@@ -12,7 +12,7 @@ ghost use Rattle.strm_head_ioctl.specs.Outcome.{FailsIn, EndsIn};
 use strm_chain::{Chain, ChainFault, Spot, deliver};
 use strm_head_calls::{Acknowledged, MAX_DATA, Refusal};
 use strm_module::ModuleOf;
-use strm_msg::{Bytes, End, Message, MsgKind};
+use strm_msg::{BoxedMessage, Bytes, End, Message, MsgKind, NoMem};
 
 /// The first of an ioctl's own refusals that holds: EINVAL for data over its greatest size, ENXIO for
 /// an end that is hung up, and EAGAIN where the greatest id was given out (streamio(7), I_STR).
@@ -75,5 +75,17 @@ pub fn acknowledged(kept: Option<Message>) -> Acknowledged
         MsgKind::MIocack { rval, .. } => Acknowledged::Ack { rval, dat: m.dat },
         MsgKind::MIocnak { errno, .. } => Acknowledged::Nak { errno },
         _ => Acknowledged::Timeout,
+    }
+}
+
+/// The outcome of an ioctl, by a copy of the answer that its head has kept. Fails only where the copy does, and
+/// not without an answer.
+pub fn acknowledged_copy(kept: &Option<BoxedMessage>) -> Result<Acknowledged, NoMem>
+    ensures answer { IfOk result (λ answer. answer ≡ acknowledged kept.now) }
+    ensures none { is_none kept.now ≡ true → IsOk result }
+{
+    match kept {
+        Some(m) => Ok(acknowledged(Some(Message::copy(m)?))),
+        None => Ok(Acknowledged::Timeout),
     }
 }

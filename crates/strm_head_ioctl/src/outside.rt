@@ -12,8 +12,8 @@ use strm_head_calls::{Refusal, Reply, ReplyForm};
 use strm_module::ModuleOf;
 use strm_msg::{BoxedMessage, End, Message, NoMem};
 
-/// Whether an end is that of a wire.
-fn has_output<M: ModuleOf>(chain: &Chain<M>, end: End) -> bool
+/// Whether an end is that of a wire, whose list in the driver is its output.
+pub fn has_output<M: ModuleOf>(chain: &Chain<M>, end: End) -> bool
     ensures { result ≡ has_output chain.now.image end }
 {
     chain.driver().is_wire() && chain.driver().has_end(end)

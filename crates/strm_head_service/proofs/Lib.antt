@@ -1,3 +1,4 @@
-pub mod OwnLemmas
+pub mod ServedLemmas
 pub mod QueueLemmas
 pub mod ServeLemmas
+pub mod TakeLemmas

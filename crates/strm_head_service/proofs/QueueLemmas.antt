@@ -44,7 +44,7 @@ found_same e i (Some s) side q at =
       is_open = refl;
       drv_marks = refl;
       modules = found_shapes (λ shape. identity_of shape) e i (Some s) side q at;
-      ids = record { next = refl; pending = refl; kept = λ none. refl };
+      ids = record { next = refl; pending = refl; kept = λ none. refl; asked = refl; answer = λ none. refl };
     }
 
 pub queue_keeps : {K : Type 0} (image : Image K) (e : End) (i : ℕ) (side : Side) (q : List Msg) → SameModules image (with_end image e (with_queue (end_of image e) i side q))

@@ -1,2 +1,4 @@
-pub mod Own
+pub mod Served
 pub mod Serve
+pub mod First
+pub mod Take

@@ -115,6 +115,7 @@ reply_fields (Reply.Look name) = Word name.items ∷ []
 reply_fields (Reply.List names driver) = list_fields names.items driver
 reply_fields (Reply.Find found) = Word (holds_word found) ∷ []
 reply_fields (Reply.Str answer) = acknowledged_fields answer
+reply_fields (Reply.Strput id) = Number id ∷ []
 reply_fields Reply.Flush = done_fields
 reply_fields Reply.FlushBand = done_fields
 reply_fields (Reply.Close names) = Word (codes "closed") ∷ name_fields names.items

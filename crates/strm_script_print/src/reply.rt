@@ -152,6 +152,7 @@ fn add_as_list<W: Write>(w: &mut W, out: &mut LineBuffer, reply: &Reply)
         Reply::List { names, driver } => add_list(w, out, names.as_slice(), *driver),
         Reply::Find { found } => add_word(w, out, holds_word(*found)),
         Reply::Str { answer } => add_acknowledged(w, out, answer),
+        Reply::Strput { id } => add_number(w, out, *id),
         Reply::Close { names } => {
             add_word(w, out, b"closed");
             add_names(w, out, names.as_slice());

@@ -48,6 +48,8 @@ pub(crate) fn verb_of<K>(request: &Request<BoxedShape<K>>) -> Verb
         Request::List => Verb::List,
         Request::Find { .. } => Verb::Find,
         Request::Str { .. } => Verb::Str,
+        Request::Strput { .. } => Verb::Strput,
+        Request::Strget { .. } => Verb::Strget,
         Request::Flush { .. } => Verb::Flush,
         Request::FlushBand { .. } => Verb::FlushBand,
         Request::Nread => Verb::Nread,
@@ -160,7 +162,12 @@ fn add_as_list<W: Write, K: PrintKind + Drop>(
         Request::Read { .. } | Request::Write { .. } => unreachable!(),
         Request::Push { instance } => add_module(w, out, instance.shape()),
         Request::Find { name } => add_part(w, out, name.as_slice()),
-        Request::Str { cmd, dat } => add_all(w, out, &[Number(u64::from(*cmd)), part_field(dat)]),
+        Request::Str { cmd, dat } | Request::Strput { cmd, dat } => add_all(
+            w,
+            out,
+            &[Number(u64::from(*cmd)), part_field(dat)],
+        ),
+        Request::Strget { drops } => add_word(w, out, drops.word()),
         Request::Flush { r, w: write } => add_all(w, out, &[Word((*r, *write).word())]),
         Request::FlushBand { band, r, w: write } => {
             add_all(

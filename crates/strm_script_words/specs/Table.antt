@@ -6,7 +6,7 @@ use Rattle.strm_msg.specs.declared.words.Side.{Side}
 use Rattle.strm_head_calls.specs.declared.request.Request.{Request}
 use Rattle.strm_head_calls.specs.declared.service.ServiceCall.{ServiceCall}
 use Rattle.strm_script_words.specs.Fault.{◌>>=◌}
-use Rattle.strm_script_words.specs.Words.{named, priority_word, all_priorities, put_word, all_puts, wanted_word, all_wanted, get_word, all_gets, mode_word, all_modes, prot_word, all_prots, flush_word, all_sides}
+use Rattle.strm_script_words.specs.Words.{named, priority_word, all_priorities, put_word, all_puts, wanted_word, all_wanted, get_word, all_gets, mode_word, all_modes, prot_word, all_prots, flush_word, all_sides, drop_word, all_drops}
 use Rattle.strm_script_words.specs.Field.{Form, Whole, Optional, Maximum, Upto, Choice, is_part, Field, Bytes, Number, Word, part_field, maximum_field, fields_at}
 use Rattle.strm_script_words.specs.Naming.{KindWords, push_arity, shape_at}
 use Rattle.strm_script_words.specs.Service.{is_service, sends_message, service_arity, service_call_at, module_at, queue_at}
@@ -29,6 +29,8 @@ word_of Verb.Look = codes "look"
 word_of Verb.List = codes "list"
 word_of Verb.Find = codes "find"
 word_of Verb.Str = codes "str"
+word_of Verb.Strput = codes "strput"
+word_of Verb.Strget = codes "strget"
 word_of Verb.Flush = codes "flush"
 word_of Verb.FlushBand = codes "flushband"
 word_of Verb.Nread = codes "nread"
@@ -48,7 +50,7 @@ word_of Verb.Qsize = codes "qsize"
 word_of Verb.Poll = codes "poll"
 
 abbrev pub all_verbs : List Verb
-all_verbs = Verb.Putmsg ∷ Verb.Putpmsg ∷ Verb.Getmsg ∷ Verb.Getpmsg ∷ Verb.Read ∷ Verb.Write ∷ Verb.Push ∷ Verb.Pop ∷ Verb.Look ∷ Verb.List ∷ Verb.Find ∷ Verb.Str ∷ Verb.Flush ∷ Verb.FlushBand ∷ Verb.Nread ∷ Verb.Peek ∷ Verb.SetRead ∷ Verb.GetRead ∷ Verb.Canput ∷ Verb.Ckband ∷ Verb.Getband ∷ Verb.Close ∷ Verb.Take ∷ Verb.Getq ∷ Verb.Putbq ∷ Verb.Putnext ∷ Verb.Bcanputnext ∷ Verb.Qsize ∷ Verb.Poll ∷ []
+all_verbs = Verb.Putmsg ∷ Verb.Putpmsg ∷ Verb.Getmsg ∷ Verb.Getpmsg ∷ Verb.Read ∷ Verb.Write ∷ Verb.Push ∷ Verb.Pop ∷ Verb.Look ∷ Verb.List ∷ Verb.Find ∷ Verb.Str ∷ Verb.Strput ∷ Verb.Strget ∷ Verb.Flush ∷ Verb.FlushBand ∷ Verb.Nread ∷ Verb.Peek ∷ Verb.SetRead ∷ Verb.GetRead ∷ Verb.Canput ∷ Verb.Ckband ∷ Verb.Getband ∷ Verb.Close ∷ Verb.Take ∷ Verb.Getq ∷ Verb.Putbq ∷ Verb.Putnext ∷ Verb.Bcanputnext ∷ Verb.Qsize ∷ Verb.Poll ∷ []
 
 -- the call of a word
 abbrev pub verb_named : List ℕ → Option Verb
@@ -65,6 +67,8 @@ forms_of Verb.Read = Upto MOST_ASKED ∷ []
 forms_of Verb.Write = Whole ∷ []
 forms_of Verb.Find = Whole ∷ []
 forms_of Verb.Str = Upto MOST_U32 ∷ Optional ∷ []
+forms_of Verb.Strput = Upto MOST_U32 ∷ Optional ∷ []
+forms_of Verb.Strget = Choice (map drop_word all_drops) ∷ []
 forms_of Verb.Flush = Choice (map (λ sides. flush_word sides.0 sides.1) all_sides) ∷ []
 forms_of Verb.FlushBand = Upto MOST_BAND ∷ Choice (map (λ sides. flush_word sides.0 sides.1) all_sides) ∷ []
 forms_of Verb.Peek = Maximum ∷ Maximum ∷ Choice (map wanted_word all_wanted) ∷ []
@@ -101,6 +105,8 @@ asked_of Request.Look = Told Verb.Look []
 asked_of Request.List = Told Verb.List []
 asked_of (Request.Find name) = Told Verb.Find (Bytes name ∷ [])
 asked_of (Request.Str cmd dat) = Told Verb.Str (Number cmd ∷ part_field dat ∷ [])
+asked_of (Request.Strput cmd dat) = Told Verb.Strput (Number cmd ∷ part_field dat ∷ [])
+asked_of (Request.Strget drops) = Told Verb.Strget (Word (drop_word drops) ∷ [])
 asked_of (Request.Flush r w) = Told Verb.Flush (Word (flush_word r w) ∷ [])
 asked_of (Request.FlushBand band r w) = Told Verb.FlushBand (Number band ∷ Word (flush_word r w) ∷ [])
 asked_of Request.Nread = Told Verb.Nread []

@@ -94,5 +94,13 @@ flush_word false false = codes "none"
 abbrev pub all_sides : List (Bool × Bool)
 all_sides = (true, true) ∷ (true, false) ∷ (false, true) ∷ (false, false) ∷ []
 
+-- whether an ioctl is dropped whose answer has not come
+abbrev pub drop_word : Bool → List ℕ
+drop_word true = codes "drop"
+drop_word false = codes "keep"
+
+abbrev pub all_drops : List Bool
+all_drops = true ∷ false ∷ []
+
 abbrev pub all_errnos : List Errno
 all_errnos = EBADF ∷ ENOSR ∷ EINVAL ∷ ERANGE ∷ ENXIO ∷ EBADMSG ∷ ENODATA ∷ EAGAIN ∷ ETIME ∷ EIO ∷ EPROTO ∷ []

@@ -126,6 +126,29 @@ fn str<M: ModuleOf>(alloc: Global, texts: &[&[u8]]) -> Result<Request<BoxedModul
     Ok(Request::Str { cmd, dat })
 }
 
+/// Reads `strput CMD DAT`.
+fn strput<M: ModuleOf>(alloc: Global, texts: &[&[u8]]) -> Result<Request<BoxedModule<M>>, ReadError>
+    ensures { Gives table.asked_of result (table.told_at Verb.Strput (texts_of texts.now)) }
+{
+    let [cmd, dat] = texts else {
+        return Err(ReadError::Fault(Cause::Fields));
+    };
+    let cmd = u32_at(cmd)?;
+    let dat = optional_at(alloc, dat)?;
+    Ok(Request::Strput { cmd, dat })
+}
+
+/// Reads `strget drop|keep`.
+fn strget<M: ModuleOf>(texts: &[&[u8]]) -> Result<Request<BoxedModule<M>>, Cause>
+    ensures { Tells table.asked_of result (table.told_at Verb.Strget (texts_of texts.now)) }
+{
+    let [drops] = texts else {
+        return Err(Cause::Fields);
+    };
+    let drops = keyword_at(drops)?;
+    Ok(Request::Strget { drops })
+}
+
 /// Reads `flush SIDES`.
 fn flush<M: ModuleOf>(texts: &[&[u8]]) -> Result<Request<BoxedModule<M>>, Cause>
     ensures { Tells table.asked_of result (table.told_at Verb.Flush (texts_of texts.now)) }
@@ -242,6 +265,7 @@ fn bare_at<M: ModuleOf>(verb: Verb, texts: &[&[u8]]) -> Result<Request<BoxedModu
         Verb::Pop => plain(texts, Request::Pop),
         Verb::Look => plain(texts, Request::Look),
         Verb::List => plain(texts, Request::List),
+        Verb::Strget => strget(texts),
         Verb::Flush => flush(texts),
         Verb::FlushBand => flush_band(texts),
         Verb::Nread => plain(texts, Request::Nread),
@@ -279,6 +303,7 @@ where
         Verb::Push => push(alloc, serial, texts),
         Verb::Find => find(alloc, texts),
         Verb::Str => str(alloc, texts),
+        Verb::Strput => strput(alloc, texts),
         Verb::Getq | Verb::Putbq | Verb::Putnext | Verb::Bcanputnext | Verb::Qsize => {
             service_at(alloc, verb, texts)
         }

@@ -37,6 +37,10 @@ pub enum Verb {
     Find,
     /// Sends an ioctl (I_STR).
     Str,
+    /// Sends an ioctl whose answer is asked for later.
+    Strput,
+    /// Asks for the answer to it.
+    Strget,
     /// Flushes all bands (I_FLUSH).
     Flush,
     /// Flushes one band (I_FLUSHBAND).
@@ -81,8 +85,14 @@ impl Verb {
         match self {
             Verb::Putpmsg | Verb::Getpmsg => 4,
             Verb::Putmsg | Verb::Getmsg | Verb::Peek => 3,
-            Verb::Str | Verb::FlushBand | Verb::SetRead => 2,
-            Verb::Read | Verb::Write | Verb::Find | Verb::Flush | Verb::Canput | Verb::Ckband => 1,
+            Verb::Str | Verb::Strput | Verb::FlushBand | Verb::SetRead => 2,
+            Verb::Read
+            | Verb::Write
+            | Verb::Find
+            | Verb::Strget
+            | Verb::Flush
+            | Verb::Canput
+            | Verb::Ckband => 1,
             Verb::Push
             | Verb::Pop
             | Verb::Look
@@ -148,6 +158,8 @@ impl Keyword for Verb {
             Verb::List => b"list",
             Verb::Find => b"find",
             Verb::Str => b"str",
+            Verb::Strput => b"strput",
+            Verb::Strget => b"strget",
             Verb::Flush => b"flush",
             Verb::FlushBand => b"flushband",
             Verb::Nread => b"nread",
@@ -182,6 +194,8 @@ impl Keyword for Verb {
             Verb::List,
             Verb::Find,
             Verb::Str,
+            Verb::Strput,
+            Verb::Strget,
             Verb::Flush,
             Verb::FlushBand,
             Verb::Nread,

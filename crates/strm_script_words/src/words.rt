@@ -170,6 +170,23 @@ impl Keyword for (bool, bool) {
     }
 }
 
+/// Whether an ioctl is dropped whose answer has not come: `drop`, or `keep`.
+impl Keyword for bool {
+    ghost use Rattle.strm_script_words.specs.Words.{all_drops, drop_word};
+
+    ghost word = { drop_word };
+
+    ghost all = { all_drops };
+
+    fn word(self) -> &'static [u8] {
+        if self { b"drop" } else { b"keep" }
+    }
+
+    fn all() -> &'static [bool] {
+        &[true, false]
+    }
+}
+
 /// The names of errors, by which scripts name them.
 impl Keyword for Errno {
     ghost use Rattle.strm_msg.specs.Text.{name_of};

@@ -8,7 +8,7 @@ use Rattle.strm_module.specs.declared.shape.Shape.{Shape}
 use Rattle.strm_chain_end.specs.Pair.{QueuePair}
 use Rattle.strm_chain_end.specs.End.{EndState, in_drv, shapes_of}
 use Rattle.strm_chain_end.specs.Modules.{SameEnd, Identity, identities_of}
-use Rattle.strm_chain_end.specs.Change.{with_mode, inserted, removed, awaiting, awaiting_none}
+use Rattle.strm_chain_end.specs.Change.{with_mode, inserted, removed, awaiting, awaiting_none, asking, asking_none}
 use Rattle.strm_chain_ends.specs.declared.place.Place.{Place}
 use Rattle.strm_chain.specs.declared.spot.Spot.TheVariants.{Down}
 use Rattle.strm_chain_ends.specs.Image.{Image, end_of, with_end, with_state}
@@ -16,7 +16,7 @@ use Rattle.strm_chain_ends.specs.Same.{SameModules}
 use Rattle.strm_chain.specs.Fault.{Breaks}
 use Rattle.strm_chain.proofs.SameLemmas.{deliver_keeps, leads_keeps}
 use Rattle.strm_head_calls.specs.declared.request.Request.{Request}
-use Rattle.strm_head_calls.specs.declared.request.Request.TheVariants.{Putmsg, Putpmsg, Getmsg, Getpmsg, Read, Write, Push, Nread, Peek, SetRead, GetRead, Canput, Ckband, Getband, Pop, Look, Find, Str, Flush, FlushBand, Close, Take, Service, Poll}
+use Rattle.strm_head_calls.specs.declared.request.Request.TheVariants.{Putmsg, Putpmsg, Getmsg, Getpmsg, Read, Write, Push, Nread, Peek, SetRead, GetRead, Canput, Ckband, Getband, Pop, Look, Find, Str, Strput, Strget, Flush, FlushBand, Close, Take, Service, Poll}
 use Rattle.strm_head_calls.specs.declared.request.Request.TheVariants as Requests
 use Rattle.strm_head_calls.specs.declared.refusal.Refusal.{Refusal}
 use Rattle.strm_head_calls.specs.declared.answer.Reply.{Reply}
@@ -25,9 +25,10 @@ use Rattle.strm_head_calls.specs.declared.answer.Answer.TheVariants.{Done, Refus
 use Rattle.strm_head_calls.specs.Effect.{Effect}
 use Rattle.strm_head_msg.specs.Send.{sent_of, putmsg_message, putpmsg_message, ordinary_message}
 use Rattle.strm_head_ioctl.specs.Ioctl.{asked_of}
+use Rattle.strm_head_ioctl.specs.Later.{put_of}
 use Rattle.strm_head_ioctl.specs.Close.{closed_image}
 use Rattle.strm_head_ioctl.specs.Outside.{taken_out}
-use Rattle.strm_head_service.specs.Own.{own_at}
+use Rattle.strm_head_service.specs.Served.{served_at}
 use Rattle.strm_head_service.proofs.ServeLemmas.{service_keeps}
 use Rattle.strm_head_calls.specs.declared.event.Event.{Event}
 use Rattle.strm_head_calls.specs.declared.event.Event.TheVariants.{Asked, Arrived}
@@ -129,6 +130,13 @@ module _ {K : Type 0} (means : Meaning K) where
       let asked = with_state image e r in
       standing_same asked _ (deliver_keeps means asked (Down e 1) _) ∙ end_standing image e (record (end_of image e) { state = r }) refl
 
+  put_standing : (image : Image K) (e : End) (cmd : ℕ) (dat : Part) (id : Option ℕ) → standing (put_of means image e cmd dat id) ≡ standing image
+  put_standing image e cmd dat None = refl
+  put_standing image e cmd dat (Some id) =
+      let r = asking (end_of image e).state (Some id) in
+      let asked = with_state image e r in
+      standing_same asked _ (deliver_keeps means asked (Down e 1) _) ∙ end_standing image e (record (end_of image e) { state = r }) refl
+
   taken_standing : (image : Image K) (e : End) (q : List Msg) → standing (taken_out image e q).image ≡ standing image
   taken_standing image e [] = refl
   taken_standing image e (m ∷ q) = end_standing image e (in_drv (end_of image e) q) refl
@@ -155,12 +163,14 @@ module _ {K : Type 0} (means : Meaning K) where
   plain_standing image e Requests.List plain = refl
   plain_standing image e (Find name) plain = refl
   plain_standing image e (Str cmd dat) plain = asked_standing image e cmd dat (end_of image e).state.next
+  plain_standing image e (Strput cmd dat) plain = put_standing image e cmd dat (end_of image e).state.next
+  plain_standing image e (Strget drops) plain = end_standing image e (record (end_of image e) { state = asking_none (end_of image e).state }) refl
   plain_standing image e (Flush r w) plain = standing_same image _ (deliver_keeps means image (Down e 1) _)
   plain_standing image e (FlushBand band r w) plain = standing_same image _ (deliver_keeps means image (Down e 1) _)
   plain_standing image e Close plain = cc
   plain_standing image e Take plain = taken_standing image e (end_of image e).drv
   plain_standing image e (Service name side call) plain =
-      standing_same image _ (service_keeps means image e (own_at (end_of image e) name.items) side call)
+      standing_same image _ (service_keeps means image e (served_at image e name.items) side call)
   plain_standing image e Poll plain = refl
 
   -- the module that a call has put in

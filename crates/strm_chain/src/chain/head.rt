@@ -4,7 +4,7 @@ ghost use Rattle.strm_msg.specs.Message.{rank_of};
 ghost use Rattle.strm_queue.specs.Queue.{put_back_in};
 ghost use Rattle.strm_queue.specs.Room.{room_for};
 ghost use Rattle.strm_chain_end.specs.End.{KeepsRoom, SpendsOne};
-ghost use Rattle.strm_chain_end.specs.Change.{with_mode, awaiting_next, id_given_back, awaiting_none};
+ghost use Rattle.strm_chain_end.specs.Change.{with_mode, awaiting_next, id_given_back, awaiting_none, asking_next, asked_given_back, asking_none};
 ghost use Rattle.strm_chain_ends.specs.Image.{end_of, with_head, with_state, room_of, other_end, KeepsHeadRoom};
 
 use super::Chain;
@@ -113,5 +113,28 @@ impl<M: ModuleOf> Chain<M> {
         ensures image { self.new ≡ record self.old { image = with_state self.old.image end (awaiting_none (end_of self.old.image end).state) } }
     {
         self.ends.end_mut(end).end_ioctl()
+    }
+
+    /// Takes the next id of an end, whose answer is asked for later.
+    pub fn ask_ioctl(&mut self, end: End) -> Option<u64>
+        ensures id { result ≡ (end_of self.old.image end).state.next }
+        ensures image { self.new ≡ record self.old { image = with_state self.old.image end (asking_next (end_of self.old.image end).state) } }
+    {
+        self.ends.end_mut(end).ask_ioctl()
+    }
+
+    /// Gives back the id that was taken last, of an ioctl whose answer was to be asked for later.
+    pub fn undo_ask(&mut self, end: End)
+        ensures { self.new ≡ record self.old { image = with_state self.old.image end (asked_given_back (end_of self.old.image end).state) } }
+    {
+        self.ends.end_mut(end).undo_ask()
+    }
+
+    /// Takes the answer that was asked for, and asks for none any longer.
+    pub fn end_ask(&mut self, end: End) -> Option<BoxedMessage>
+        ensures answer { result ≡ (end_of self.old.image end).state.answer }
+        ensures image { self.new ≡ record self.old { image = with_state self.old.image end (asking_none (end_of self.old.image end).state) } }
+    {
+        self.ends.end_mut(end).end_ask()
     }
 }

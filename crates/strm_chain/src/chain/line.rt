@@ -3,8 +3,9 @@ ghost use Rattle.std.specs.Prelude.{◌≡◌, ◌∷◌, [], ◌<◌, true, fal
 ghost use Rattle.strm_msg.specs.Kind.{is_high};
 ghost use Rattle.strm_msg.specs.Message.{rank_of};
 ghost use Rattle.strm_msg.specs.declared.words.End.TheVariants.{A};
-ghost use Rattle.strm_queue.specs.Queue.{put_in, is_full};
+ghost use Rattle.strm_queue.specs.Queue.{put_in, put_back_in, is_full};
 ghost use Rattle.strm_queue.specs.Room.{room_for};
+ghost use Rattle.strm_module.specs.Calm.{is_calm};
 ghost use Rattle.strm_module.specs.Driver.{is_line, is_wire, input_end};
 ghost use Rattle.strm_chain_end.specs.End.{KeepsRoom, SpendsOne};
 ghost use Rattle.strm_chain_ends.specs.Image.{end_of, with_drv};
@@ -85,5 +86,25 @@ impl<M: ModuleOf> Chain<M> {
         ensures same { SameModules self.old.image self.new.image }
     {
         self.take_driver(End::A)
+    }
+
+    /// Puts a message back into the output of a wire, before those of its rank (putbq(9F)). To be called over
+    /// a wire, with no flush and no error.
+    ///
+    /// Fails only when memory runs out: the message comes back, and nothing is changed.
+    pub fn put_back_out(&mut self, m: BoxedMessage) -> Result<(), BoxedMessage>
+        requires wire { is_wire self.old.image.driver ≡ true }
+        requires calm { is_calm m.kind ≡ true }
+        ensures ok { OnOk result (self.new.image ≡ with_drv self.old.image A (put_back_in self.old.image.a.drv m)) }
+        ensures err { OnErr result (self.new.image ≡ self.old.image) }
+        ensures back { IfErr result (λ same. same ≡ m) }
+    {
+        let queue = NextQueue::Of {
+            place: Place::Drv { end: End::A },
+        };
+        let before = self.ends.len(queue);
+        let answer = self.ends.end_mut(End::A).put_back_driver(m);
+        self.enabling.enable_by_change(&self.ends, queue, before);
+        answer
     }
 }

@@ -1,13 +1,14 @@
 //! The driver's list of an end.
-ghost use Rattle.std.specs.Prelude.{◌≡◌, ◌∷◌, [], ◌<◌, false, OnOk, OnErr, IfOk, IfErr, IfSome, IfNone, IsOk};
+ghost use Rattle.std.specs.Prelude.{◌≡◌, ◌∷◌, [], ◌<◌, false, true, OnOk, OnErr, IfOk, IfErr, IfSome, IfNone, IsOk};
 ghost use Rattle.strm_msg.specs.Kind.{is_high};
 ghost use Rattle.strm_msg.specs.Message.{bare, rank_of};
 ghost use Rattle.strm_msg.specs.declared.kind.MsgKind.TheVariants.{MIocnak};
 ghost use Rattle.strm_msg.specs.declared.errno.Errno.TheVariants.{EINVAL};
 ghost use Rattle.strm_chain_end.specs.declared.driver.DriverSends.TheVariants as Sends;
 ghost use Rattle.strm_msg.specs.Options.{options_asked};
-ghost use Rattle.strm_queue.specs.Queue.{put_in};
+ghost use Rattle.strm_queue.specs.Queue.{put_in, put_back_in};
 ghost use Rattle.strm_queue.specs.Room.{room_for};
+ghost use Rattle.strm_module.specs.Calm.{is_calm};
 ghost use Rattle.strm_chain_end.specs.End.{KeepsRoom, SpendsOne, in_drv};
 ghost use Rattle.strm_chain_end.specs.Modules.{SameEnd};
 ghost use Rattle.strm_chain_end.specs.Pair.{flushed_if};
@@ -196,5 +197,19 @@ impl<M: ModuleOf> StreamEnd<M> {
         ensures head_room { self.new.head_room ≡ self.old.head_room }
     {
         self.drv.put(m)
+    }
+
+    /// Puts a message back into the driver's list, before those of its rank (putbq(9F)). To be called with no
+    /// flush and no error.
+    ///
+    /// Fails only when memory runs out: the message comes back, and nothing is changed.
+    pub fn put_back_driver(&mut self, m: BoxedMessage) -> Result<(), BoxedMessage>
+        requires { is_calm m.kind ≡ true }
+        ensures ok { OnOk result (self.new.state ≡ in_drv self.old.state (put_back_in self.old.state.drv m)) }
+        ensures err { OnErr result (self.new.state ≡ self.old.state) }
+        ensures back { IfErr result (λ same. same ≡ m) }
+        ensures head_room { self.new.head_room ≡ self.old.head_room }
+    {
+        self.drv.put_back(m)
     }
 }

@@ -6,7 +6,7 @@ ghost use Rattle.strm_queue.specs.Room.{room_for};
 ghost use Rattle.strm_chain_end.specs.End.{KeepsRoom, SpendsOne, in_head, in_state};
 ghost use Rattle.strm_chain_end.specs.Modules.{SameEnd};
 ghost use Rattle.strm_chain_end.specs.Head.{marks_set, with_options, flush_down, error_flush, put_at_head};
-ghost use Rattle.strm_chain_end.specs.Change.{with_mode, awaiting_next, id_given_back, awaiting_none};
+ghost use Rattle.strm_chain_end.specs.Change.{with_mode, awaiting_next, id_given_back, awaiting_none, asking_next, asked_given_back, asking_none};
 ghost use Rattle.strm_chain_end.specs.Pair.{flushed_if};
 
 use super::StreamEnd;
@@ -232,5 +232,28 @@ impl<M: ModuleOf> StreamEnd<M> {
         ensures end { self.new ≡ record self.old { state = in_state self.old.state (awaiting_none self.old.state.state) } }
     {
         self.state.end()
+    }
+
+    /// Takes the next id, whose answer is asked for later.
+    pub fn ask_ioctl(&mut self) -> Option<u64>
+        ensures id { result ≡ self.old.state.state.next }
+        ensures end { self.new ≡ record self.old { state = in_state self.old.state (asking_next self.old.state.state) } }
+    {
+        self.state.ask()
+    }
+
+    /// Gives back the id that was taken last, of an ioctl whose answer was to be asked for later.
+    pub fn undo_ask(&mut self)
+        ensures { self.new ≡ record self.old { state = in_state self.old.state (asked_given_back self.old.state.state) } }
+    {
+        self.state.undo_ask()
+    }
+
+    /// Takes the answer that was asked for, and asks for none any longer.
+    pub fn end_ask(&mut self) -> Option<BoxedMessage>
+        ensures answer { result ≡ self.old.state.state.answer }
+        ensures end { self.new ≡ record self.old { state = in_state self.old.state (asking_none self.old.state.state) } }
+    {
+        self.state.end_ask()
     }
 }

@@ -97,3 +97,7 @@ returns-clause-grows g c =
 pub returns-clause-same : goal.returns-clause-same
 returns-clause-same g c =
     rw (← c.self.view_is) (lent_same c.self.inside.ends.image c.args.end c.end_mut.result.now.state c.put_at_head-answer.new.self.state c.end_mut.ensures.state c.put_at_head-answer.ensures.same)
+
+pub returns-then-sets-clause-same : goal.returns-then-sets-clause-same
+returns-then-sets-clause-same g c =
+    rw (← c.self.view_is) (lent_same c.self.inside.ends.image c.args.end c.end_mut.result.now.state c.put_at_head-answer.new.self.state c.end_mut.ensures.state c.put_at_head-answer.ensures.same)

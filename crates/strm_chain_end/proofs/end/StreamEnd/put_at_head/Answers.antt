@@ -52,7 +52,7 @@ returns-in-MFlush-clause-same g c =
       is_open = refl;
       drv_marks = refl;
       modules = refl;
-      ids = record { next = refl; pending = refl; kept = λ _. refl };
+      ids = record { next = refl; pending = refl; kept = λ _. refl; asked = refl; answer = λ _. refl };
     })
 
 pub returns-in-MHangup-clause-same : goal.returns-in-MHangup-clause-same
@@ -62,7 +62,7 @@ returns-in-MHangup-clause-same g c =
       is_open = refl;
       drv_marks = refl;
       modules = refl;
-      ids = record { next = refl; pending = refl; kept = λ _. refl };
+      ids = record { next = refl; pending = refl; kept = λ _. refl; asked = refl; answer = λ _. refl };
     })
 
 pub returns-in-MIoctl-clause-same : goal.returns-in-MIoctl-clause-same
@@ -72,7 +72,7 @@ returns-in-MIoctl-clause-same g c =
       is_open = refl;
       drv_marks = refl;
       modules = refl;
-      ids = record { next = refl; pending = refl; kept = λ _. refl };
+      ids = record { next = refl; pending = refl; kept = λ _. refl; asked = refl; answer = λ _. refl };
     })
 
 pub returns-in-MData-clause-same : goal.returns-in-MData-clause-same
@@ -82,7 +82,7 @@ returns-in-MData-clause-same g c =
       is_open = refl;
       drv_marks = refl;
       modules = refl;
-      ids = record { next = refl; pending = refl; kept = λ _. refl };
+      ids = record { next = refl; pending = refl; kept = λ _. refl; asked = refl; answer = λ _. refl };
     })
 
 pub returns-then-not-has_pcproto-clause-same : goal.returns-then-not-has_pcproto-clause-same
@@ -92,7 +92,7 @@ returns-then-not-has_pcproto-clause-same g c =
       is_open = refl;
       drv_marks = refl;
       modules = refl;
-      ids = record { next = refl; pending = refl; kept = λ _. refl };
+      ids = record { next = refl; pending = refl; kept = λ _. refl; asked = refl; answer = λ _. refl };
     })
 
 pub returns-else-not-has_pcproto-clause-same : goal.returns-else-not-has_pcproto-clause-same
@@ -102,7 +102,7 @@ returns-else-not-has_pcproto-clause-same g c =
       is_open = refl;
       drv_marks = refl;
       modules = refl;
-      ids = record { next = refl; pending = refl; kept = λ _. refl };
+      ids = record { next = refl; pending = refl; kept = λ _. refl; asked = refl; answer = λ _. refl };
     })
 
 pub returns-in-MError-clause-same : goal.returns-in-MError-clause-same
@@ -112,7 +112,7 @@ returns-in-MError-clause-same g c =
       is_open = refl;
       drv_marks = refl;
       modules = refl;
-      ids = rw c.set_errors.ensures (record { next = refl; pending = refl; kept = λ _. refl });
+      ids = rw c.set_errors.ensures (record { next = refl; pending = refl; kept = λ _. refl; asked = refl; answer = λ _. refl });
     })
 
 pub returns-in-MFlush-clause-err : goal.returns-in-MFlush-clause-err

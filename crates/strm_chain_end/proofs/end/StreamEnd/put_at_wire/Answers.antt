@@ -24,5 +24,5 @@ returns-in_ok-put_in_list-in-MPcproto-clause-same g c =
       is_open = refl;
       drv_marks = c.put_in_list.ensures.marks;
       modules = refl;
-      ids = record { next = refl; pending = refl; kept = λ _. refl };
+      ids = record { next = refl; pending = refl; kept = λ _. refl; asked = refl; answer = λ _. refl };
     })

@@ -26,7 +26,7 @@ returns-clause-same g c =
       is_open = refl;
       drv_marks = refl;
       modules = identities-set c.self.inside.pairs.items (c.from-i.result - 1) c.put_back.new.self c.index_mut.result.now c.index_mut.ensures.value c.put_back.ensures.identity;
-      ids = record { next = refl; pending = refl; kept = λ _. refl };
+      ids = record { next = refl; pending = refl; kept = λ _. refl; asked = refl; answer = λ _. refl };
     })
 
 pub returns-clause-ok : goal.returns-clause-ok

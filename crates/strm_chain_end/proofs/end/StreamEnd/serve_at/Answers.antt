@@ -43,5 +43,5 @@ returns-clause-same g c =
       is_open = refl;
       drv_marks = refl;
       modules = identities-set c.self.inside.pairs.items (c.args.i - 1) c.serve.new.self c.index_mut.result.now c.index_mut.ensures.value c.serve.ensures.identity;
-      ids = record { next = refl; pending = refl; kept = λ _. refl };
+      ids = record { next = refl; pending = refl; kept = λ _. refl; asked = refl; answer = λ _. refl };
     })

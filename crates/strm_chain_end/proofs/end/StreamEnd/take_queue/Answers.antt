@@ -24,5 +24,5 @@ returns-clause-same g c =
       is_open = refl;
       drv_marks = refl;
       modules = identities-set c.self.inside.pairs.items (c.from-i.result - 1) c.take.new.self c.index_mut.result.now c.index_mut.ensures.value c.take.ensures.identity;
-      ids = record { next = refl; pending = refl; kept = λ _. refl };
+      ids = record { next = refl; pending = refl; kept = λ _. refl; asked = refl; answer = λ _. refl };
     })

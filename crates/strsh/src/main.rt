@@ -2,7 +2,7 @@
 //!
 //! It exits with one of these statuses:
 //!
-//! - 0 if the transcript was printed, or help was asked for;
+//! - 0 if the transcript was printed, or help or the version was asked for;
 //! - 1 if the run or the printing failed;
 //! - 2 if the command line or the script has a fault.
 #![tactic(auto)]

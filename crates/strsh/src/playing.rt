@@ -25,14 +25,20 @@ use strsh_options::{Fault, Options};
 /// The number of bytes that are written at once.
 const BUFFER: usize = 65_536;
 
-/// The bytes of the script at a path.
-fn script<R: Files>(rt: &R, alloc: Global, path: &str) -> Result<Vec<u8>, LoadFault> {
+/// The path that stands for standard input.
+const STANDARD_INPUT: &str = "-";
+
+/// The bytes of the script at a path, or of standard input.
+fn script<R: Files + Input>(rt: &R, alloc: Global, path: &str) -> Result<Vec<u8>, LoadFault> {
+    if path == STANDARD_INPUT {
+        return load(alloc, rt.reader());
+    }
     load(alloc, fs::open(rt, path)?)
 }
 
 /// The plan of the script at a path, read in at most that many threads. The text is dropped before the plan
 /// is played.
-fn plan_at<R: Files + Threads + Sync>(
+fn plan_at<R: Files + Input + Threads + Sync>(
     rt: &R,
     alloc: Global,
     path: &str,
@@ -127,7 +133,7 @@ fn put_out<R: Print + Threads + Sync>(
 ///
 /// Refused, in this order, if the command line has a fault, if the script cannot be read, if it is no script,
 /// if it does not run, or if the outcome cannot be printed.
-pub fn serve<R: Files + Print + Threads + Wait + AllocGlobal + Sync>(
+pub fn serve<R: Files + Input + Print + Threads + Wait + AllocGlobal + Sync>(
     rt: &R,
     words: &[String],
 ) -> Result<(), Fault> {

@@ -28,9 +28,17 @@ chart_rule = record (new_rule (codes "chart")) { long = Some (codes "chart"); ac
 abbrev pub file_rule : Rule
 file_rule = record (new_rule (codes "FILE")) { required = true }
 
+-- a command line with the word `--version`
+abbrev pub with_version : App → App
+with_version a = record a { top = record a.top { has_version = true } }
+
+-- the command line without arguments
+abbrev pub bare_line : App
+bare_line = with_version (new_app (codes "strsh"))
+
 -- the command line `strsh [--workers N] [--chart] FILE`
 abbrev pub command_line : App
-command_line = with_rule (with_rule (with_rule (new_app (codes "strsh")) workers_rule) chart_rule) file_rule
+command_line = with_rule (with_rule (with_rule bare_line workers_rule) chart_rule) file_rule
 
 -- the texts of words
 abbrev pub word_texts : List (String Global) → List Text
@@ -65,9 +73,9 @@ pub record IsArg (rule : Rule) (arg : Arg) : Type 0 where
   pub local : arg.global ≡ false
   pub plain : IsPlainArg arg
 
--- a command with the program's name and without arguments
+-- a command with the program's name and version, and without arguments
 pub record IsBare (command : Command) : Type 0 where
-  pub app_is : app_of command ≡ new_app (codes "strsh")
+  pub app_is : app_of command ≡ bare_line
   pub no_args : args_of command ≡ []
   pub no_groups : groups_of command ≡ []
   pub local : (fields_of command).has_globals ≡ false

@@ -27,11 +27,11 @@ fault_line (Script fault) = Some (line (scripts.fault_text fault))
 fault_line (Run fault) = Some (line (scripts.play_fault_text (PlayFaults.Run fault)))
 fault_line Write = Some (line (codes "cannot write the transcript"))
 
--- the exit status of a fault: 2 for the command line, unless help was asked for, for the reading and for the
--- script; 1 for the run and the writing
+-- the exit status of a fault: 2 for the command line, unless help or the version was asked for, for the
+-- reading and for the script; 1 for the run and the writing
 abbrev pub EndsWith : Fault → ℕ → Type 0
 EndsWith (Words error) status =
-    (kind_of error ≡ DisplayHelp → status ≡ 0) × (kind_of error ≢ DisplayHelp → kind_of error ≢ DisplayVersion → status ≡ 2)
+    (kind_of error ≡ DisplayHelp → status ≡ 0) × (kind_of error ≡ DisplayVersion → status ≡ 0) × (kind_of error ≢ DisplayHelp → kind_of error ≢ DisplayVersion → status ≡ 2)
 EndsWith Read status = status ≡ 2
 EndsWith (Script fault) status = status ≡ 2
 EndsWith (Run fault) status = status ≡ 1

@@ -14,7 +14,7 @@ use strm_script_parse::{Cause, LoadFault, PlayFault, ScriptFault};
 /// The reason for which the program prints no transcript. The reasons are looked for in this order.
 #[derive(Debug, Drop)]
 pub enum Fault {
-    /// The command line has a fault, or asks for help.
+    /// The command line has a fault, or asks for help or the version.
     Words(clap::Error),
     /// The script cannot be read.
     Read,
@@ -35,8 +35,8 @@ impl Fault {
         Fault::Run(RunFault::NoMem)
     }
 
-    /// The exit status of the program: 0 if help was asked for, 2 for the command line and the script, and 1
-    /// for the run and the writing.
+    /// The exit status of the program: 0 if help or the version was asked for, 2 for the command line and the
+    /// script, and 1 for the run and the writing.
     pub fn status(&self) -> u8
         ensures { EndsWith self.now result }
     {

@@ -14,6 +14,9 @@ use strm_run_input::MOST_WORKERS;
 /// The number of worker threads, if the command line asks for none.
 const DEFAULT_WORKERS: u32 = 4;
 
+/// The version of the program, which is that of the library.
+const VERSION: &str = "1";
+
 /// The description of the program.
 const ABOUT: &str = "Plays a script of calls on STREAMS, and prints a transcript of each stream.";
 
@@ -34,7 +37,7 @@ pub struct Options<'a> {
     pub workers: u32,
     /// Whether the outcome is drawn as a chart, and not printed as a transcript.
     pub chart: bool,
-    /// The path of the script.
+    /// The path of the script; `-` is standard input.
     pub path: &'a str,
 }
 
@@ -64,10 +67,12 @@ fn chart<'a>(alloc: Global) -> Arg<'a>
 fn file<'a>(alloc: Global) -> Arg<'a>
     ensures { IsArg file_rule result }
 {
-    Arg::new(alloc, "FILE").required(true).help("The script")
+    Arg::new(alloc, "FILE")
+        .required(true)
+        .help("The script; - is standard input")
 }
 
-/// A command without arguments. Fails only when memory runs out.
+/// A command without arguments, with the program's version. Fails only when memory runs out.
 fn bare_command<'a>(alloc: Global) -> Result<Command<'a>, Error>
     ensures bare { IfOk result IsBare }
     ensures memory { IfErr result (λ error. kind_of error ≡ OutOfMemory) }
@@ -75,6 +80,7 @@ fn bare_command<'a>(alloc: Global) -> Result<Command<'a>, Error>
     Ok(
         Command::new(alloc, "strsh")
             .bin_name("strsh")?
+            .version(VERSION)
             .about(ABOUT)
             .after_help(EXAMPLE),
     )
@@ -97,8 +103,8 @@ fn command<'a>(alloc: Global) -> Result<Command<'a>, Error>
 impl<'a> Options<'a> {
     /// Reads the words of a command line. The first is the program's name.
     ///
-    /// Refused, with the text to print, if they are no such command line, or ask for help; and when memory
-    /// runs out.
+    /// Refused, with the text to print, if they are no such command line, or ask for help or the version; and
+    /// when memory runs out.
     pub fn read(alloc: Global, words: &'a [String]) -> Result<Options<'a>, Error>
         ensures path { IfOk result (λ options. options.path.now ≡ file_text (word_texts words.entry.now)) }
         ensures workers { IfOk result

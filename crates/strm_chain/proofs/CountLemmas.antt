@@ -27,7 +27,8 @@ use Rattle.strm_chain.specs.Hop.{hop_of}
 use Rattle.strm_chain_ends.specs.Held.{module_place}
 use Rattle.strm_chain.specs.Count.{are_calm_hops}
 
--- what waits at a head, at a driver and at a module after a calm message, and what is sent on, sets no more options
+-- what waits at a head, at a driver and at a module after a calm message, and what is sent on, sets no more
+-- options
 pub head_sets_less : {K : Type 0} (b : Bool) (old new : Image K) (e : End) (m : Msg) → is_calm m.kind ≡ true → new ≡ with_end old e (put_at_head (end_of old e) m).state → options_held b (held_by new (Head e)) + 0 ≤ options_held b (held_by old (Head e)) + options_of b m
 head_sets_less {K = K} b old new e m calm is =
     let after : options_held b (held_by new (Head e)) ≡ options_held b (put_at_head (end_of old e) m).state.head =

@@ -17,7 +17,8 @@ use Rattle.strm_chain.specs.declared.spot.Spot.TheVariants.{Down, Up}
 use Rattle.strm_chain.specs.Deliver.{Sender, SenderPast, send_on, head_gets, driver_sends, driver_gets, route, put_at, up_through, down_through, sent_down_with, sends_nothing, sends, up, down, deliver}
 use Rattle.strm_chain.specs.Service.{Leads, serve_at, move_drv, move}
 
--- what each step keeps: a head, a driver or a module gets a message, a module serves, or a message is taken from the driver's list
+-- what each step keeps: a head, a driver or a module gets a message, a module serves, or a message is taken
+-- from the driver's list
 pub record StepsKeep {K : Type 0} (means : Meaning K) (Keeps : Image K → Image K → Type 0) : Type 0 where
   pub same : (image : Image K) → Keeps image image
   pub trans : (old mid new : Image K) → Keeps old mid → Keeps mid new → Keeps old new

@@ -26,10 +26,6 @@ removed e = record e { modules = drop 1 e.modules }
 abbrev pub has_room : {K : Type 0} → EndState K → Bool
 has_room e = e.is_open && nat_lt (length e.modules) MOST_MODULES
 
--- a closed end: without modules, and without messages in its head (close(2)); the driver's list stays
-abbrev pub closed : {K : Type 0} → EndState K → EndState K
-closed e = record e { is_open = false; head = []; modules = [] }
-
 -- a module has a queue on a side, and its service procedure there is the program's
 abbrev pub found_programs : {K : Type 0} → Option (QueuePair K) → Side → Bool
 found_programs None side = false
@@ -71,10 +67,10 @@ id_given_back r = record r { next = r.pending; pending = None }
 abbrev pub awaiting_none : Record → Record
 awaiting_none r = record r { pending = None; kept = None }
 
--- the next id is taken, and an answer to it is asked for later
+-- the next id is taken, and an answer to it is asked for later, of which none has come
 abbrev pub asking : Record → Option ℕ → Record
 asking r None = r
-asking r (Some id) = record r { next = id_after id; asked = Some id }
+asking r (Some id) = record r { next = id_after id; asked = Some id; answer = None }
 
 abbrev pub asking_next : Record → Record
 asking_next r = asking r r.next
@@ -86,6 +82,11 @@ asked_given_back r = record r { next = r.asked; asked = None }
 -- no answer is asked for or kept for it any longer
 abbrev pub asking_none : Record → Record
 asking_none r = record r { asked = None; answer = None }
+
+-- a closed end: without modules, without messages in its head, and without an answer that is asked for later
+-- (close(2)); the driver's list stays
+abbrev pub closed : {K : Type 0} → EndState K → EndState K
+closed e = record e { is_open = false; head = []; modules = []; state = asking_none e.state }
 
 -- the record of a new stream's head
 abbrev pub fresh_record : Record

@@ -19,8 +19,8 @@ abbrev pub is_id : Option ℕ → ℕ → Bool
 is_id None id = false
 is_id (Some p) id = p == id
 
--- the answer to an ioctl is kept if it is the awaited one, or the one that is asked for later, and none is kept
--- of it (M_IOCACK, M_IOCNAK)
+-- the first answer to the ioctl that is awaited is kept, and the first to the one that is asked for later
+-- (M_IOCACK, M_IOCNAK)
 abbrev pub kept_answer : Record → ℕ → Msg → Record
 kept_answer r id m =
     if is_id r.pending id && is_none r.kept then record r { kept = Some m }

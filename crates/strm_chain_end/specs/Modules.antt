@@ -75,8 +75,8 @@ abbrev pub is_nothing : List Msg → Bool
 is_nothing [] = true
 is_nothing (m ∷ q) = false
 
--- a queue holds ordinary messages alone, or any where the service procedures are the program's; where there is
--- no queue no message waits
+-- a queue holds ordinary messages alone, or any where the service procedures are the program's; where there
+-- is no queue no message waits
 abbrev pub waits_in : Bool → Option WaterMarks → List Msg → Bool
 waits_in noenable None q = is_nothing q
 waits_in noenable (Some marks) q = noenable || are_ordinary q

@@ -125,7 +125,8 @@ impl<M: ModuleOf> StreamEnd<M> {
     }
 
     /// Takes all modules out, topmost first, drops the messages in their queues and in the head's list, and
-    /// closes the end (close(2)). The driver's list stays. Takes no memory, and no list loses room.
+    /// an answer that is asked for later, and closes the end (close(2)). The driver's list stays. Takes no
+    /// memory, and no list loses room.
     pub fn close(&mut self) -> ArrayVec<Option<BoxedModule<M>>, MOST_MODULES>
         ensures instances { result.items ≡ map (λ s. Some s.shape) self.old.state.modules }
         ensures state { self.new.state ≡ closed self.old.state }
@@ -134,6 +135,7 @@ impl<M: ModuleOf> StreamEnd<M> {
     {
         let instances = take_modules(&mut self.pairs);
         empty_list(&mut self.head);
+        drop(self.state.end_ask());
         self.is_open = false;
         instances
     }
@@ -219,8 +221,8 @@ impl<M: ModuleOf> StreamEnd<M> {
         self.pairs[i - 1].take(side)
     }
 
-    /// Puts a message back into a module's queue of a side, before those of its rank (putbq(9F)). It comes back
-    /// only when memory runs out: then nothing is changed.
+    /// Puts a message back into a module's queue of a side, before those of its rank (putbq(9F)). It comes
+    /// back only when memory runs out: then nothing is changed.
     pub fn put_back_queue(&mut self, i: u8, side: Side, m: BoxedMessage) -> Result<(), BoxedMessage>
         requires { is_programs self.old.state i side ≡ true }
         ensures ok { OnOk result (self.new.state ≡ with_queue self.old.state i side (put_back_in (list_at self.old.state i side) m)) }

@@ -237,8 +237,8 @@ impl<M: ModuleOf> Pair<M> {
         Ok(())
     }
 
-    /// Puts a message that is no flush into the queue of a side. Fails only when memory runs out: then nothing
-    /// is changed.
+    /// Puts a message that is no flush into the queue of a side. Fails only when memory runs out: then
+    /// nothing is changed.
     fn queue_other(&mut self, side: Side, m: BoxedMessage) -> Result<(), NoMem>
         requires { queues_on self.old.shape side ≡ true }
         ensures ok { OnOk result (self.new ≡ with_put self.old side m) }

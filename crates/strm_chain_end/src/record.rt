@@ -122,6 +122,7 @@ impl Record {
         let id = self.next?;
         self.next = if id == u64::MAX { None } else { Some(id + 1) };
         self.asked = Some(id);
+        self.answer = None;
         Some(id)
     }
 

@@ -1,5 +1,5 @@
--- What keeps messages from going round: the modules that answer stand as they did, a module is pushed that closes no circle, or modules
--- are taken out.
+-- What keeps messages from going round: the modules that answer stand as they did, a module is pushed that
+-- closes no circle, or modules are taken out.
 use Rattle.std.proofs.Common.{◌≡◌, ◌∙◌, ◌&&◌, ◌||◌, Bool, true, false, List, [], ◌∷◌, drop, map, refl, sym, ap, subst}
 use Rattle.std.specs.List.{list_any}
 use Rattle.std.proofs.lemmas.Bool.{or_parts, or_from}

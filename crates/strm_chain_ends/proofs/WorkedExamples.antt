@@ -76,7 +76,8 @@ driver_of_a_loop = refl
 write_side_of_a_line : next_of (stream Line (empty (queued ∷ [])) (empty [])) (Place.Wr A 1) ≡ None
 write_side_of_a_line = refl
 
--- what is written to a wire waits in its list at end A until it is taken; that list is no place, and moves by no service
+-- what is written to a wire waits in its list at end A until it is taken; that list is no place, and moves by
+-- no service
 write_side_of_a_wire : next_of (stream Wire (empty (queued ∷ [])) (empty [])) (Place.Wr A 1) ≡ Some (Of (Place.Drv A))
 write_side_of_a_wire = refl
 
@@ -111,7 +112,8 @@ behind_a_full_head = refl
 behind_a_slack_head : is_due builtin (stream Echo (end_with four [] bytes) (empty [])) (Place.Drv A) ≡ true
 behind_a_slack_head = refl
 
--- an echo with eight modules with queues on both sides has 17 places; those of an end that the driver lacks are none
+-- an echo with eight modules with queues on both sides has 17 places; those of an end that the driver lacks
+-- are none
 eight_modules : place_count (stream Echo (empty (queued ∷ queued ∷ queued ∷ queued ∷ queued ∷ queued ∷ queued ∷ queued ∷ [])) (empty [])) ≡ 17
 eight_modules = refl
 

@@ -404,7 +404,7 @@ module _ {K : Type 0} (means : Meaning K) where
       idle_same image _ (service_keeps means image e (served_at image e name.items) side call) idle
   effect_idle image e Poll idle = idle
   effect_idle image e Close idle =
-      idle_same (closed_image image e) _ (after_keeps image.broken (closed_image image e) e) (idle_with image e (closed (end_of image e)) (idle e) idle)
+      idle_same (closed_image image e) _ (after_keeps image.broken (closed_image image e) e) (idle_with image e (closed (end_of image e)) (record { pending = (idle e).pending; kept = (idle e).kept }) idle)
 
   -- ---- calls keep messages from going round
 

@@ -1,4 +1,5 @@
--- Calls that have nothing to do, and peeks that show nothing: they take no memory, and leave a stream as it was.
+-- Calls that have nothing to do, and peeks that show nothing: they take no memory, and leave a stream as it
+-- was.
 use Rattle.std.proofs.Common.{◌≡◌, ℕ, suc, zero, ◌&&◌, ◌||◌, Bool, true, false, Option, Some, None, is_some, is_none, IsNone, List, [], ◌∷◌, slice_get, Result, Ok, Err, IfOk, IsOk, refl, sym, ◌∙◌, ap, subst}
 use Rattle.std.proofs.lemmas.Bool.{or_parts}
 use Rattle.strm_msg.specs.Message.{Msg, Part}

@@ -21,7 +21,8 @@ use Rattle.strm_head_ioctl.specs.Later.{strput_refusals, strget_refusals}
 use Rattle.strm_head_ioctl.specs.Flush.{flush_refusals}
 use Rattle.strm_head.specs.Effects.{error_refusals, refusals, are_in_order}
 
--- so it is of a call with these refusals of its own, whichever errors it looks at, where these have come up or none
+-- so it is of a call with these refusals of its own, whichever errors it looks at, where these have come up
+-- or none
 abbrev Ordered : {K : Type 0} → Image K → End → Bool × Bool → List (Bool × Refusal) → Option Errno → Option Errno → Type 0
 Ordered image e looks own rd wr =
     are_in_order ((not (end_of image e).is_open, Closed) ∷ (image.broken, Broken) ∷ error_refusals looks rd wr ++ own) ≡ true

@@ -60,8 +60,8 @@ unbroken = record with_error { broken = start.broken }
 error_before_an_argument : refusal_of plain unbroken A (Putmsg Hipri (parts None (Some []))) ≡ Some (WriteError EPROTO)
 error_before_an_argument = refl
 
--- calls that receive look at the error of the read side alone, those that send at that of the write side, and others at both, that
--- of the read side first
+-- calls that receive look at the error of the read side alone, those that send at that of the write side, and
+-- others at both, that of the read side first
 receiving_looks_at_the_read_side : refusal_of plain unbroken A Nread ≡ Some (ReadError EIO)
 receiving_looks_at_the_read_side = refl
 

@@ -10,6 +10,7 @@ ghost use Rattle.strm_head_ioctl.specs.Names.{names_of};
 ghost use Rattle.strm_head_ioctl.specs.Outside.{first_output};
 ghost use Rattle.strm_head_service.specs.First.{first_served};
 ghost use Rattle.strm_head_calls.specs.declared.request.Request.TheVariants as Requests;
+ghost use Rattle.strm_head_calls.specs.declared.service.ServiceCall.TheVariants as ServiceCalls;
 ghost use Rattle.strm_head.specs.Effects.{refusal_of, back_of, BreaksNone, begun_of, HasItsMemory};
 ghost use Rattle.strm_module.specs.Calm.{IsCalm};
 ghost use Rattle.strm_module.specs.Kinds.{AnswersStay};
@@ -31,7 +32,7 @@ use strm_head_calls::{
     Answer, Name, Parts, Priority, PutFlag, Refusal, ReplyAndCopy, ReplyForm, Request,
 };
 use strm_head_ioctl::{first_output, names_of};
-use strm_head_service::first_served;
+use strm_head_service::{first_served, putbq_refusal, putnext_refusal};
 use strm_module::{BoxedModule, ModuleOf, Shape};
 use strm_msg::{End, Marks, Message, Side};
 
@@ -129,13 +130,24 @@ impl<M: ModuleOf> Stream<M> {
         first_output(&self.chain, end)
     }
 
-    /// The first message of a queue that the program serves, of the module of this name that is the program's,
-    /// or of the output of a wire by the driver's name. A getq of any message takes it. None where no message
-    /// waits, and where the name means neither.
+    /// The first message of a queue that the program serves, of the module of this name that is the
+    /// program's, or of the output of a wire by the driver's name. A getq of any message takes it. None where
+    /// no message waits, and where the name means neither.
     pub fn first_served(&self, end: End, name: &Name, side: Side) -> Option<&Message>
         ensures { option_copied result ≡ first_served self.now end name.now.items side }
     {
         first_served(&self.chain, end, name, side)
+    }
+
+    /// The answer that has come to the ioctl whose answer is asked for later. A strget gives it. None where
+    /// none has come.
+    pub fn answer(&self, end: End) -> Option<&Message>
+        ensures { option_copied result ≡ (end_of self.now end).state.answer }
+    {
+        match &self.chain.state(end).answer {
+            Some(answer) => Some(answer),
+            None => None,
+        }
     }
 
     /// The refusal that the call would have if it were made now: the first that holds, but for out of memory.
@@ -164,6 +176,21 @@ impl<M: ModuleOf> Stream<M> {
         ensures { result ≡ refusal_of M.Kind.means self.now end (Requests.Putpmsg band flag parts.now) }
     {
         refusal_of_putpmsg(&self.chain, end, parts, band, flag)
+    }
+
+    /// The refusal that a putnext of this message would have, as `refusal`. It looks at its kind and its band
+    /// alone.
+    pub fn putnext_refusal(&self, end: End, name: &Name, side: Side, m: &Message) -> Option<Refusal>
+        ensures { result ≡ refusal_of M.Kind.means self.now end (Requests.Service name.now side (ServiceCalls.Putnext m.now)) }
+    {
+        putnext_refusal(&self.chain, end, name, side, m)
+    }
+
+    /// The refusal that a putbq of this message would have, as `refusal`. It looks at its kind alone.
+    pub fn putbq_refusal(&self, end: End, name: &Name, side: Side, m: &Message) -> Option<Refusal>
+        ensures { result ≡ refusal_of M.Kind.means self.now end (Requests.Service name.now side (ServiceCalls.Putbq m.now)) }
+    {
+        putbq_refusal(&self.chain, end, name, side, m)
     }
 
     /// The refusal that a push of a module of this shape would have, as `refusal`.
@@ -214,8 +241,8 @@ impl<M: ModuleOf> Stream<M> {
     }
 
     /// Makes one call on an end, as `apply` makes it, and returns an equal answer too, as for a record of the
-    /// call. It shares the bytes of the other, and is made before the call changes anything; for an ioctl, when
-    /// its answer has come.
+    /// call. It shares the bytes of the other, and is made before the call changes anything; for an ioctl,
+    /// when its answer has come.
     pub fn apply_with_twin(
         &mut self,
         end: End,
@@ -236,8 +263,8 @@ impl<M: ModuleOf> Stream<M> {
     }
 
     /// Makes one call on an end, as `apply` makes it. Its modules come back in `back`: each as `Some`,
-    /// topmost first. With `ReplyAndCopy` there is an equal answer too, as for a record of the call. Its memory was
-    /// found before the call changed anything; for an ioctl, when its answer had come.
+    /// topmost first. With `ReplyAndCopy` there is an equal answer too, as for a record of the call. Its
+    /// memory was found before the call changed anything; for an ioctl, when its answer had come.
     pub fn call<A: ReplyForm>(
         &mut self,
         end: End,

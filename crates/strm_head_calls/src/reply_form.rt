@@ -10,8 +10,8 @@ use std::alloc::Global;
 use strm_msg::NoMem;
 
 /// The form in which a call returns its reply. It is the reply alone, as `Reply`, for a user who needs the
-/// answer once. Or it is the reply and an equal one, as `ReplyAndCopy`, for a caller and a record of the call. A
-/// call that takes bytes away has made it before it changes anything.
+/// answer once. Or it is the reply and an equal one, as `ReplyAndCopy`, for a caller and a record of the
+/// call. A call that takes bytes away has made it before it changes anything.
 pub trait ReplyForm: Drop {
     ghost use Rattle.std.specs.Prelude.{Bool};
     ghost use Rattle.strm_head_calls.specs.declared.answer.Reply.{Reply};

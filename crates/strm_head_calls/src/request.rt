@@ -212,8 +212,8 @@ pub enum Request<P> {
     },
     /// Sends an ioctl down, and returns its id. Its answer is asked for later by a strget.
     ///
-    /// Refused with EINVAL (over `MAX_DATA` bytes of data), ENXIO (hung up) and EAGAIN (an answer is asked for
-    /// already, or the greatest id was given out), in this order.
+    /// Refused with EINVAL (over `MAX_DATA` bytes of data), ENXIO (hung up) and EAGAIN (an answer is asked
+    /// for already, or the greatest id was given out), in this order.
     Strput {
         /// The command, as the modules and the driver know it.
         cmd: u32,
@@ -222,8 +222,8 @@ pub enum Request<P> {
     },
     /// Asks for the answer to the ioctl of a strput. It is then asked for no longer.
     ///
-    /// Refused with EINVAL (no answer is asked for) and EAGAIN (none has come, and the ioctl is not dropped), in
-    /// this order.
+    /// Refused with EINVAL (no answer is asked for) and EAGAIN (none has come, and the ioctl is not dropped),
+    /// in this order.
     Strget {
         /// Whether the ioctl is dropped where no answer has come.
         drops: bool,
@@ -255,19 +255,22 @@ pub enum Request<P> {
     Close,
     /// Takes the first message that was sent down to a wire, as the device outside of it does. Of a closed
     /// wire it still takes the messages that were sent down before, and then it returns a hangup, as often as
-    /// it is made.
+    /// it is made, unless a message is put back.
     ///
     /// Refused with EBADF (the driver is no wire, and the end is closed), ENOSR (the stream is broken),
     /// EINVAL (the driver is no wire), EAGAIN (no message is there, and the end is open) and ENOSR (memory
     /// runs out for a copy), in this order; and by no error that came up.
     Take,
     /// Does a part of a service procedure that is the program's (srv(9E)), of the topmost module of a name
-    /// that was pushed under noenable(9F). It looks at no error and no hangup: the module works on.
+    /// that was pushed under noenable(9F). At the end of a wire the name `wire` means the output, if no such
+    /// module has it: a getq of any message is then a take. It looks at no error and no hangup.
     ///
-    /// Refused with EBADF (the end is closed), ENOSR (the stream is broken), EINVAL (no module of that name
-    /// is the program's, or it has no queue on the side and the call needs one) and EAGAIN, in this order.
-    /// EAGAIN is a getq where no message waits or the first is not the one that is wanted, and a putnext of
-    /// an ordinary message where the next queue is full in its band.
+    /// Refused with EBADF (the end is closed, and the call is not made on an output), ENOSR (the stream is
+    /// broken), EINVAL (the name means neither; the module has no queue on the side and the call needs one;
+    /// or an output has no such call), EAGAIN, and ENOSR (memory runs out), in this order. EAGAIN is a getq
+    /// where no message waits or the first is not the one that is wanted, but not of a closed wire that holds
+    /// none, which returns a hangup; and a putnext of an ordinary message where the next queue is full in its
+    /// band.
     Service {
         /// The name of the module.
         name: Name,

@@ -7,7 +7,8 @@ use crate::same::is_same_message;
 use std::alloc::Global;
 use strm_msg::{BoxedMessage, NoMem};
 
-/// A call of a service procedure that is the program's (srv(9E), noenable(9F)), on a queue of its module.
+/// A call of a service procedure that is the program's (srv(9E), noenable(9F)), on a queue of its module or
+/// on the output of a wire.
 #[derive(Debug, Drop)]
 pub enum ServiceCall {
     /// Takes the first message of the queue (getq(9F)).
@@ -35,7 +36,7 @@ pub enum ServiceCall {
     Qsize,
 }
 
-/// The reply of a service call that takes no message. A getq has the message as its reply.
+/// The reply of a service call that takes no message. A getq has the message as its reply, or a hangup.
 #[derive(Clone, Copy, Debug, PartialEq, Eq)]
 pub enum Serviced {
     /// The message was put back.

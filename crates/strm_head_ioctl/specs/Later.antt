@@ -15,12 +15,12 @@ use Rattle.strm_head_calls.specs.declared.answer.Reply.TheVariants.{Str, Strput}
 use Rattle.strm_head_calls.specs.Reply.{acknowledged}
 use Rattle.strm_head_calls.specs.Effect.{Effect, effect}
 
--- the refusals of a strput: data that are too long, an end that is hung up, and an answer that is asked for
--- already or no id that is left
+-- the refusals of a strput: data that are too long, an end that is hung up, and an answer that is asked for or
+-- kept already, or no id that is left
 abbrev pub strput_refusals : {K : Type 0} → Image K → End → Part → List (Bool × Refusal)
 strput_refusals image e dat =
     let state = (end_of image e).state in
-    (nat_lt MAX_DATA (part_len dat), Invalid) ∷ (state.hung, HungUp) ∷ (is_some state.asked || is_none state.next, WouldWait) ∷ []
+    (nat_lt MAX_DATA (part_len dat), Invalid) ∷ (state.hung, HungUp) ∷ (is_some state.asked || is_some state.answer || is_none state.next, WouldWait) ∷ []
 
 -- the refusals of a strget: no answer is asked for, or none has come and the ioctl is not dropped
 abbrev pub strget_refusals : {K : Type 0} → Image K → End → Bool → List (Bool × Refusal)

@@ -78,8 +78,8 @@ pub fn acknowledged(kept: Option<Message>) -> Acknowledged
     }
 }
 
-/// The outcome of an ioctl, by a copy of the answer that its head has kept. Fails only where the copy does, and
-/// not without an answer.
+/// The outcome of an ioctl, by a copy of the answer that its head has kept. Fails only where the copy does,
+/// and not without an answer.
 pub fn acknowledged_copy(kept: &Option<BoxedMessage>) -> Result<Acknowledged, NoMem>
     ensures answer { IfOk result (λ answer. answer ≡ acknowledged kept.now) }
     ensures none { is_none kept.now ≡ true → IsOk result }

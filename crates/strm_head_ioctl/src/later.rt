@@ -15,7 +15,7 @@ use strm_module::ModuleOf;
 use strm_msg::{BoxedMessage, Bytes, End, Message, MsgKind, NoMem};
 
 /// The first of a strput's own refusals that holds: EINVAL for data over its greatest size, ENXIO for an end
-/// that is hung up, and EAGAIN where an answer is asked for already or the greatest id was given out.
+/// that is hung up, and EAGAIN where an answer is asked for or kept already, or the greatest id was given out.
 pub fn strput_refusal<M: ModuleOf>(
     chain: &Chain<M>,
     end: End,
@@ -27,13 +27,15 @@ pub fn strput_refusal<M: ModuleOf>(
     match dat {
         Some(dat) if dat.len() > MAX_DATA => Some(Refusal::Invalid),
         _ if state.hung => Some(Refusal::HungUp),
-        _ if state.asked.is_some() || state.next.is_none() => Some(Refusal::WouldWait),
+        _ if state.asked.is_some() || state.answer.is_some() || state.next.is_none() => {
+            Some(Refusal::WouldWait)
+        }
         _ => None,
     }
 }
 
-/// The first of a strget's own refusals that holds: EINVAL where no answer is asked for, and EAGAIN where none
-/// has come and the ioctl is not dropped.
+/// The first of a strget's own refusals that holds: EINVAL where no answer is asked for, and EAGAIN where
+/// none has come and the ioctl is not dropped.
 pub fn strget_refusal<M: ModuleOf>(chain: &Chain<M>, end: End, drops: bool) -> Option<Refusal>
     ensures { result ≡ first_that_holds (strget_refusals chain.now.image end drops) }
 {

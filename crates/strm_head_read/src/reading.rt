@@ -258,8 +258,8 @@ fn gather(
     }
 }
 
-/// The bytes that a read of at most `max` bytes gives, and the outcome of the messages. Those of a message that
-/// it reads alone are shared, and others are copied.
+/// The bytes that a read of at most `max` bytes gives, and the outcome of the messages. Those of a message
+/// that it reads alone are shared, and others are copied.
 fn found_in(
     alloc: Global,
     queue: &BandQueue,

@@ -8,9 +8,11 @@
 #![tactic(auto)]
 
 mod looking;
+mod sending;
 mod served;
 mod serving;
 
 pub use looking::first_served;
+pub use sending::{putbq_refusal, putnext_refusal};
 pub use served::Served;
 pub use serving::{ask, finds_nothing, getq_is_take, serve, service_refusal};

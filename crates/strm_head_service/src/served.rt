@@ -50,7 +50,8 @@ fn names_output<M: ModuleOf>(chain: &Chain<M>, end: End, name: &Name) -> bool
     has_output(chain, end) && chain.driver().name() == name.as_slice()
 }
 
-/// What a name means on an end: the topmost module of the program's that has it, or else the output of a wire.
+/// What a name means on an end: the topmost module of the program's that has it, or else the output of a
+/// wire.
 pub(crate) fn served_at<M: ModuleOf>(chain: &Chain<M>, end: End, name: &Name) -> Option<Served>
     ensures served { result ≡ served_at chain.now.image end name.now.items }
     ensures there { IfSome result (λ it. IsThere chain.now.image end it) }

@@ -26,8 +26,8 @@ use strm_head_msg::matches_getmsg;
 use strm_module::ModuleOf;
 use strm_msg::{BoxedMessage, End, Message, MsgKind, NoMem, Side};
 
-/// States a law, and does nothing: at the end of a wire, where no module of the program has the driver's name,
-/// a getq of any message by that name is refused as a take is, and has its effect.
+/// States a law, and does nothing: at the end of a wire, where no module of the program has the driver's
+/// name, a getq of any message by that name is refused as a take is, and has its effect.
 pub fn getq_is_take<M: ModuleOf>()
     ensures { GetqIsTake M.Kind.means }
 {}
@@ -43,7 +43,13 @@ fn takes_first(flag: Wanted, first: Option<&Message>) -> bool
 }
 
 /// Whether the queue that is next past a module on a side has no room for a message.
-fn has_no_room<M: ModuleOf>(chain: &Chain<M>, end: End, i: u8, side: Side, m: &Message) -> bool
+pub(crate) fn has_no_room<M: ModuleOf>(
+    chain: &Chain<M>,
+    end: End,
+    i: u8,
+    side: Side,
+    m: &Message,
+) -> bool
     ensures { result ≡ has_no_room chain.now.image end i side m.now }
 {
     !m.is_high() && chain.full_past(end, i, side, m.band)
@@ -96,7 +102,7 @@ fn must_wait<M: ModuleOf>(
 }
 
 /// Whether a wire keeps messages of a kind for its output.
-fn goes_out(kind: MsgKind) -> bool
+pub(crate) fn goes_out(kind: MsgKind) -> bool
     ensures { result ≡ goes_out kind }
 {
     matches!(kind, MsgKind::MData | MsgKind::MProto | MsgKind::MPcproto)

@@ -1,4 +1,5 @@
--- What a module makes of a calm message is calm, and sets no more options: for kinds of any calm meaning, and for those built in.
+-- What a module makes of a calm message is calm, and sets no more options: for kinds of any calm meaning, and
+-- for those built in.
 use Rattle.std.proofs.Common.{◌≡◌, ◌≤◌, ◌==◌, ◌&&◌, ℕ, Bool, true, false, cond, nat_lt, None, List, [], ◌∷◌, ◌++◌, length, take, drop, option_map, unwrap_or, refl, ap, arith}
 use Rattle.std.proofs.lemmas.List.Sums.{sum_by-cons}
 use Rattle.std.proofs.lemmas.Bool.{and_from}

@@ -76,7 +76,8 @@ impl BoxedMessage {
         }
     }
 
-    /// An equal message in a box of its own, which shares the bytes (dupmsg(9F)). Fails only when memory runs out.
+    /// An equal message in a box of its own, which shares the bytes (dupmsg(9F)). Fails only when memory runs
+    /// out.
     pub fn copy(&self, alloc: Global) -> Result<Self, NoMem>
         ensures { IfOk result (λ copy. copy ≡ self.now) }
     {

@@ -60,8 +60,13 @@ fn marks_in(bytes: &[u8]) -> Option<Option<(u32, u32)>>
     }
 }
 
-/// The options that bytes ask for, if they are a request.
-fn options_in(bytes: &[u8]) -> Option<MsgKind>
+/// The `MSetopts` that bytes ask for, if they are such a request. Takes no memory.
+///
+/// The format is this project's own. Byte 0 is the read mode: 0 keeps it, and 1, 2 and 3 are `Rnorm`, `Rmsgn`
+/// and `Rmsgd`. Byte 1 is the treatment of control parts: 0 keeps it, and 1, 2 and 3 are `Norm`, `Dat` and
+/// `Dis`. Byte 2 is 0 where no marks follow, and then it is the last byte. Where it is 1, the high water mark
+/// follows and then the low one, each in four bytes, greatest first. The low mark is below the high one.
+pub fn options_in(bytes: &[u8]) -> Option<MsgKind>
     ensures { result ≡ options_in bytes.now }
 {
     if bytes.len() < 3 {
@@ -73,12 +78,7 @@ fn options_in(bytes: &[u8]) -> Option<MsgKind>
     Some(MsgKind::MSetopts { mode, prot, marks })
 }
 
-/// The `MSetopts` that the data of an ioctl ask for, if they are such a request. Takes no memory.
-///
-/// The format is this project's own. Byte 0 is the read mode: 0 keeps it, and 1, 2 and 3 are `Rnorm`, `Rmsgn`
-/// and `Rmsgd`. Byte 1 is the treatment of control parts: 0 keeps it, and 1, 2 and 3 are `Norm`, `Dat` and
-/// `Dis`. Byte 2 is 0 where no marks follow, and then it is the last byte. Where it is 1, the high water mark
-/// follows and then the low one, each in four bytes, greatest first. The low mark is below the high one.
+/// The `MSetopts` that the data of an ioctl ask for, if they are such a request, as `options_in`.
 pub fn options_asked(dat: &Option<Bytes>) -> Option<MsgKind>
     ensures { result ≡ options_asked dat.now }
 {

@@ -30,6 +30,7 @@ abbrev pub IsNextInScript : {K : Type 0} → RunValue K → SeatValue → Call (
 IsNextInScript run seat call =
     slice_get (calls_on seat.number (script_of run.scripts seat.caller)) seat.calls ≡ Some (call.end, Asked call.request)
 
--- a seat counts one call more, and nothing else but whether it is shown may change (no public clause cites it)
+-- a seat counts one call more, and nothing else but whether it is shown may change (no public clause cites
+-- it)
 abbrev pub CountsOne : SeatValue → SeatValue → Type 0
 CountsOne old new = new ≡ record old { calls = old.calls + 1; shown = new.shown }

@@ -1,8 +1,8 @@
 //! Scripts: parse or load one, play it, and print or draw its transcript.
 //!
-//! A script declares streams, feeds and processes. [`parse`] makes a [`Plan`] of its bytes, [`play`] plays it with threads, [`print`]
-//! writes the transcript and [`chart`] draws it. A program with kinds of modules of its own gives their words with [`ReadKind`],
-//! [`PlayModule`] and [`PrintKind`].
+//! A script declares streams, feeds and processes. [`parse`] makes a [`Plan`] of its bytes, [`play`] plays it
+//! with threads, [`print`] writes the transcript and [`chart`] draws it. A program with kinds of modules of
+//! its own gives their words with [`ReadKind`], [`PlayModule`] and [`PrintKind`].
 #![tactic(auto)]
 
 pub use strm_script_chart::chart;

@@ -1,5 +1,6 @@
--- Each limit, computed at the number itself: the greatest that is taken, and the next, which is not. Those of calls and of a stream's
--- modules are computed in `strm_head`, and those of the command line in `strsh_options`.
+-- Each limit, computed at the number itself: the greatest that is taken, and the next, which is not. Those of
+-- calls and of a stream's modules are computed in `strm_head`, and those of the command line in
+-- `strsh_options`.
 use Rattle.std.proofs.Common.{◌≡◌, ℕ, true, false, Some, None, List, [], ◌∷◌, length, replicate, codes, Result, Ok, Err, is_ok, refl}
 use Rattle.strm_msg.specs.Message.{data_msg, ioctl_msg, pcproto_msg}
 use Rattle.strm_msg.specs.declared.words.Side.TheVariants.{Rd}

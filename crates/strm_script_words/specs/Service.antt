@@ -1,5 +1,5 @@
--- The calls of service procedures that are the program's, by their words and fields, and the messages that they
--- send.
+-- The calls of service procedures that are the program's, by their words and fields, and the messages that
+-- they send.
 use Rattle.std.specs.Prelude.{ℕ, ◌+◌, Bool, true, false, List, [], ◌∷◌, Option, Some, None, Result, Ok, Err, codes}
 use Rattle.strm_msg.specs.Message.{Msg, bare, ioctl_msg, ack_msg}
 use Rattle.strm_msg.specs.declared.kind.MsgKind.TheVariants.{MFlush, MIocnak}

@@ -121,9 +121,9 @@ impl Verb {
         )
     }
 
-    /// The number of fields of the call behind NAME:END. For a push it depends on the first of them, or on the
-    /// second behind `noenable`, and for a call that sends a message on that message's word. Refused if these
-    /// are missing, or name no kind of module and no message.
+    /// The number of fields of the call behind NAME:END. For a push it depends on the first of them, or on
+    /// the second behind `noenable`, and for a call that sends a message on that message's word. Refused if
+    /// these are missing, or name no kind of module and no message.
     pub fn arity<K: ReadKind>(self, texts: &[&[u8]]) -> Result<usize, Cause>
         ensures { Tells (λ n. n) result (table.arity_at K.words self (texts_of texts.now)) }
     {

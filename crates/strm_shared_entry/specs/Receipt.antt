@@ -47,8 +47,8 @@ abbrev pub filled : {K : Type 0} → EntryRoomValue K → Answer → List Place 
 filled room answer moves looks out =
     record { who = Caller room.caller; end = room.end; event = room.event; answer = answer; moves = moves; looks = looks; out = record { items = out } }
 
--- the entry in a room is of a call of this caller, and there is room for modules if the call may take some out
--- (no public clause cites it)
+-- the entry in a room is of a call of this caller, and there is room for modules if the call may take some
+-- out (no public clause cites it)
 abbrev pub IsCallEntry : {K : Type 0} → ℕ → Entry K → Bool → Type 0
 IsCallEntry caller entry has_room =
     (entry.who ≡ Caller caller) × (has_come_in entry.event ≡ false) × (has_room ≡ may_take_out entry.event)

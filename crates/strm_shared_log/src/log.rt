@@ -110,8 +110,8 @@ impl<M: ModuleOf> Log<M> {
     }
 
     /// Makes one call, as `call` makes it, with room that was found for its entry before, as where a lock is
-    /// held for the call. With `ReplyAndCopy` the caller has an equal answer; with `Reply` it has none, and the
-    /// answer is in the history alone.
+    /// held for the call. With `ReplyAndCopy` the caller has an equal answer; with `Reply` it has none, and
+    /// the answer is in the history alone.
     ///
     /// To be called with a cell, where the history has room for one entry more (`reserve`). The call is made,
     /// whatever its answer.

@@ -1,5 +1,5 @@
--- What a `&` to a note gives. A note has one machine value, and what it owns can be had twice; so a `&` to it can be opened, and a copy of
--- what it owns taken out.
+-- What a `&` to a note gives. A note has one machine value, and what it owns can be had twice; so a `&` to it
+-- can be opened, and a copy of what it owns taken out.
 use Rattle.std.proofs.Common.{◌≡◌, List, [], ◌∷◌, ◌++◌, ap, ◌∙◌}
 use seplogic.Ra.Ura.{Ura}
 use mir.Val.{Val, vstruct, of_list}

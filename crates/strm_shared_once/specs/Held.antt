@@ -1,4 +1,5 @@
--- Values that are held, their places, and their holders. Public clauses cite `HeldValue` and `IsSharedBy` alone.
+-- Values that are held, their places, and their holders. Public clauses cite `HeldValue` and `IsSharedBy`
+-- alone.
 use Rattle.std.specs.Prelude.{◌≡◌, ℕ, List, Option, Some, None, slice_get, ⊤, MatchOption}
 use Rattle.std.specs.Option.{option_map}
 use Rattle.std.specs.Arc.{arc_value}

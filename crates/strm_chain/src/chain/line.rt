@@ -98,6 +98,9 @@ impl<M: ModuleOf> Chain<M> {
         ensures ok { OnOk result (self.new.image ≡ with_drv self.old.image A (put_back_in self.old.image.a.drv m)) }
         ensures err { OnErr result (self.new.image ≡ self.old.image) }
         ensures back { IfErr result (λ same. same ≡ m) }
+        ensures room_a { self.new.rooms.a ≡ self.old.rooms.a }
+        ensures room_b { self.new.rooms.b ≡ self.old.rooms.b }
+        ensures line_room { self.new.rooms.line ≡ self.old.rooms.line }
     {
         let queue = NextQueue::Of {
             place: Place::Drv { end: End::A },

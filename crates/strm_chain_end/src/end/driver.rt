@@ -208,6 +208,8 @@ impl<M: ModuleOf> StreamEnd<M> {
         ensures ok { OnOk result (self.new.state ≡ in_drv self.old.state (put_back_in self.old.state.drv m)) }
         ensures err { OnErr result (self.new.state ≡ self.old.state) }
         ensures back { IfErr result (λ same. same ≡ m) }
+        ensures spent { OnOk result (SpendsOne self.old.drv_room self.new.drv_room) }
+        ensures unspent { OnErr result (KeepsRoom self.old.drv_room self.new.drv_room) }
         ensures head_room { self.new.head_room ≡ self.old.head_room }
     {
         self.drv.put_back(m)

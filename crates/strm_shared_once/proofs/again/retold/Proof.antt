@@ -1,4 +1,5 @@
--- A `&` to a note is opened, what the note owns is taken twice, and the other note, which has no bits of its own, leaves with the second.
+-- A `&` to a note is opened, what the note owns is taken twice, and the other note, which has no bits of its
+-- own, leaves with the second.
 use Rattle.std.proofs.Common.{◌≡◌, ℕ, List, [], ◌∷◌, ◌++◌, refl, sym, subst}
 use mir.Syntax.{a_type}
 use mir.Val.{Val, vptr}

@@ -13,3 +13,9 @@ invariant_of-self g c =
       waits = k.waits;
       calm = calm-put_back c.put_back.result c.self.inside.drv.messages c.put_back.new.self.messages c.args.m c.put_back.ensures.ok c.put_back.ensures.err c.requires k.calm;
     }
+
+pub returns-clause-spent : goal.returns-clause-spent
+returns-clause-spent g c = rw (← c.self.view_is) c.put_back.ensures.spent
+
+pub returns-clause-unspent : goal.returns-clause-unspent
+returns-clause-unspent g c = rw (← c.self.view_is) c.put_back.ensures.unspent

@@ -45,9 +45,9 @@ int main(void)
 {
     int opened;
     struct strm s = STRM_CLOSED;
-    struct strm_module term = { "term", STRM_CRNL, 64, 16, 64, 16, 0, NULL, 0 };
-    struct strm_module tally = { "tally", STRM_COUNT, 0, 0, 0, 0, 0, NULL, 0 };
-    struct strm_module wrong = { "no name", STRM_PASS, 0, 0, 0, 0, 0, NULL, 0 };
+    struct strm_module term = { "term", STRM_CRNL, 64, 16, 64, 16, 0, NULL, 0, 0 };
+    struct strm_module tally = { "tally", STRM_COUNT, 0, 0, 0, 0, 0, NULL, 0, 0 };
+    struct strm_module wrong = { "no name", STRM_PASS, 0, 0, 0, 0, 0, NULL, 0, 0 };
     struct strioctl ask = { 1, 0, -1, NULL };
     static char bytes[4097];
     char name[FMNAMESZ + 1];

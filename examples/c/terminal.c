@@ -11,7 +11,7 @@ static struct strm tty = STRM_CLOSED;
 
 static void push(const char *name, enum strm_kind kind)
 {
-    struct strm_module module = { name, kind, 0, 0, 0, 0, 0, NULL, 0 };
+    struct strm_module module = { name, kind, 0, 0, 0, 0, 0, NULL, 0, 0 };
     printf("push %s %s\n", name, said(strm_push(&tty, STRM_A, &module)));
 }
 

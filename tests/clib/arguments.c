@@ -1,11 +1,14 @@
 /* Holds each call to what include/strm.h says of its arguments alone (step 1): EBADF for a number that is no
- * end, then EINVAL for a flag, a band, a mode, a kind, a name or marks that are none. They come before the
- * state of the stream, with memory or without. A call that is refused so takes no memory and writes nothing.
- * The test is linked with malloc, realloc and free wrapped.
+ * end, then EINVAL for a flag, a band, a mode, a kind, a side, a name, marks or a message that are none. They
+ * come before the state of the stream, with memory or without. A call that is refused so takes no memory and
+ * writes nothing. The test is linked with malloc, realloc and free wrapped.
  *
  * Each row is a call and the errno that it must return, first at an open end. An arrival has an order of its
- * own. The name of a find is judged after the stream. Takes and nexts are held to all that refuses them, and
- * polls to the events that they return. None of the three takes memory here. */
+ * own. The name of a find is judged after the stream, and so is the module that a service call names. Takes,
+ * nexts, service calls, strputs and strgets are held to all that refuses them, and polls to the events that
+ * they return. None of these takes memory here.
+ *
+ * A getq and a strget without room take nothing. Each kind of message is put back, and got as it was. */
 #include <stdio.h>
 #include <stdlib.h>
 
@@ -128,12 +131,12 @@ static int setread(int mode, int unused)
 
 static int push(int kind, int number)
 {
-    return strm_push_kind(&s, at, "name", 4, (uint32_t)kind, 0, 0, 0, 0, (uint32_t)number, "", 0);
+    return strm_push_kind(&s, at, "name", 4, (uint32_t)kind, 0, 0, 0, 0, (uint32_t)number, "", 0, 0);
 }
 
 static int push_marks(int hi, int lo)
 {
-    struct strm_module module = { "name", STRM_PASS, (uint32_t)hi, (uint32_t)lo, 8, 4, 0, NULL, 0 };
+    struct strm_module module = { "name", STRM_PASS, (uint32_t)hi, (uint32_t)lo, 8, 4, 0, NULL, 0, 0 };
     return strm_push(&s, at, &module);
 }
 
@@ -141,7 +144,14 @@ static int push_table(int len, int unused)
 {
     static const char table[512];
     (void)unused;
-    return strm_push_kind(&s, at, "name", 4, STRM_TABLE, 0, 0, 0, 0, 0, table, (size_t)len);
+    return strm_push_kind(&s, at, "name", 4, STRM_TABLE, 0, 0, 0, 0, 0, table, (size_t)len, 0);
+}
+
+static int push_flags(int flags, int unused)
+{
+    struct strm_module module = { "name", STRM_PASS, 8, 4, 8, 4, 0, NULL, 0, (unsigned)flags };
+    (void)unused;
+    return strm_push(&s, at, &module);
 }
 
 /* Names that are none: of no byte, of nine, and with a byte that is no letter, no digit and no _. */
@@ -150,7 +160,7 @@ enum { WRONG_NAMES = sizeof wrong_names / sizeof *wrong_names };
 
 static int push_name(int i, int unused)
 {
-    struct strm_module module = { wrong_names[i], STRM_PASS, 8, 4, 8, 4, 0, NULL, 0 };
+    struct strm_module module = { wrong_names[i], STRM_PASS, 8, 4, 8, 4, 0, NULL, 0, 0 };
     (void)unused;
     return strm_push(&s, at, &module);
 }
@@ -197,6 +207,212 @@ static int next(int unused, int unused_too)
     (void)unused, (void)unused_too;
     int e = strm_next(&s, at, &kind, &band, &ctl_len, &dat_len);
     hold_unwritten("next", kind == -2 && band == -2 && ctl_len == -2 && dat_len == -2);
+    return e;
+}
+
+/* ---- Messages of service calls. ---- */
+
+#define NO_PART { 0, -1, NULL }
+#define BYTES(text) { 0, sizeof text - 1, text }
+
+static const struct strm_msgb plain = { M_DATA, 0, NO_PART, BYTES("data"), 0, 0, 0, 0, 0 };
+
+struct named_message {
+    const char *what;
+    struct strm_msgb m;
+};
+
+/* Numbers and parts that make no message. */
+static const struct named_message wrong_messages[] = {
+    { "M_DATA without data", { M_DATA, 0, BYTES("ctl"), NO_PART, 0, 0, 0, 0, 0 } },
+    { "M_PROTO without control", { M_PROTO, 0, NO_PART, BYTES("dat"), 0, 0, 0, 0, 0 } },
+    { "M_PCPROTO without control", { M_PCPROTO, 0, NO_PART, BYTES("dat"), 0, 0, 0, 0, 0 } },
+    { "M_DATA of band 256", { M_DATA, 256, NO_PART, BYTES("dat"), 0, 0, 0, 0, 0 } },
+    { "M_DATA of band -1", { M_DATA, -1, NO_PART, BYTES("dat"), 0, 0, 0, 0, 0 } },
+    { "M_PCPROTO of band 256", { M_PCPROTO, 256, BYTES("ctl"), NO_PART, 0, 0, 0, 0, 0 } },
+    { "M_HANGUP of band 256", { M_HANGUP, 256, NO_PART, NO_PART, 0, 0, 0, 0, 0 } },
+    { "M_FLUSH of flags 8", { M_FLUSH, 0, NO_PART, NO_PART, 8, 0, 0, 0, 0 } },
+    { "M_FLUSH of flags -1", { M_FLUSH, 0, NO_PART, NO_PART, -1, 0, 0, 0, 0 } },
+    { "M_FLUSH of band 256", { M_FLUSH, 256, NO_PART, NO_PART, FLUSHRW | FLUSHBAND, 0, 0, 0, 0 } },
+    { "M_SETOPTS without data", { M_SETOPTS, 0, NO_PART, NO_PART, 0, 0, 0, 0, 0 } },
+    { "M_SETOPTS of 2 bytes", { M_SETOPTS, 0, NO_PART, BYTES("\0\0"), 0, 0, 0, 0, 0 } },
+    { "M_SETOPTS of read mode 4", { M_SETOPTS, 0, NO_PART, BYTES("\4\0\0"), 0, 0, 0, 0, 0 } },
+    { "M_SETOPTS of marks 1/1", { M_SETOPTS, 0, NO_PART, BYTES("\0\0\1\0\0\0\1\0\0\0\1"), 0, 0, 0, 0, 0 } },
+    { "M_ERROR of no errno", { M_ERROR, 0, NO_PART, NO_PART, 0, 0, 0, 0, 1 } },
+    { "M_ERROR of no byte", { M_ERROR, 0, NO_PART, BYTES(""), 0, 0, 0, 0, EIO } },
+    { "M_ERROR of 3 bytes", { M_ERROR, 0, NO_PART, BYTES("\5\5\5"), 0, 0, 0, 0, EIO } },
+    { "M_ERROR of byte 1", { M_ERROR, 0, NO_PART, BYTES("\1"), 0, 0, 0, 0, EIO } },
+    { "M_IOCNAK of errno 1", { M_IOCNAK, 0, NO_PART, NO_PART, 0, 0, 1, 0, 1 } },
+    { "M_IOCNAK of errno 0", { M_IOCNAK, 0, NO_PART, NO_PART, 0, 0, 1, 0, 0 } },
+    { "type 2", { 2, 0, BYTES("ctl"), BYTES("dat"), 0, 0, 0, 0, EIO } },
+    { "type 256", { 256, 0, BYTES("ctl"), BYTES("dat"), 0, 0, 0, 0, EIO } },
+    { "type -1", { -1, 0, BYTES("ctl"), BYTES("dat"), 0, 0, 0, 0, EIO } },
+};
+enum { WRONG_MESSAGES = sizeof wrong_messages / sizeof *wrong_messages };
+
+/* Messages that are put back, and what a getq then gives. What is not for a kind is not looked at. */
+static const struct round {
+    const char *what;
+    struct strm_msgb sent, given;
+} rounds[] = {
+    { "M_DATA", { M_DATA, 7, BYTES("ctl"), BYTES("data"), 8, 1, 2, 3, 4 }, { M_DATA, 7, NO_PART, BYTES("data"), 0, 0, 0, 0, 0 } },
+    { "M_DATA of no byte", { M_DATA, 255, NO_PART, BYTES(""), 0, 0, 0, 0, 0 },
+      { M_DATA, 255, NO_PART, BYTES(""), 0, 0, 0, 0, 0 } },
+    { "M_PROTO", { M_PROTO, 3, BYTES("c"), NO_PART, 0, 0, 0, 0, 0 }, { M_PROTO, 3, BYTES("c"), NO_PART, 0, 0, 0, 0, 0 } },
+    { "M_PROTO with data", { M_PROTO, 0, BYTES(""), BYTES("dat"), 0, 0, 0, 0, 0 },
+      { M_PROTO, 0, BYTES(""), BYTES("dat"), 0, 0, 0, 0, 0 } },
+    { "M_PCPROTO", { M_PCPROTO, 9, BYTES("ctl"), BYTES("\0"), 0, 0, 0, 0, 0 },
+      { M_PCPROTO, 0, BYTES("ctl"), BYTES("\0"), 0, 0, 0, 0, 0 } },
+    { "M_IOCTL", { M_IOCTL, 256, BYTES("c"), BYTES("dat"), 8, UINT32_MAX, UINT64_MAX, 3, 4 },
+      { M_IOCTL, 0, NO_PART, BYTES("dat"), 0, UINT32_MAX, UINT64_MAX, 0, 0 } },
+    { "M_IOCTL without data", { M_IOCTL, 0, NO_PART, NO_PART, 0, 16, 1, 0, 0 },
+      { M_IOCTL, 0, NO_PART, NO_PART, 0, 16, 1, 0, 0 } },
+    { "M_IOCACK", { M_IOCACK, -1, NO_PART, BYTES("dat"), 0, 5, 6, UINT64_MAX, 1 },
+      { M_IOCACK, 0, NO_PART, BYTES("dat"), 0, 0, 6, UINT64_MAX, 0 } },
+    { "M_IOCNAK", { M_IOCNAK, 256, NO_PART, BYTES("dat"), 0, 5, 6, 7, EPROTO },
+      { M_IOCNAK, 0, NO_PART, NO_PART, 0, 0, 6, 0, EPROTO } },
+    { "M_SETOPTS of 3 bytes", { M_SETOPTS, 9, NO_PART, BYTES("\2\0\0"), 0, 0, 0, 0, 0 },
+      { M_SETOPTS, 0, NO_PART, BYTES("\2\0\0"), 0, 0, 0, 0, 0 } },
+    { "M_SETOPTS of 11 bytes", { M_SETOPTS, 0, NO_PART, BYTES("\0\3\1\0\0\1\2\0\0\0\xff"), 0, 0, 0, 0, 0 },
+      { M_SETOPTS, 0, NO_PART, BYTES("\0\3\1\0\0\1\2\0\0\0\xff"), 0, 0, 0, 0, 0 } },
+    { "M_FLUSH", { M_FLUSH, 9, BYTES("c"), BYTES("d"), FLUSHRW, 0, 0, 0, 0 },
+      { M_FLUSH, 0, NO_PART, NO_PART, FLUSHRW, 0, 0, 0, 0 } },
+    { "M_FLUSH of neither side", { M_FLUSH, 0, NO_PART, NO_PART, 0, 0, 0, 0, 0 },
+      { M_FLUSH, 0, NO_PART, NO_PART, 0, 0, 0, 0, 0 } },
+    { "M_FLUSH of a band", { M_FLUSH, 9, NO_PART, NO_PART, FLUSHW | FLUSHBAND, 0, 0, 0, 0 },
+      { M_FLUSH, 9, NO_PART, NO_PART, FLUSHW | FLUSHBAND, 0, 0, 0, 0 } },
+    { "M_HANGUP", { M_HANGUP, 9, NO_PART, BYTES("d"), 8, 1, 2, 3, 4 }, { M_HANGUP, 0, NO_PART, NO_PART, 0, 0, 0, 0, 0 } },
+    { "M_ERROR without data", { M_ERROR, 9, BYTES("c"), NO_PART, 8, 1, 2, 3, EIO },
+      { M_ERROR, 0, NO_PART, BYTES("\5\5"), 0, 0, 0, 0, 0 } },
+    { "M_ERROR of a byte", { M_ERROR, 0, NO_PART, BYTES("\5"), 0, 0, 0, 0, 1 },
+      { M_ERROR, 0, NO_PART, BYTES("\5\5"), 0, 0, 0, 0, 0 } },
+    { "M_ERROR of 2 bytes", { M_ERROR, 0, NO_PART, BYTES("\xff\x47"), 0, 0, 0, 0, 0 },
+      { M_ERROR, 0, NO_PART, BYTES("\xff\x47"), 0, 0, 0, 0, 0 } },
+};
+enum { ROUNDS = sizeof rounds / sizeof *rounds };
+
+static int is_same_part(const struct strbuf *a, const struct strbuf *b)
+{
+    return a->len == b->len && (a->len <= 0 || memcmp(a->buf, b->buf, (size_t)a->len) == 0);
+}
+
+static int is_same(const struct strm_msgb *a, const struct strm_msgb *b)
+{
+    return a->db_type == b->db_type && a->b_band == b->b_band && is_same_part(&a->ctl, &b->ctl) && is_same_part(&a->dat, &b->dat) &&
+           a->flags == b->flags && a->ioc_cmd == b->ioc_cmd && a->ioc_id == b->ioc_id && a->ioc_rval == b->ioc_rval &&
+           a->ioc_error == b->ioc_error;
+}
+
+/* ---- Service calls on a side of a module. ---- */
+
+static const char *module_name = "m";
+
+/* A getq with room for n bytes of each part, -1 for no part. If it is refused it must write nothing. */
+static int getq_into(int side, int flag, int ctl_room, int dat_room)
+{
+    char room[32] = "";
+    const struct strm_msgb before = { -2, -2, { ctl_room, -2, room }, { dat_room, -2, room + 16 }, -2, 7, 7, 7, -2 };
+    struct strm_msgb m = before;
+    int e = strm_getq(&s, at, module_name, side, flag, &m);
+    if (e)
+        hold_unwritten("getq", is_same(&m, &before) && room[0] == 0 && room[16] == 0);
+    return e;
+}
+
+static int getq(int flag, int side)
+{
+    return getq_into(side, flag, 16, 16);
+}
+
+static int getq_short(int ctl_room, int dat_room)
+{
+    return getq_into(STRM_RD, 0, ctl_room, dat_room);
+}
+
+static int putbq(int unused, int side)
+{
+    (void)unused;
+    return strm_putbq(&s, at, module_name, side, &plain);
+}
+
+static int putbq_wrong(int i, int side)
+{
+    return strm_putbq(&s, at, module_name, side, &wrong_messages[i].m);
+}
+
+static int putnext(int unused, int side)
+{
+    (void)unused;
+    return strm_putnext(&s, at, module_name, side, &plain);
+}
+
+static int putnext_wrong(int i, int side)
+{
+    return strm_putnext(&s, at, module_name, side, &wrong_messages[i].m);
+}
+
+static int qreply(int unused, int side)
+{
+    (void)unused;
+    return strm_qreply(&s, at, module_name, side, &plain);
+}
+
+static int qreply_wrong(int i, int side)
+{
+    return strm_qreply(&s, at, module_name, side, &wrong_messages[i].m);
+}
+
+static int bcanputnext(int band, int side)
+{
+    int can = -2;
+    int e = strm_bcanputnext(&s, at, module_name, side, (unsigned char)band, &can);
+    if (e)
+        hold_unwritten("bcanputnext", can == -2);
+    return e;
+}
+
+static int qsize(int unused, int side)
+{
+    int messages = -2;
+    (void)unused;
+    int e = strm_qsize(&s, at, module_name, side, &messages);
+    if (e)
+        hold_unwritten("qsize", messages == -2);
+    return e;
+}
+
+/* ---- Ioctls whose answer is asked for later. ---- */
+
+static int strput(int len, int unused)
+{
+    static char dat[4097];
+    struct strioctl call = { 7, 0, len, dat };
+    uint64_t id = 77;
+    (void)unused;
+    int e = strm_strput(&s, at, &call, &id);
+    hold_unwritten("strput", id == 77 && call.ic_len == len);
+    return e;
+}
+
+/* A strget that must not be answered. */
+static int strget(int drops, int room)
+{
+    char bytes[16] = "";
+    struct strbuf dat = { room, -2, bytes };
+    uint64_t rval = 77;
+    int answer = -2;
+    int e = strm_strget(&s, at, drops != 0, &dat, &rval, &answer);
+    hold_unwritten("strget", dat.len == -2 && bytes[0] == 0 && rval == 77 && answer == STRM_REFUSED);
+    return e;
+}
+
+static int strget_bare(int drops, int unused)
+{
+    uint64_t rval = 77;
+    int answer = -2;
+    (void)unused;
+    int e = strm_strget(&s, at, drops != 0, NULL, &rval, &answer);
+    hold_unwritten("strget", rval == 77 && answer == STRM_REFUSED);
     return e;
 }
 
@@ -279,6 +495,19 @@ static const struct row rows[] = {
     { "push, a table of 257", push_table, 257, 0 },
     { "push, marks 4 and 4", push_marks, 4, 4 },
     { "push, marks 4 and 5", push_marks, 4, 5 },
+    { "push, flags 2", push_flags, 2, 0 },
+    { "push, flags -1", push_flags, -1, 0 },
+    { "getq, flags 2", getq, 2, STRM_RD },
+    { "getq, flags -1", getq, -1, STRM_WR },
+    { "getq, side 2", getq, 0, 2 },
+    { "getq, side -1", getq, 0, -1 },
+    { "putbq, side 2", putbq, 0, 2 },
+    { "putnext, side 2", putnext, 0, 2 },
+    { "putnext, side -1", putnext, 0, -1 },
+    { "qreply, side 2", qreply, 0, 2 },
+    { "qreply, side -1", qreply, 0, -1 },
+    { "bcanputnext, side 2", bcanputnext, 0, 2 },
+    { "qsize, side 2", qsize, 0, 2 },
 };
 enum { ROWS = sizeof rows / sizeof *rows };
 
@@ -314,6 +543,28 @@ static const struct row takes[] = {
     { "next", next, 0, 0 },
 };
 enum { TAKES = sizeof takes / sizeof *takes };
+
+/* Each service call, on a side. The first three need a queue there. */
+static const struct row services[] = {
+    { "getq", getq, 0, STRM_RD },
+    { "putbq", putbq, 0, STRM_RD },
+    { "qsize", qsize, 0, STRM_RD },
+    { "getq of a high message", getq, RS_HIPRI, STRM_WR },
+    { "putnext", putnext, 0, STRM_WR },
+    { "qreply", qreply, 0, STRM_WR },
+    { "bcanputnext", bcanputnext, 1, STRM_WR },
+};
+enum { NEED_QUEUE = 3, SERVICES = sizeof services / sizeof *services };
+
+/* Calls of an ioctl in two. */
+static const struct row laters[] = {
+    { "strget", strget, 0, 16 },
+    { "strget that drops", strget, 1, 16 },
+    { "strget with no room", strget_bare, 0, 0 },
+    { "strput", strput, 3, 0 },
+    { "strput without data", strput, -1, 0 },
+};
+enum { STRGETS = 3, LATERS = sizeof laters / sizeof *laters };
 
 /* Rooms that are too small for control of 3 bytes and data of 4. */
 static const struct row short_rooms[] = {
@@ -359,6 +610,40 @@ static void hold_names(int pushed, int found, const char *where)
     }
 }
 
+/* Holds each call that sends a message to those that are none. */
+static void hold_messages(int errno_wanted, const char *where)
+{
+    for (int i = 0; i < WRONG_MESSAGES; i++) {
+        const struct row sends[] = {
+            { wrong_messages[i].what, putbq_wrong, i, STRM_RD },
+            { wrong_messages[i].what, putnext_wrong, i, STRM_WR },
+            { wrong_messages[i].what, qreply_wrong, i, STRM_WR },
+        };
+        hold_all(sends, 3, errno_wanted, where);
+    }
+}
+
+/* Holds all that is judged by its arguments alone. */
+static void hold_arguments(int errno_wanted, const char *where)
+{
+    hold_all(rows, ROWS, errno_wanted, where);
+    hold_messages(errno_wanted, where);
+    module_name = "ninebytes";
+    hold_all(services, SERVICES, errno_wanted, where);
+    module_name = "m";
+}
+
+/* Holds service calls on modules that are not there. */
+static void hold_nobody(int errno_wanted, const char *where)
+{
+    static const char *const names[] = { "m", "", "eightbyt" };
+    for (int i = 0; i < 3; i++) {
+        module_name = names[i];
+        hold_all(services, SERVICES, errno_wanted, where);
+    }
+    module_name = "m";
+}
+
 /* Opens a stream, or ends the test. */
 static void open_as(uint32_t driver)
 {
@@ -366,21 +651,27 @@ static void open_as(uint32_t driver)
         exit(2);
 }
 
-/* Arguments come before the stream, but for the name of a find and for arrivals. */
+/* Arguments come before the stream, but for the name of a find, the module of a service call and arrivals. */
 static void hold_ends(void)
 {
     open_as(STRM_LINE);
-    hold_all(rows, ROWS, EINVAL, "at an open end");
+    hold_arguments(EINVAL, "at an open end");
     hold_names(EINVAL, EINVAL, "at an open end");
+    hold_nobody(EINVAL, "at an open end");
     hold_all(arrivals, ARRIVALS, EINVAL, "at an open end");
+    hold_all(laters, STRGETS, EINVAL, "where no answer is asked for");
     at = STRM_B;
-    hold_all(rows, ROWS, EINVAL, "at an end that the driver lacks");
+    hold_arguments(EINVAL, "at an end that the driver lacks");
     hold_names(EINVAL, EBADF, "at an end that the driver lacks");
+    hold_nobody(EBADF, "at an end that the driver lacks");
+    hold_all(laters, LATERS, EBADF, "at an end that the driver lacks");
     at = STRM_A;
     strm_close(&s, STRM_A);
-    hold_all(rows, ROWS, EINVAL, "at a closed end");
+    hold_arguments(EINVAL, "at a closed end");
     hold_names(EINVAL, EBADF, "at a closed end");
+    hold_nobody(EBADF, "at a closed end");
     hold_all(arrivals, ARRIVALS, EBADF, "at a closed end");
+    hold_all(laters, LATERS, EBADF, "at a closed end");
     strm_free(&s);
 }
 
@@ -389,22 +680,28 @@ static void hold_no_end(void)
 {
     open_as(STRM_LOOP);
     at = STRM_B + 1;
-    hold_all(rows, ROWS, EBADF, "at no end");
+    hold_arguments(EBADF, "at no end");
     hold_names(EBADF, EBADF, "at no end");
+    hold_nobody(EBADF, "at no end");
+    hold_all(laters, LATERS, EBADF, "at no end");
     at = STRM_A;
     hold_all(arrivals, ARRIVALS, EINVAL, "where there is no line");
     strm_free(&s);
 }
 
-/* Arguments come before an error that came up, a hangup, and a broken stream. */
+/* Arguments come before an error that came up, a hangup, and a broken stream. Service calls look at no error
+ * and no hangup. */
 static void hold_states(void)
 {
     open_as(STRM_LINE);
     strm_arrive(&s, M_HANGUP, 0, NULL, NULL, 0);
+    hold_all(laters + STRGETS, LATERS - STRGETS, ENXIO, "behind a hangup");
     strm_arrive(&s, M_ERROR, 0, NULL, NULL, EPROTO);
-    hold_all(rows, ROWS, EINVAL, "behind an error");
+    hold_arguments(EINVAL, "behind an error");
     hold_names(EINVAL, EPROTO, "behind an error");
+    hold_nobody(EINVAL, "behind an error");
     hold_all(arrivals, ARRIVALS, EINVAL, "behind an error");
+    hold_all(laters, LATERS, EPROTO, "behind an error");
     strm_free(&s);
     open_as(STRM_LOOP);
     is_refusing = 1;
@@ -415,8 +712,10 @@ static void hold_states(void)
         failed++;
     }
     at = STRM_B;
-    hold_all(rows, ROWS, EINVAL, "on a broken stream");
+    hold_arguments(EINVAL, "on a broken stream");
     hold_names(EINVAL, ENOSR, "on a broken stream");
+    hold_nobody(ENOSR, "on a broken stream");
+    hold_all(laters, LATERS, ENOSR, "on a broken stream");
     at = STRM_A;
     strm_free(&s);
 }
@@ -510,6 +809,172 @@ static void hold_no_wire(void)
     strm_free(&s);
 }
 
+/* Pushes a module whose service procedures are the program's, or ends the test. */
+static void push_served(const char *name, uint32_t rd_hi, uint32_t wr_hi)
+{
+    struct strm_module module = { name, STRM_PASS, rd_hi, rd_hi / 2, wr_hi, wr_hi / 2, 0, NULL, 0, STRM_NOENABLE };
+    if (strm_push(&s, STRM_A, &module) != 0)
+        exit(2);
+}
+
+/* Counts a failure if something of a message is not as it must be. */
+static void hold_true(const char *what, int is_true)
+{
+    if (!is_true) {
+        printf("%s is not as it must be\n", what);
+        failed++;
+    }
+}
+
+/* Counts the messages in a queue of the module. */
+static int waiting(int side)
+{
+    int messages = -2;
+    return strm_qsize(&s, at, module_name, side, &messages) ? -1 : messages;
+}
+
+/* Takes a message with just the room that is needed. */
+static void get_whole(const char *what, int side, const struct strm_msgb *given)
+{
+    char ctl[8], dat[16];
+    struct strm_msgb got = { -2, -2, { given->ctl.len, -2, ctl }, { given->dat.len, -2, dat }, -2, 7, 7, 7, -2 };
+    int e = strm_getq(&s, at, module_name, side, 0, &got);
+    hold_true(what, e == 0 && is_same(&got, given));
+}
+
+/* Puts a message back, and takes it. With too little room for a part it stays. Without memory it is not put
+ * back. */
+static void hold_round(const struct round *it)
+{
+    struct row ctl = { it->what, getq_short, it->given.ctl.len - 1, 16 }, dat = { it->what, getq_short, 16, it->given.dat.len - 1 };
+    is_refusing = 1;
+    int e = strm_putbq(&s, at, module_name, STRM_RD, &it->sent);
+    is_refusing = 0;
+    hold_true(it->what, e == ENOSR && waiting(STRM_RD) == 0);
+    e = strm_putbq(&s, at, module_name, STRM_RD, &it->sent);
+    hold_true(it->what, e == 0 && waiting(STRM_RD) == 1);
+    if (it->given.ctl.len >= 0)
+        hold_all(&ctl, 1, ERANGE, "control a byte short");
+    if (it->given.dat.len >= 0)
+        hold_all(&dat, 1, ERANGE, "data a byte short");
+    hold_true(it->what, waiting(STRM_RD) == 1);
+    get_whole(it->what, STRM_RD, &it->given);
+    hold_true(it->what, waiting(STRM_RD) == 0);
+}
+
+/* What refuses service calls at a module that is there, and messages that go round. */
+static void hold_services(void)
+{
+    struct row full = { "putnext", putnext, 0, STRM_WR }, reply = { "qreply", qreply, 0, STRM_RD };
+    struct row empty = { "getq", getq, 0, STRM_RD }, high = { "getq of a high message", getq, RS_HIPRI, STRM_RD };
+    open_as(STRM_LINE);
+    push_served("below", 0, 4);
+    push_served("m", 8, 0);
+    hold_all(&empty, 1, EAGAIN, "where no message waits");
+    putbq(0, STRM_RD);
+    hold_all(&high, 1, EAGAIN, "where data are first");
+    get_whole("what was put back", STRM_RD, &plain);
+    for (int i = 0; i < ROUNDS; i++)
+        hold_round(&rounds[i]);
+    hold_true("a putnext", putnext(0, STRM_WR) == 0);
+    hold_all(&full, 1, EAGAIN, "where the next queue is full");
+    hold_all(&reply, 1, EAGAIN, "where the next queue is full");
+    module_name = "below";
+    get_whole("what was sent on", STRM_WR, &plain);
+    hold_all(services, NEED_QUEUE, EINVAL, "on a side without a queue");
+    module_name = "m";
+    hold_true("a qreply", qreply(0, STRM_RD) == 0);
+    strm_pop(&s, STRM_A);
+    hold_nobody(EINVAL, "at a module that was popped");
+    strm_free(&s);
+}
+
+/* A module whose service procedures the stream has is none of the program's. */
+static void hold_served_by_the_stream(void)
+{
+    struct strm_module module = { "m", STRM_PASS, 8, 4, 8, 4, 0, NULL, 0, 0 };
+    open_as(STRM_ECHO);
+    strm_push(&s, STRM_A, &module);
+    hold_all(services, SERVICES, EINVAL, "at a module of the stream");
+    strm_free(&s);
+}
+
+/* The output of a wire by the driver's name. */
+static void hold_output(void)
+{
+    static const struct row unsuited[] = {
+        { "getq", getq, 0, STRM_RD },       { "putbq", putbq, 0, STRM_RD },     { "qsize", qsize, 0, STRM_RD },
+        { "putnext", putnext, 0, STRM_WR }, { "qreply", qreply, 0, STRM_RD }, { "bcanputnext", bcanputnext, 0, STRM_WR },
+    };
+    enum { UNSUITED = sizeof unsuited / sizeof *unsuited };
+    struct row empty = { "getq", getq, 0, STRM_WR };
+    static const struct strm_msgb hangup = { M_HANGUP, 0, NO_PART, NO_PART, 0, 0, 0, 0, 0 };
+    open_as(STRM_WIRE);
+    module_name = "wire";
+    hold_all(unsuited, UNSUITED, EINVAL, "at the output of a wire");
+    hold_all(&empty, 1, EAGAIN, "at a wire of no output");
+    hold_true("a putbq of a hangup", strm_putbq(&s, at, "wire", STRM_WR, &hangup) == EINVAL);
+    hold_true("a putbq", putbq(0, STRM_WR) == 0 && waiting(STRM_WR) == 1);
+    strm_close(&s, STRM_A);
+    hold_all(unsuited, UNSUITED, EINVAL, "at the output of a closed wire");
+    get_whole("the output of a closed wire", STRM_WR, &plain);
+    get_whole("the end of the output", STRM_WR, &hangup);
+    hold_true("a putbq at a closed wire", putbq(0, STRM_WR) == 0);
+    at = STRM_B;
+    hold_all(services, SERVICES, EBADF, "at an end that the driver lacks");
+    at = STRM_A;
+    module_name = "m";
+    strm_free(&s);
+}
+
+/* Sends the answer to an ioctl up from the module. */
+static void answer_by(int kind, uint64_t id)
+{
+    struct strm_msgb m = { kind, 0, NO_PART, BYTES("data"), 0, 0, id, 5, EPROTO };
+    hold_true("an answer", strm_qreply(&s, at, "m", STRM_WR, &m) == 0);
+}
+
+/* Makes a strget that is answered so. */
+static void get_answer(bool drops, int room, int code_wanted, int answer_wanted)
+{
+    char bytes[16];
+    struct strbuf dat = { room, -2, bytes }, sent = BYTES("data");
+    uint64_t rval = 77;
+    int answer = -2;
+    int e = strm_strget(&s, at, drops, &dat, &rval, &answer);
+    hold_true("a strget", e == code_wanted && answer == answer_wanted);
+    hold_true("what a strget gives", e ? dat.len == -2 && rval == 77 : is_same_part(&dat, &sent) && rval == 5);
+}
+
+/* An ioctl in two calls. An answer that has no room stays. */
+static void hold_later(void)
+{
+    static const struct row shorts[] = {
+        { "strget, data a byte short", strget, 0, 3 },
+        { "strget that drops, no room", strget, 1, -1 },
+        { "strget with no room", strget_bare, 1, 0 },
+    };
+    struct row asked = { "strput", strput, 3, 0 }, too_long = { "strput of 4097 bytes", strput, 4097, 0 };
+    struct strioctl call = { 7, 0, 3, (char[]){ "dat" } };
+    uint64_t id = 0;
+    open_as(STRM_LINE);
+    push_served("m", 0, 16);
+    hold_all(&too_long, 1, EINVAL, "where none is asked for");
+    hold_true("a strput", strm_strput(&s, at, &call, &id) == 0 && id == 1);
+    hold_all(&asked, 1, EAGAIN, "where an answer is asked for");
+    hold_all(laters, 1, EAGAIN, "where no answer has come");
+    answer_by(M_IOCACK, id);
+    hold_all(shorts, 3, ERANGE, "of data of 4 bytes");
+    get_answer(false, 4, 0, STRM_ACK);
+    hold_all(laters, STRGETS, EINVAL, "where no answer is asked for");
+    hold_true("a strput", strm_strput(&s, at, &call, &id) == 0 && id == 2);
+    answer_by(M_IOCNAK, id);
+    get_answer(false, -1, EPROTO, STRM_NAK);
+    hold_true("a strput", strm_strput(&s, at, &call, &id) == 0 && id == 3);
+    get_answer(true, -1, ETIME, STRM_TIMEOUT);
+    strm_free(&s);
+}
+
 int main(void)
 {
     hold_all(openings, OPENINGS, EINVAL, "at no stream");
@@ -518,5 +983,9 @@ int main(void)
     hold_states();
     hold_wires();
     hold_no_wire();
+    hold_services();
+    hold_served_by_the_stream();
+    hold_output();
+    hold_later();
     return failed != 0;
 }

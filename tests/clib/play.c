@@ -146,6 +146,170 @@ static void add_more(int more)
     add(&line, words[more]);
 }
 
+/* Reads the marks of a side; 0 and 0 are none. */
+static void marks(const char *field, uint32_t *hi, uint32_t *lo)
+{
+    unsigned high = 0, low = 0;
+    sscanf(field, "%u/%u", &high, &low);
+    *hi = high;
+    *lo = low;
+}
+
+/* The words of messages, each with its kind and its fields: the band (b), control (c), data (d), sides of a
+ * flush (s), an id (i), a command (m), a value (v), an errno (e); the errnos of an error, in bytes (r, w); and
+ * the read mode, treatment of control and marks of options, in bytes (R, P, M). */
+static const struct word {
+    const char *name;
+    int kind;
+    const char *fields;
+} words[] = {
+    { "data", M_DATA, "bd" },       { "proto", M_PROTO, "bcd" },   { "pcproto", M_PCPROTO, "cd" },
+    { "ioctl", M_IOCTL, "imd" },    { "iocack", M_IOCACK, "ivd" }, { "iocnak", M_IOCNAK, "ie" },
+    { "setopts", M_SETOPTS, "RPM" }, { "flush", M_FLUSH, "s" },     { "flushband", M_FLUSH, "bs" },
+    { "hangup", M_HANGUP, "" },     { "error", M_ERROR, "e" },     { "error2", M_ERROR, "rw" },
+};
+enum { WORDS = sizeof words / sizeof *words };
+
+static const char *const read_modes[] = { "-", "rnorm", "rmsgn", "rmsgd" }, *const treatments[] = { "-", "norm", "dat", "dis" };
+
+/* The place of a word among four. */
+static unsigned place(const char *field, const char *const *of)
+{
+    unsigned i = 0;
+    while (i < 3 && !is(field, of[i]))
+        i++;
+    return i;
+}
+
+/* The number of an errno, or NOERROR for none. */
+static unsigned errno_of(const char *name)
+{
+    static const unsigned all[] = { EBADF, ENOSR, EINVAL, ERANGE, ENXIO, EBADMSG, ENODATA, EAGAIN, ETIME, EIO, EPROTO };
+    for (size_t i = 0; i < sizeof all / sizeof *all; i++) {
+        if (is(name, said((int)all[i])))
+            return all[i];
+    }
+    return NOERROR;
+}
+
+/* The name of an errno that is a byte. */
+static const char *errno_name(char byte)
+{
+    return (unsigned char)byte == NOERROR ? "-" : said((unsigned char)byte);
+}
+
+/* A message of nothing, with room for parts of some length. */
+static struct strm_msgb empty_message(int room)
+{
+    struct strm_msgb m = { -1, 0, { room, -1, ctl_room }, { room, -1, dat_room }, 0, 0, 0, 0, 0 };
+    return m;
+}
+
+static void put_byte(struct strbuf *dat, unsigned byte)
+{
+    dat->len = dat->len < 0 ? 1 : dat->len + 1;
+    dat->buf[dat->len - 1] = (char)byte;
+}
+
+/* Adds the marks of options to their data: 0 for none, or 1 and both of them, the greatest byte first. */
+static void put_marks(struct strbuf *dat, const char *field)
+{
+    uint32_t both[2];
+    marks(field, &both[0], &both[1]);
+    put_byte(dat, !is(field, "-"));
+    for (int i = 0; i < 8 && !is(field, "-"); i++)
+        put_byte(dat, both[i / 4] >> (8 * (3 - i % 4)));
+}
+
+static void read_field(struct strm_msgb *m, char form, const char *field)
+{
+    switch (form) {
+    case 'b': m->b_band = (int)number(field); break;
+    case 'c': m->ctl = part(field, ctl_room); break;
+    case 'd': m->dat = part(field, dat_room); break;
+    case 's': m->flags |= sides(field); break;
+    case 'i': m->ioc_id = strtoull(field, NULL, 10); break;
+    case 'm': m->ioc_cmd = number(field); break;
+    case 'v': m->ioc_rval = strtoull(field, NULL, 10); break;
+    case 'e': m->ioc_error = (int)errno_of(field); break;
+    case 'R': put_byte(&m->dat, place(field, read_modes)); break;
+    case 'P': put_byte(&m->dat, place(field, treatments)); break;
+    case 'M': put_marks(&m->dat, field); break;
+    default: put_byte(&m->dat, errno_of(field));
+    }
+}
+
+/* The message of some fields, the first of which is its word. */
+static struct strm_msgb message(char *const *from)
+{
+    struct strm_msgb m = empty_message(0);
+    for (int i = 0; i < WORDS; i++) {
+        if (!is(from[0], words[i].name))
+            continue;
+        m.db_type = words[i].kind;
+        m.flags = is(from[0], "flushband") ? FLUSHBAND : 0;
+        for (int n = 0; words[i].fields[n]; n++)
+            read_field(&m, words[i].fields[n], from[n + 1]);
+    }
+    return m;
+}
+
+static void add_marks(const char *bytes)
+{
+    unsigned long both[2] = { 0, 0 };
+    for (int i = 0; i < 8; i++)
+        both[i / 4] = both[i / 4] << 8 | (unsigned char)bytes[i];
+    add_number(&line, both[0]);
+    add(&line, "/");
+    add_number(&line, both[1]);
+}
+
+static void add_field(const struct strm_msgb *m, char form)
+{
+    static const char *const flushed[] = { "none", "r", "w", "rw" };
+    switch (form) {
+    case 'b': add_number(&line, (unsigned long)m->b_band); break;
+    case 'c': add_part(&line, m->ctl.buf, m->ctl.len); break;
+    case 'd': add_part(&line, m->dat.buf, m->dat.len); break;
+    case 's': add(&line, flushed[m->flags & FLUSHRW]); break;
+    case 'i': add_number(&line, (unsigned long)m->ioc_id); break;
+    case 'm': add_number(&line, m->ioc_cmd); break;
+    case 'v': add_number(&line, (unsigned long)m->ioc_rval); break;
+    case 'e': add(&line, m->db_type == M_ERROR ? errno_name(m->dat.buf[0]) : said(m->ioc_error)); break;
+    case 'r': add(&line, errno_name(m->dat.buf[0])); break;
+    case 'w': add(&line, errno_name(m->dat.buf[1])); break;
+    case 'R': add(&line, read_modes[m->dat.buf[0] & 3]); break;
+    case 'P': add(&line, treatments[m->dat.buf[1] & 3]); break;
+    default:
+        if (m->dat.len == 11)
+            add_marks(m->dat.buf + 3);
+        else
+            add(&line, "-");
+    }
+}
+
+/* Whether a message is spelled with this word. */
+static int is_spelled(const struct strm_msgb *m, const struct word *word)
+{
+    int is_one_error = m->db_type == M_ERROR && m->dat.buf[0] == m->dat.buf[1] && (unsigned char)m->dat.buf[0] != NOERROR;
+    return m->db_type == word->kind && is(word->name, "flushband") == (m->flags >= FLUSHBAND) &&
+           (m->db_type != M_ERROR || is(word->name, "error") == is_one_error);
+}
+
+/* Adds a message, as a feed and a service call spell it. */
+static void add_message(const struct strm_msgb *m)
+{
+    for (int i = 0; i < WORDS; i++) {
+        if (!is_spelled(m, &words[i]))
+            continue;
+        add(&line, words[i].name);
+        for (const char *form = words[i].fields; *form; form++) {
+            add(&line, " ");
+            add_field(m, *form);
+        }
+    }
+}
+
 /* Each verb makes its call, and adds the reply to the line if the call returns 0. */
 
 static int do_putmsg(void)
@@ -248,40 +412,41 @@ static int do_write(void)
     return e;
 }
 
-/* Reads the marks of a side; 0 and 0 are none. */
-static void marks(const char *field, uint32_t *hi, uint32_t *lo)
-{
-    unsigned high = 0, low = 0;
-    sscanf(field, "%u/%u", &high, &low);
-    *hi = high;
-    *lo = low;
-}
+/* The modules that were pushed at each end, the topmost last: after an M_ERROR no call lists them. */
+static struct {
+    char names[8][FMNAMESZ + 1];
+    int n;
+} pushed[2];
 
 static int do_push(void)
 {
     static const char *const kinds[] = { "pass", "table", "crnl", "line", "count", "band", "tee", "mute", "split" };
     static unsigned char table[256];
-    struct strm_module module = { fields[3], STRM_PASS, 0, 0, 0, 0, 0, table, 0 };
+    int is_programs = is(fields[2], "noenable");
+    char **kind = fields + 2 + is_programs;
+    struct strm_module module = { kind[1], STRM_PASS, 0, 0, 0, 0, 0, table, 0, is_programs ? STRM_NOENABLE : 0 };
     for (int i = 0; i < 9; i++) {
-        if (is(fields[2], kinds[i]))
+        if (is(kind[0], kinds[i]))
             module.kind = (enum strm_kind)i;
     }
-    marks(fields[4], &module.rd_hi, &module.rd_lo);
-    marks(fields[5], &module.wr_hi, &module.wr_lo);
+    marks(kind[2], &module.rd_hi, &module.rd_lo);
+    marks(kind[3], &module.wr_hi, &module.wr_lo);
     if (module.kind == STRM_BAND)
-        module.band = (unsigned char)number(fields[6]);
+        module.band = (unsigned char)number(kind[4]);
     if (module.kind == STRM_SPLIT)
-        module.split = (unsigned short)number(fields[6]);
+        module.split = (unsigned short)number(kind[4]);
     for (int i = 0; i < 256; i++)
         table[i] = (unsigned char)i;
     if (module.kind == STRM_TABLE) {
-        struct strbuf from = part(fields[6], ctl_room), to = part(fields[7], dat_room);
+        struct strbuf from = part(kind[4], ctl_room), to = part(kind[5], dat_room);
         for (int i = 0; i < from.len; i++)
             table[(unsigned char)from.buf[i]] = (unsigned char)to.buf[i];
     }
     int e = strm_push(&stream, end, &module);
-    if (!e)
+    if (!e) {
+        snprintf(pushed[end].names[pushed[end].n++], FMNAMESZ + 1, "%s", module.name);
         add(&line, "0");
+    }
     return e;
 }
 
@@ -290,6 +455,7 @@ static int do_pop(void)
     char name[FMNAMESZ + 1];
     int looked = strm_look(&stream, end, name);
     int e = strm_pop(&stream, end);
+    pushed[end].n -= e == 0;
     if (!e && !looked) {
         add(&line, "popped ");
         add(&line, name);
@@ -335,20 +501,45 @@ static int do_find(void)
     return e;
 }
 
+/* Adds the answer to an ioctl. Returns the code of the call. */
+static int add_answer(int e, int answer, uint64_t rval, const char *bytes, int len)
+{
+    if (answer == STRM_NAK)
+        add(&line, "nak ");
+    if (!e) {
+        add_number(&line, (unsigned long)rval);
+        add(&line, " ");
+        add_part(&line, bytes, len);
+    }
+    return e;
+}
+
 static int do_str(void)
 {
     struct strbuf dat = part(fields[3], dat_room);
     struct strioctl call = { (int)number(fields[2]), 0, dat.len, dat.buf };
     uint64_t rval = 0;
     int answer = STRM_REFUSED, e = strm_str_answer(&stream, end, &call, &rval, &answer);
-    if (answer == STRM_NAK)
-        add(&line, "nak ");
-    if (!e) {
-        add_number(&line, (unsigned long)rval);
-        add(&line, " ");
-        add_part(&line, call.ic_dp, call.ic_len);
-    }
+    return add_answer(e, answer, rval, call.ic_dp, call.ic_len);
+}
+
+static int do_strput(void)
+{
+    struct strbuf dat = part(fields[3], dat_room);
+    struct strioctl call = { (int)number(fields[2]), 0, dat.len, dat.buf };
+    uint64_t id = 0;
+    int e = strm_strput(&stream, end, &call, &id);
+    if (!e)
+        add_number(&line, (unsigned long)id);
     return e;
+}
+
+static int do_strget(void)
+{
+    struct strbuf dat = { MOST, -2, dat_room };
+    uint64_t rval = 0;
+    int answer = STRM_REFUSED, e = strm_strget(&stream, end, is(fields[2], "drop"), &dat, &rval, &answer);
+    return add_answer(e, answer, rval, dat.buf, dat.len);
 }
 
 static int do_flush(void)
@@ -429,33 +620,65 @@ static int do_getband(void)
     return add_value(e, band);
 }
 
-/* Adds the message that is taken, as a feed writes it. The take is held to what strm_next has said before
- * it. */
+/* Adds the message that is taken. The take is held to what strm_next has said before it. */
 static int do_take(void)
 {
-    struct strbuf ctl = { MOST, -2, ctl_room }, dat = { MOST, -2, dat_room };
-    int kind = -1, band = -1, next_kind = -1, next_band = -1, next_ctl = -2, next_dat = -2;
+    struct strm_msgb m = empty_message(MOST);
+    int next_kind = m.db_type, next_band = m.b_band, next_ctl = m.ctl.len, next_dat = m.dat.len;
     int told_before = strm_next(&stream, end, &next_kind, &next_band, &next_ctl, &next_dat);
-    int e = strm_take(&stream, end, &kind, &band, &ctl, &dat);
-    int is_told = e == told_before && kind == next_kind && band == next_band && ctl.len == next_ctl && dat.len == next_dat;
+    int e = strm_take(&stream, end, &m.db_type, &m.b_band, &m.ctl, &m.dat);
+    int is_told = e == told_before && m.db_type == next_kind && m.b_band == next_band && m.ctl.len == next_ctl && m.dat.len == next_dat;
     if (!is_told && !(e == ENOSR && told_before == 0))
         add(&line, "not what strm_next told: ");
-    if (e)
-        return e;
-    if (kind == M_HANGUP) {
-        add(&line, "hangup");
-        return 0;
-    }
-    add(&line, kind == M_PCPROTO ? "pcproto " : kind == M_PROTO ? "proto " : "data ");
-    if (kind != M_PCPROTO) {
-        add_number(&line, (unsigned long)band);
-        add(&line, " ");
-    }
-    if (kind == M_DATA)
-        add_part(&line, dat.buf, dat.len);
-    else
-        add_parts(&ctl, &dat);
-    return 0;
+    if (!e)
+        add_message(&m);
+    return e;
+}
+
+static int side(const char *field)
+{
+    return is(field, "rd") ? STRM_RD : STRM_WR;
+}
+
+static int do_getq(void)
+{
+    struct strm_msgb m = empty_message(MOST);
+    int e = strm_getq(&stream, end, fields[2], side(fields[3]), is(fields[4], "hipri") ? RS_HIPRI : 0, &m);
+    if (!e)
+        add_message(&m);
+    return e;
+}
+
+static int do_putbq(void)
+{
+    struct strm_msgb m = message(fields + 4);
+    int e = strm_putbq(&stream, end, fields[2], side(fields[3]), &m);
+    if (!e)
+        add(&line, "0");
+    return e;
+}
+
+static int do_putnext(void)
+{
+    struct strm_msgb m = message(fields + 4);
+    int e = strm_putnext(&stream, end, fields[2], side(fields[3]), &m);
+    if (!e)
+        add(&line, "0");
+    return e;
+}
+
+static int do_bcanputnext(void)
+{
+    int can = 0;
+    int e = strm_bcanputnext(&stream, end, fields[2], side(fields[3]), (unsigned char)number(fields[4]), &can);
+    return add_value(e, can);
+}
+
+static int do_qsize(void)
+{
+    int messages = 0;
+    int e = strm_qsize(&stream, end, fields[2], side(fields[3]), &messages);
+    return add_value(e, messages);
 }
 
 static int do_poll(void)
@@ -487,14 +710,15 @@ static int do_poll(void)
 
 static int do_close(void)
 {
-    struct text names = { "", 0 };
-    add_names(&names, 0);
     int e = strm_close(&stream, end);
-    if (!e) {
-        add(&line, "closed");
-        add(&line, names.bytes);
+    if (e)
+        return e;
+    add(&line, "closed");
+    while (pushed[end].n > 0) {
+        add(&line, " ");
+        add(&line, pushed[end].names[--pushed[end].n]);
     }
-    return e;
+    return 0;
 }
 
 static const struct verb {
@@ -505,7 +729,9 @@ static const struct verb {
     { "read", do_read },       { "write", do_write },     { "push", do_push },     { "pop", do_pop },             { "look", do_look },
     { "list", do_list },       { "find", do_find },       { "str", do_str },       { "flush", do_flush },         { "flushband", do_flushband },
     { "nread", do_nread },     { "setread", do_setread }, { "getread", do_getread }, { "canput", do_canput },     { "ckband", do_ckband },
-    { "getband", do_getband }, { "close", do_close },     { "take", do_take },     { "poll", do_poll },
+    { "getband", do_getband }, { "close", do_close },     { "take", do_take },     { "poll", do_poll },           { "strput", do_strput },
+    { "strget", do_strget },   { "getq", do_getq },       { "putbq", do_putbq },   { "putnext", do_putnext },     { "qsize", do_qsize },
+    { "bcanputnext", do_bcanputnext },
 };
 
 /* Makes the call of the line once. Returns its code, and adds its reply to the end of `line`. */
@@ -598,6 +824,7 @@ static int play(const char *text)
 {
     int broken = 0;
     told.len = 0;
+    pushed[STRM_A].n = pushed[STRM_B].n = 0;
     snprintf(script, sizeof script, "%s", text);
     for (char *from = script; *from;) {
         from = split(from);

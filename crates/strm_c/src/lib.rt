@@ -5,25 +5,30 @@
 //! reply are written where the caller has room for them, and nothing beyond.
 #![tactic(auto)]
 
-ghost use Rattle.std.specs.Prelude.{◌≡◌, pos, true, false, [], Ok};
+ghost use Rattle.std.specs.Prelude.{◌≡◌, pos, true, false, [], None, Ok};
 ghost use Rattle.strm_c_numbers.specs.Numbers.{end_of};
 ghost use Rattle.strm_c_calls.specs.Codes.{driver_of, returned_flags};
 ghost use Rattle.strm_c_calls.specs.Arguments as asks;
 ghost use Rattle.strm_c_calls.specs.Returned.{HasTaken, IsValue, AreValues, IsNamed, Nothing};
 ghost use Rattle.strm_c_calls.specs.OnHandle.{ArrivesOn, CallsOn, CopiesAndCallsOn, OpensOn};
-ghost use Rattle.strm_c_calls.specs.OnHandle.{TakesWholeOn, TellsNextOn};
-ghost use Rattle.strm_c_calls.specs.Outside.{room_of};
 ghost use Rattle.strm_c_calls.specs.Polls.{polled_at};
+ghost use Rattle.strm_head_calls.specs.declared.service.ServiceCall.TheVariants as ServiceCall;
+ghost use Rattle.strm_c_service.specs.Service as service;
+ghost use Rattle.strm_c_service.specs.declared.sending.Sending.TheVariants as Sending;
+ghost use Rattle.strm_c_service.specs.Taking.{TakesWholeOn, TellsNextOn, room_of};
+ghost use Rattle.strm_c_service.specs.Written.{HasMessage, IsId};
 
 use std::alloc::Global;
 pub use strm_c_calls::{Handle, Returned};
 use strm_c_calls::{
     arrive, call, call_for_name, call_for_value, call_for_values, call_taking, driver_of, find_of,
-    flush_of, flushband_of, free_stream, getmsg_of, getpmsg_of, kind_of, marks_of, next,
-    open_stream, peek_of, poll, push_of, putmsg_of, putpmsg_of, read_of, setread_of, str_of,
-    take_whole, write_of,
+    flush_of, flushband_of, free_stream, getmsg_of, getpmsg_of, kind_of, marks_of, noenable_of,
+    open_stream, peek_of, poll, push_of, putmsg_of, putpmsg_of, read_of, setread_of, shape_of,
+    str_of, write_of,
 };
-use strm_head_calls::Request;
+pub use strm_c_numbers::Whole;
+use strm_c_service::{Sending, getq, next, send, service_of, strget, strput, take};
+use strm_head_calls::{Request, ServiceCall};
 
 /// Opens a stream into a closed handle.
 #[unsafe(no_mangle)]
@@ -198,7 +203,8 @@ pub extern "C" fn strm_write_bytes(
 }
 
 /// Puts a module in just below the head (I_PUSH): one of the built-in kinds, by its number, with its
-/// argument, a further number or a table. A side has a queue if its high mark is not 0.
+/// argument, a further number or a table. A side has a queue if its high mark is not 0. By its flags its
+/// service procedures are the program's (noenable(9F)).
 #[unsafe(no_mangle)]
 pub extern "C" fn strm_push_kind(
     alloc: Global,
@@ -212,16 +218,18 @@ pub extern "C" fn strm_push_kind(
     wr_lo: u32,
     number: u32,
     table: &[u8],
+    flags: u32,
 ) -> i32
     requires { s.old.is_open ≡ true }
     ensures open { s.new.is_open ≡ true }
     ensures call { CopiesAndCallsOn s.old end
-        (asks.push_kind_of name.now kind rd_hi rd_lo wr_hi wr_lo number table.now) Nothing result s.new }
+        (asks.push_kind_of name.now kind rd_hi rd_lo wr_hi wr_lo number table.now flags) Nothing result s.new }
 {
     let rd = marks_of(rd_hi, rd_lo);
     let wr = marks_of(wr_hi, wr_lo);
     let kind = kind_of(alloc, kind, number, table);
-    let asked = push_of(alloc, s, end, name, rd, wr, kind);
+    let shape = shape_of(name, rd, wr, kind, noenable_of(flags));
+    let asked = push_of(alloc, s, end, shape);
     call(alloc, s, end, asked)
 }
 
@@ -449,29 +457,178 @@ pub extern "C" fn strm_take_parts(
     ctl: &mut [u8],
     has_dat: bool,
     dat: &mut [u8],
-    got: &mut Returned,
+    got: &mut Whole,
 ) -> i32
     requires { s.old.is_open ≡ true }
     ensures open { s.new.is_open ≡ true }
-    ensures takes { TakesWholeOn s.old end (room_of has_ctl ctl.old) (room_of has_dat dat.old)
-        (HasTaken ctl.old dat.old got.old ctl.new dat.new got.new) result s.new }
+    ensures takes { TakesWholeOn s.old end (Ok Request.Take) (room_of has_ctl ctl.old) (room_of has_dat dat.old)
+        (HasMessage ctl.old dat.old got.old ctl.new dat.new got.new) result s.new }
 {
-    take_whole(alloc, s, end, has_ctl, ctl, has_dat, dat, got)
+    take(alloc, s, end, has_ctl, ctl, has_dat, dat, got)
 }
 
 /// Describes the message that a take would return, and leaves it there.
 #[unsafe(no_mangle)]
-pub extern "C" fn strm_next_lengths(
-    alloc: Global,
-    s: &mut Handle,
-    end: u8,
-    got: &mut Returned,
-) -> i32
+pub extern "C" fn strm_next_lengths(alloc: Global, s: &mut Handle, end: u8, got: &mut Whole) -> i32
     requires { s.old.is_open ≡ true }
     ensures open { s.new.is_open ≡ true }
     ensures next { TellsNextOn s.old end got.old got.new result s.new }
 {
     next(alloc, s, end, got)
+}
+
+/// Takes the first message of a queue that the program serves, whole or not at all (getq(9F)).
+#[unsafe(no_mangle)]
+pub extern "C" fn strm_getq_parts(
+    alloc: Global,
+    s: &mut Handle,
+    end: u8,
+    name: &[u8],
+    side: u32,
+    flags: u32,
+    has_ctl: bool,
+    ctl: &mut [u8],
+    has_dat: bool,
+    dat: &mut [u8],
+    got: &mut Whole,
+) -> i32
+    requires { s.old.is_open ≡ true }
+    ensures open { s.new.is_open ≡ true }
+    ensures takes { TakesWholeOn s.old end (service.getq_of name.now side flags)
+        (room_of has_ctl ctl.old) (room_of has_dat dat.old)
+        (HasMessage ctl.old dat.old got.old ctl.new dat.new got.new) result s.new }
+{
+    getq(
+        alloc, s, end, name, side, flags, has_ctl, ctl, has_dat, dat, got,
+    )
+}
+
+/// Puts a message back into a queue that the program serves, before those of its rank (putbq(9F)).
+#[unsafe(no_mangle)]
+pub extern "C" fn strm_putbq_parts(
+    alloc: Global,
+    s: &mut Handle,
+    end: u8,
+    name: &[u8],
+    side: u32,
+    whole: &Whole,
+    has_ctl: bool,
+    ctl: &[u8],
+    has_dat: bool,
+    dat: &[u8],
+) -> i32
+    requires { s.old.is_open ≡ true }
+    ensures open { s.new.is_open ≡ true }
+    ensures call { CallsOn s.old end
+        (service.sent_of Sending.Back name.now side whole.now has_ctl ctl.now has_dat dat.now) Nothing result s.new }
+{
+    let sending = Sending::Back;
+    send(
+        alloc, s, end, sending, name, side, whole, has_ctl, ctl, has_dat, dat,
+    )
+}
+
+/// Sends a message on from a module that the program serves, past a side (putnext(9F)).
+#[unsafe(no_mangle)]
+pub extern "C" fn strm_putnext_parts(
+    alloc: Global,
+    s: &mut Handle,
+    end: u8,
+    name: &[u8],
+    side: u32,
+    whole: &Whole,
+    has_ctl: bool,
+    ctl: &[u8],
+    has_dat: bool,
+    dat: &[u8],
+) -> i32
+    requires { s.old.is_open ≡ true }
+    ensures open { s.new.is_open ≡ true }
+    ensures call { CallsOn s.old end
+        (service.sent_of Sending.On name.now side whole.now has_ctl ctl.now has_dat dat.now) Nothing result s.new }
+{
+    let sending = Sending::On;
+    send(
+        alloc, s, end, sending, name, side, whole, has_ctl, ctl, has_dat, dat,
+    )
+}
+
+/// Returns whether an ordinary message of a band could be sent on from a module that the program serves
+/// (bcanputnext(9F)).
+#[unsafe(no_mangle)]
+pub extern "C" fn strm_bcanputnext_name(
+    alloc: Global,
+    s: &mut Handle,
+    end: u8,
+    name: &[u8],
+    side: u32,
+    band: u8,
+    can: &mut i32,
+) -> i32
+    requires { s.old.is_open ≡ true }
+    ensures open { s.new.is_open ≡ true }
+    ensures call { CallsOn s.old end (service.service_of name.now side (ServiceCall.Bcanputnext band))
+        (IsValue can.old can.new) result s.new }
+{
+    let asked = service_of(name, side, ServiceCall::Bcanputnext { band });
+    call_for_value(alloc, s, end, asked, can)
+}
+
+/// Returns the number of messages in a queue that the program serves (qsize(9F)).
+#[unsafe(no_mangle)]
+pub extern "C" fn strm_qsize_name(
+    alloc: Global,
+    s: &mut Handle,
+    end: u8,
+    name: &[u8],
+    side: u32,
+    messages: &mut i32,
+) -> i32
+    requires { s.old.is_open ≡ true }
+    ensures open { s.new.is_open ≡ true }
+    ensures call { CallsOn s.old end (service.service_of name.now side ServiceCall.Qsize)
+        (IsValue messages.old messages.new) result s.new }
+{
+    let asked = service_of(name, side, ServiceCall::Qsize);
+    call_for_value(alloc, s, end, asked, messages)
+}
+
+/// Sends an ioctl down whose answer is asked for later, and returns its id.
+#[unsafe(no_mangle)]
+pub extern "C" fn strm_strput_bytes(
+    alloc: Global,
+    s: &mut Handle,
+    end: u8,
+    cmd: u32,
+    has_dat: bool,
+    dat: &[u8],
+    id: &mut u64,
+) -> i32
+    requires { s.old.is_open ≡ true }
+    ensures open { s.new.is_open ≡ true }
+    ensures call { CallsOn s.old end (service.strput_of cmd has_dat dat.now)
+        (IsId id.old id.new) result s.new }
+{
+    strput(alloc, s, end, cmd, has_dat, dat, id)
+}
+
+/// Takes the answer to an ioctl that is asked for later, whole or not at all.
+#[unsafe(no_mangle)]
+pub extern "C" fn strm_strget_bytes(
+    alloc: Global,
+    s: &mut Handle,
+    end: u8,
+    drops: bool,
+    has_dat: bool,
+    dat: &mut [u8],
+    got: &mut Returned,
+) -> i32
+    requires { s.old.is_open ≡ true }
+    ensures open { s.new.is_open ≡ true }
+    ensures takes { TakesWholeOn s.old end (Ok (Request.Strget drops)) None (room_of has_dat dat.old)
+        (HasTaken [] dat.old got.old [] dat.new got.new) result s.new }
+{
+    strget(alloc, s, end, drops, has_dat, dat, got)
 }
 
 /// Returns the conditions that hold of an end: those of `events`, and POLLERR, POLLHUP and POLLNVAL

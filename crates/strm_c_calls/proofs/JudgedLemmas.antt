@@ -1,13 +1,10 @@
 -- A call that was refused before its bytes were copied was refused as the step of its request is.
-use Rattle.std.specs.Prelude.{is_none}
 use Rattle.std.proofs.Common.{◌≡◌, ℕ, nat_le, ◌&&◌, not, Bool, true, false, Option, Some, None, Ok, Err, List, [], ◌∷◌, ◌++◌, length, ◌⊎◌, inl, inr, ℤ, pos, refl, sym, ap, subst, ◌∙◌, unwrap_or}
 use Rattle.strm_msg.specs.Message.{Part}
 use Rattle.strm_msg.specs.declared.errno.Errno.{Errno}
 use Rattle.strm_msg.specs.declared.words.End.{End}
 use Rattle.strm_module.specs.declared.kind.Kind.{Kind}
 use Rattle.strm_module.specs.declared.shape.Shape.{Shape}
-use Rattle.strm_module.specs.Shape.{MarkPair, make_fault, new_shape}
-use Rattle.strm_module.specs.declared.shape.MakeFault.{MakeFault}
 use Rattle.strm_module.specs.declared.shape.TheConstants.{LONGEST_NAME}
 use Rattle.strm_chain_ends.specs.Image as Ends
 use Rattle.strm_chain_ends.specs.Image.{Image}
@@ -25,7 +22,7 @@ use Rattle.strm_head.specs.Effects.{error_refusals, refusal_of, takes_no_memory_
 use Rattle.strm_head.specs.Step.{IsRefusedBy}
 use Rattle.strm_c_numbers.specs.Numbers.{end_of}
 use Rattle.strm_c_calls.specs.Codes.{code_of}
-use Rattle.strm_c_calls.specs.Arguments.{RequestOrRefusal, ask, push_if, push_of, parts_argument}
+use Rattle.strm_c_calls.specs.Arguments.{RequestOrRefusal, ask, push_of, parts_argument}
 use Rattle.strm_c_calls.specs.Judged.{refused_at, IsMade}
 use Rattle.strm_c_calls.specs.Fits.{Fits}
 use Rattle.strm_c_calls.specs.Call.{costs_no_memory, IsStep, Answers, checked_call, Calls, CopiesAndCalls}
@@ -49,7 +46,8 @@ refused_step old e request refusal first memory fits =
       fits = fits;
     }
 
--- what is known of a request: no refusal of it gives bytes, and none that holds is want of memory where it takes none
+-- what is known of a request: no refusal of it gives bytes, and none that holds is want of memory where it
+-- takes none
 pub record IsPlain (old : Image Kind) (e : End) (request : Request (Shape Kind)) : Type 0 where
   pub fits : (refusal : Refusal) → Fits request (Refused refusal)
   pub memory : (refusal : Refusal) → refusal_of builtin old e request ≡ Some refusal → costs_no_memory old e request ≡ true → is_no_memory refusal ≡ false
@@ -140,7 +138,8 @@ copied old new n asked made writes code calls (inr lacks) =
       unchanged = lacks.2;
     })
 
--- a call of what was made is the call that was asked for, or memory was wanting for its copy and nothing else refuses it
+-- a call of what was made is the call that was asked for, or memory was wanting for its copy and nothing else
+-- refuses it
 pub made_copies : (old new : Image Kind) (n : ℕ) (asked made : RequestOrRefusal) (writes : Answer → Type 0) (code : ℤ) → IsPlainAt old (end_of n) asked → IsMade old (end_of n) asked made → Calls old n made writes code new → CopiesAndCalls old n asked writes code new
 made_copies old new n asked made writes code plain (inl same) calls = inl (subst (λ a. Calls old n a writes code new) same calls)
 made_copies old new n asked made writes code plain (inr told_is) calls =
@@ -149,7 +148,7 @@ made_copies old new n asked made writes code plain (inr told_is) calls =
 -- ---- the requests whose bytes are copied
 
 -- of requests that give no bytes where they are refused, and may want for memory
-plain_if : (old : Image Kind) (e : End) (request : Request (Shape Kind)) → ((refusal : Refusal) → Fits request (Refused refusal)) → costs_no_memory old e request ≡ false → IsPlain old e request
+pub plain_if : (old : Image Kind) (e : End) (request : Request (Shape Kind)) → ((refusal : Refusal) → Fits request (Refused refusal)) → costs_no_memory old e request ≡ false → IsPlain old e request
 plain_if old e request fits takes = record { fits = fits; memory = λ refusal first is. absurd cc }
 
 pub putmsg_is_plain : (old : Image Kind) (end : Option End) (has_ctl : Bool) (ctl : List ℕ) (has_dat : Bool) (dat : List ℕ) (flag : Option Priority) → IsPlainAt old end (ask flag (λ f. Ok (Requests.Putmsg f (parts_argument has_ctl ctl has_dat dat))))
@@ -181,14 +180,10 @@ str_is_plain old None cmd dat = tt
 str_is_plain old (Some e) cmd dat = plain_if old e (Requests.Str cmd dat) (λ refusal. tt) refl
 
 -- of a push, which takes no memory but for its module
-pushes : (old : Image Kind) (e : End) (fault : Option MakeFault) (shape : Shape Kind) → IsPlainAt old (Some e) (push_if fault shape)
-pushes old e None shape = plain_if old e (Requests.Push shape) (λ refusal. tt) refl
-pushes old e (Some fault) shape = tt
-
-pub push_is_plain : (old : Image Kind) (end : Option End) (kind : Option Kind) (fault : Option MakeFault) (shape : Kind → Shape Kind) → IsPlainAt old end (ask kind (λ k. push_if fault (shape k)))
-push_is_plain old None kind fault shape = tt
-push_is_plain old (Some e) None fault shape = tt
-push_is_plain old (Some e) (Some kind) fault shape = pushes old e fault (shape kind)
+pub push_is_plain : (old : Image Kind) (end : Option End) (shape : Option (Shape Kind)) → IsPlainAt old end (push_of shape)
+push_is_plain old None shape = tt
+push_is_plain old (Some e) None = tt
+push_is_plain old (Some e) (Some shape) = plain_if old e (Requests.Push shape) (λ refusal. tt) refl
 
 -- ---- a find
 
@@ -227,12 +222,3 @@ find_is_plain old (Some e) name = record { fits = λ refusal. tt; memory = λ re
 pub told_made : (old : Image Kind) (n : ℕ) (e : End) (request : Request (Shape Kind)) (asked : RequestOrRefusal) (found : Option Refusal) → end_of n ≡ Some e → asked ≡ Ok request → refusal_of builtin old e request ≡ found → IsMade old (end_of n) asked (Err (unwrap_or found NoMemory))
 told_made old n e request asked found at is first =
     inr (sym (ap (λ (end : Option End). Err (refused_at old end asked)) at ∙ ap (λ (a : RequestOrRefusal). Err (refused_at old (Some e) a)) is ∙ ap (λ (f : Option Refusal). Err (unwrap_or f NoMemory)) first))
-
--- a push that has a kind, a name and marks
-pushed : (fault : Option MakeFault) (shape : Shape Kind) → is_none fault ≡ true → push_if fault shape ≡ Ok (Requests.Push shape)
-pushed None shape none = refl
-pushed (Some fault) shape none = absurd cc
-
-pub push_asked : (name : List ℕ) (rd wr : MarkPair) (kind : Option Kind) (k : Kind) → kind ≡ Some k → is_none (make_fault name rd wr) ≡ true → push_of name rd wr kind ≡ Ok (Requests.Push (new_shape 0 name rd wr k))
-push_asked name rd wr kind k is none =
-    ap (λ (found : Option Kind). push_of name rd wr found) is ∙ pushed (make_fault name rd wr) (new_shape 0 name rd wr k) none

@@ -69,7 +69,8 @@ behind_common closed broken looks rd wr long by rows bare same =
 abbrev sending : Image Kind → End → List (Bool × Refusal) → List (Bool × Refusal)
 sending image e rows = common_refusals image e (Requests.Canput 0) ++ rows
 
--- the first of the rows of a call that sends, by whether its arguments are wrong, whether a part is too long, and the band of an ordinary message
+-- the first of the rows of a call that sends, by whether its arguments are wrong, whether a part is too long,
+-- and the band of an ordinary message
 abbrev sending_first : Image Kind → End → Bool → Bool → Option ℕ → Option Refusal
 sending_first image e invalid long band =
     first_that_holds (sending image e ((invalid, Invalid) ∷ (long, TooLong) ∷ waiting_refusals image e band))

@@ -1,7 +1,7 @@
 -- The requests that the arguments of a call make, or the reasons for which they make none.
-use Rattle.std.specs.Prelude.{ℕ, ◌/◌, ◌%◌, nat_eq, nat_le, min, Bool, Option, Some, None, Result, Ok, Err, List, [], length, if◌then◌else◌, option_map}
+use Rattle.std.specs.Prelude.{ℕ, ◌/◌, ◌%◌, nat_eq, min, Bool, Option, Some, None, Result, Ok, Err, List, [], length, if◌then◌else◌, option_map}
 use Rattle.strm_msg.specs.Message.{Part}
-use Rattle.strm_module.specs.Shape.{MarkPair, make_fault, is_split, new_shape}
+use Rattle.strm_module.specs.Shape.{MarkPair, make_fault, is_split, new_shape, noenabled}
 use Rattle.strm_module.specs.declared.shape.MakeFault.{MakeFault}
 use Rattle.strm_module.specs.declared.kind.Kind.{Kind}
 use Rattle.strm_module.specs.declared.kind.Kind.TheVariants as Kinds
@@ -13,8 +13,8 @@ use Rattle.strm_head_calls.specs.declared.request.Priority.{Priority}
 use Rattle.strm_head_calls.specs.declared.request.PutFlag.{PutFlag}
 use Rattle.strm_head_calls.specs.declared.request.Request.{Request}
 use Rattle.strm_head_calls.specs.declared.request.Request.TheVariants as Requests
-use Rattle.strm_c_numbers.specs.Numbers.{sides_of, mode_of, prot_of}
-use Rattle.strm_c_calls.specs.Codes.{priority_of, wanted_of, put_flag_of, get_flag_of}
+use Rattle.strm_c_numbers.specs.Numbers.{band_of, sides_of, mode_of, prot_of}
+use Rattle.strm_c_calls.specs.Codes.{priority_of, wanted_of, put_flag_of, get_flag_of, noenable_of}
 
 -- a request, or the refusal of arguments that make none
 abbrev pub RequestOrRefusal : Type 0
@@ -44,9 +44,6 @@ ioctl cmd has_dat dat = Requests.Str cmd (part_argument has_dat dat)
 -- the most bytes that the caller asks for: the length of the buffer, up to the greatest u16
 abbrev pub most_of : Bool → List ℕ → Option ℕ
 most_of has buffer = if has then Some (min (length buffer) 65535) else None
-
-abbrev pub band_of : ℕ → Option ℕ
-band_of band = if nat_le band 255 then Some band else None
 
 abbrev pub putmsg_of : Bool → List ℕ → Bool → List ℕ → ℕ → RequestOrRefusal
 putmsg_of has_ctl ctl has_dat dat flags =
@@ -99,16 +96,25 @@ kind_of kind number table =
 abbrev pub marks_argument : ℕ → ℕ → MarkPair
 marks_argument hi lo = if nat_eq hi 0 then None else Some (hi, lo)
 
--- the push of a module with a name and marks that modules can have; else EINVAL
-abbrev pub push_if : Option MakeFault → Shape Kind → RequestOrRefusal
-push_if None shape = Ok (Requests.Push shape)
-push_if (Some fault) shape = Err Invalid
+-- the shape of a module of serial 0 with a name and marks that modules can have
+abbrev pub shape_if : Option MakeFault → Shape Kind → Option (Shape Kind)
+shape_if None shape = Some shape
+shape_if (Some fault) shape = None
 
--- the push of a new module of serial 0
-abbrev pub push_of : List ℕ → MarkPair → MarkPair → Option Kind → RequestOrRefusal
-push_of name rd wr kind = ask kind (λ k. push_if (make_fault name rd wr) (new_shape 0 name rd wr k))
+-- under noenable its service procedures are the program's
+abbrev pub noenabled_if : Bool → Shape Kind → Shape Kind
+noenabled_if noenable shape = if noenable then noenabled shape else shape
+
+abbrev pub shape_of : List ℕ → MarkPair → MarkPair → Option Kind → Option Bool → Option (Shape Kind)
+shape_of name rd wr None noenable = None
+shape_of name rd wr (Some kind) None = None
+shape_of name rd wr (Some kind) (Some noenable) = shape_if (make_fault name rd wr) (noenabled_if noenable (new_shape 0 name rd wr kind))
+
+-- the push of a new module of a shape
+abbrev pub push_of : Option (Shape Kind) → RequestOrRefusal
+push_of shape = ask shape (λ it. Ok (Requests.Push it))
 
 -- the push of a new module of a kind that a number names
-abbrev pub push_kind_of : List ℕ → ℕ → ℕ → ℕ → ℕ → ℕ → ℕ → List ℕ → RequestOrRefusal
-push_kind_of name kind rd_hi rd_lo wr_hi wr_lo number table =
-    push_of name (marks_argument rd_hi rd_lo) (marks_argument wr_hi wr_lo) (kind_of kind number table)
+abbrev pub push_kind_of : List ℕ → ℕ → ℕ → ℕ → ℕ → ℕ → ℕ → List ℕ → ℕ → RequestOrRefusal
+push_kind_of name kind rd_hi rd_lo wr_hi wr_lo number table flags =
+    push_of (shape_of name (marks_argument rd_hi rd_lo) (marks_argument wr_hi wr_lo) (kind_of kind number table) (noenable_of flags))

@@ -45,6 +45,10 @@ driver_of n =
     if nat_eq n 0 then Some Drivers.Echo else if nat_eq n 1 then Some Drivers.Loop else if nat_eq n 2 then Some Drivers.Line
     else if nat_eq n 3 then Some Drivers.Wire else None
 
+-- whether a module is pushed under noenable, by its flags: STRM_NOENABLE is 1
+abbrev pub noenable_of : ℕ → Option Bool
+noenable_of flags = if nat_eq flags 0 then Some false else if nat_eq flags 1 then Some true else None
+
 -- the priority of a putmsg by its flags: RS_HIPRI is 1
 abbrev pub priority_of : ℕ → Option Priority
 priority_of flags = if nat_eq flags 0 then Some Priorities.Norm else if nat_eq flags 1 then Some Priorities.Hipri else None

@@ -6,6 +6,5 @@ pub mod Returned
 pub mod Fits
 pub mod Call
 pub mod Arrival
-pub mod Outside
 pub mod OnHandle
 pub mod Polls

@@ -8,9 +8,7 @@ use Rattle.strm_c_calls.specs.Arguments.{RequestOrRefusal, part_argument}
 use Rattle.strm_c_calls.specs.Arrival.{CopiesAndHandsIn, arrival_refusal}
 use Rattle.strm_c_calls.specs.Call.{Calls, CopiesAndCalls, Opens}
 use Rattle.strm_c_calls.specs.Judged.{IsMade}
-use Rattle.strm_c_calls.specs.Outside.{TakesWhole, TellsNext, stays_for_room}
 use Rattle.strm_c_calls.specs.declared.handle.Handle.{Handle}
-use Rattle.strm_c_calls.specs.declared.returned.Returned.{Returned}
 
 -- an open, which leaves the handle as it was if it fails
 abbrev pub OpensOn : Handle → Option Driver → ℕ × ℕ → ℕ × ℕ → ℤ → Handle → Type 0
@@ -32,12 +30,3 @@ CopiesAndCallsOn old end asked writes code new = CopiesAndCalls old.held.stream 
 abbrev pub ArrivesOn : Handle → ℕ → ℕ → Bool → List ℕ → Bool → List ℕ → ℕ → ℤ → Handle → Type 0
 ArrivesOn old kind band has_ctl ctl has_dat dat number code new =
     CopiesAndHandsIn (arrival_refusal old.held.stream has_ctl ctl has_dat dat) (has_ctl || has_dat) old.held.stream (message_of kind band (part_argument has_ctl ctl) (part_argument has_dat dat) number) code new.held.stream
-
--- a take of a whole message, by the room for its parts
-abbrev pub TakesWholeOn : Handle → ℕ → Option ℕ → Option ℕ → (Answer → Type 0) → ℤ → Handle → Type 0
-TakesWholeOn old end ctl dat writes code new =
-    TakesWhole (stays_for_room old.held.stream (end_of end) ctl dat) old.held.stream end writes code new.held.stream
-
--- the message that a take would return is described, and stays
-abbrev pub TellsNextOn : Handle → ℕ → Returned → Returned → ℤ → Handle → Type 0
-TellsNextOn old end told told' code new = TellsNext old.held.stream (end_of end) told told' code new.held.stream

@@ -1,20 +1,21 @@
 -- The parts of an answer that are written where the caller has room for them.
-use Rattle.std.specs.Prelude.{◌≡◌, ℕ, Option, Some, None, List, [], ◌∷◌, ◌++◌, map, length, slice_get, option_map, ℤ, pos}
+use Rattle.std.specs.Prelude.{◌≡◌, ℕ, Some, None, List, [], ◌∷◌, ◌++◌, map, length, slice_get, option_map, ℤ, pos}
 use Rattle.arrayvec.specs.ArrayVec.{ArrayVec}
-use Rattle.strm_msg.specs.Message.{Msg, Part}
-use Rattle.strm_msg.specs.declared.kind.MsgKind.TheVariants.{MHangup}
+use Rattle.strm_msg.specs.Message.{Part}
 use Rattle.strm_module.specs.declared.driver.Driver.{Driver}
 use Rattle.strm_module.specs.Driver.{driver_name}
 use Rattle.strm_head_calls.specs.declared.answer.Acknowledged.{Acknowledged}
 use Rattle.strm_head_calls.specs.declared.answer.Acknowledged.TheVariants.{Ack, Nak, Timeout}
 use Rattle.strm_head_calls.specs.declared.answer.Received.{Received}
 use Rattle.strm_head_calls.specs.declared.answer.Received.TheVariants as Receiveds
+use Rattle.strm_head_calls.specs.declared.service.Serviced.{Serviced}
+use Rattle.strm_head_calls.specs.declared.service.Serviced.TheVariants as Serviceds
 use Rattle.strm_head_calls.specs.declared.answer.Reply.{Reply}
 use Rattle.strm_head_calls.specs.declared.answer.Reply.TheVariants as Replies
 use Rattle.strm_head_calls.specs.declared.answer.Answer.{Answer}
 use Rattle.strm_head_calls.specs.declared.answer.Answer.TheVariants.{Done}
 use Rattle.strm_c_calls.specs.declared.returned.Returned.{Returned}
-use Rattle.strm_c_numbers.specs.Numbers.{read_number, int_of, kind_number, length_of}
+use Rattle.strm_c_numbers.specs.Numbers.{read_number, int_of, length_of}
 use Rattle.strm_c_numbers.specs.Bytes.{filled, filled_if}
 use Rattle.strm_c_calls.specs.Codes.{priority_number, more_number, bit_number}
 
@@ -23,7 +24,6 @@ abbrev pub ctl_of : Reply → Part
 ctl_of (Replies.Getmsg ctl dat flag more) = ctl
 ctl_of (Replies.Getpmsg ctl dat flag more) = ctl
 ctl_of (Replies.Peek (Some seen)) = seen.ctl
-ctl_of (Replies.Message m) = m.ctl
 ctl_of reply = None
 
 -- the data of a reply, if it has any
@@ -33,7 +33,6 @@ dat_of (Replies.Getpmsg ctl dat flag more) = dat
 dat_of (Replies.Peek (Some seen)) = seen.dat
 dat_of (Replies.Read dat) = Some dat
 dat_of (Replies.Str (Ack rval dat)) = dat
-dat_of (Replies.Message m) = m.dat
 dat_of reply = None
 
 abbrev pub received_flags : Received → ℕ
@@ -74,24 +73,13 @@ abbrev pub rval_of : Acknowledged → ℕ
 rval_of (Ack rval dat) = rval
 rval_of answer = 0
 
--- the description of a message that is taken whole from a wire: found, its kind and its band
-abbrev pub got_whole : Msg → Returned
-got_whole m = got m.ctl m.dat 1 (kind_number m.kind) m.band 0 0
-
 abbrev pub got_of : Reply → Returned
 got_of (Replies.Getmsg ctl dat flag more) = got ctl dat 1 (priority_number flag) 0 (more_number more) 0
 got_of (Replies.Getpmsg ctl dat flag more) = got ctl dat 1 (received_flags flag) (received_band flag) (more_number more) 0
 got_of (Replies.Peek (Some seen)) = got seen.ctl seen.dat 1 (priority_number seen.flag) 0 0 0
 got_of (Replies.Read dat) = got None (Some dat) 1 0 0 0 0
 got_of (Replies.Str answer) = got None (dat_of (Replies.Str answer)) (answer_number answer) 0 0 0 (rval_of answer)
-got_of (Replies.Message m) = got_whole m
-got_of Replies.Hangup = got None None 1 (kind_number MHangup) 0 0 0
 got_of reply = got None None 0 0 0 0 0
-
--- the reply of a take: the first message, or a hangup if there is none
-abbrev pub reply_next : Option Msg → Reply
-reply_next None = Replies.Hangup
-reply_next (Some m) = Replies.Message m
 
 -- the description of an answer; the earlier one if the answer is no reply
 abbrev pub got_after : Answer → Returned → Returned
@@ -109,6 +97,12 @@ pub record HasTaken (ctl dat : List ℕ) (told : Returned) (ctl' dat' : List ℕ
   pub bytes : dat' ≡ filled_if (part_after dat_of answer) dat
   pub told_is : told' ≡ got_after answer told
 
+-- the number of the reply of a service call
+abbrev pub serviced_value : Serviced → ℕ
+serviced_value (Serviceds.Bcanputnext can) = bit_number can
+serviced_value (Serviceds.Qsize messages) = messages
+serviced_value told = 0
+
 -- the number of a reply
 abbrev pub returned_value : Reply → ℕ
 returned_value (Replies.Write len) = len
@@ -118,6 +112,7 @@ returned_value (Replies.Canput can) = bit_number can
 returned_value (Replies.Ckband waits) = bit_number waits
 returned_value (Replies.Getband band) = band
 returned_value (Replies.Find found) = bit_number found
+returned_value (Replies.Service told) = serviced_value told
 returned_value reply = 0
 
 -- the second number of a reply: the data bytes of the first message

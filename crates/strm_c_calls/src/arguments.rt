@@ -8,7 +8,7 @@ use crate::codes::{get_flag_of, priority_of, put_flag_of, wanted_of};
 use crate::handle::Handle;
 use crate::judged::{find_refusal, putmsg_refusal, putpmsg_refusal, str_refusal, write_refusal};
 use std::alloc::Global;
-use strm_c_numbers::{end_of, mode_of, prot_of, sides_of};
+use strm_c_numbers::{band_of, end_of, mode_of, prot_of, sides_of};
 use strm_head_calls::{BoxedParts, Refusal, Request};
 use strm_module::{BoxedModule, Instance, Kind, MOST_SPLIT, Plain, Shape};
 use strm_msg::{Bytes, NoMem};
@@ -25,13 +25,6 @@ fn most_of(has: bool, buffer: &[u8]) -> Option<u16>
     } else {
         None
     }
-}
-
-/// The band of a number, if it is one.
-fn band_of(band: u32) -> Option<u8>
-    ensures { result ≡ asks.band_of band }
-{
-    if band <= 255 { Some(band as u8) } else { None }
 }
 
 /// A copy of a part, if it is there. Fails only when memory runs out, and never where there is no part.
@@ -346,25 +339,34 @@ pub fn marks_of(hi: u32, lo: u32) -> Option<(u32, u32)>
     if hi == 0 { None } else { Some((hi, lo)) }
 }
 
-/// The push of a module of this name, these marks and this kind, as `putmsg_of`.
-pub fn push_of(
-    alloc: Global,
-    s: &mut Handle,
-    end: u8,
+/// The shape of a module of this name, these marks and this kind, if there is one. Under noenable its service
+/// procedures are the program's.
+pub fn shape_of(
     name: &[u8],
     rd: Option<(u32, u32)>,
     wr: Option<(u32, u32)>,
     kind: Option<Kind>,
-) -> Asked
+    noenable: Option<bool>,
+) -> Option<Shape<Kind>>
+    ensures { result ≡ asks.shape_of name.now rd wr kind noenable }
+{
+    let kind = kind?;
+    let noenable = noenable?;
+    match Shape::new(0, name, rd, wr, kind) {
+        Ok(shape) if noenable => Some(shape.noenabled()),
+        Ok(shape) => Some(shape),
+        Err(_) => None,
+    }
+}
+
+/// The push of a module of this shape, if there is one, as `putmsg_of`.
+pub fn push_of(alloc: Global, s: &mut Handle, end: u8, shape: Option<Shape<Kind>>) -> Asked
     requires { s.old.is_open ≡ true }
     ensures open { s.new.is_open ≡ true }
     ensures same { s.new.held ≡ s.old.held }
-    ensures made { IsMadeOn s.old end (asks.push_of name.now rd wr kind) result }
+    ensures made { IsMadeOn s.old end (asks.push_of shape) result }
 {
-    let Some(kind) = kind else {
-        return Err(Refusal::Invalid);
-    };
-    let Ok(shape) = Shape::new(0, name, rd, wr, kind) else {
+    let Some(shape) = shape else {
         return Err(Refusal::Invalid);
     };
     let Some(end) = end_of(end) else {

@@ -52,7 +52,7 @@ fn make(alloc: Global, s: &mut Handle, end: End, request: Request<BoxedModule<Pl
 }
 
 /// Makes the request of an exported call at the end of a number, and returns the answer.
-fn answered(alloc: Global, s: &mut Handle, end: u8, asked: Asked) -> Answer
+pub fn answered(alloc: Global, s: &mut Handle, end: u8, asked: Asked) -> Answer
     requires { s.old.is_open ≡ true }
     ensures open { s.new.is_open ≡ true }
     ensures answers { calls.Answers s.old.held.stream (calls.checked_call (end_of end) asked) result

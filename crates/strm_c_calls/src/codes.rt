@@ -46,6 +46,17 @@ pub fn driver_of(driver: u32) -> Option<Driver>
     }
 }
 
+/// Whether a module is pushed under noenable, by its flags.
+pub fn noenable_of(flags: u32) -> Option<bool>
+    ensures { result ≡ codes.noenable_of flags }
+{
+    match flags {
+        0 => Some(false),
+        1 => Some(true),
+        _ => None,
+    }
+}
+
 /// The priority that the flags of a putmsg name.
 pub fn priority_of(flags: u32) -> Option<Priority>
     ensures { result ≡ codes.priority_of flags }

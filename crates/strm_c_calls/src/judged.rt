@@ -33,7 +33,7 @@ fn is_before_length(refusal: Refusal) -> bool
 
 /// The refusal of a call. It is made of its refusal with parts of no byte, and of the refusal of a wrong
 /// length.
-fn or_length(is_wrong: bool, by: Refusal, refusal: Option<Refusal>) -> Option<Refusal>
+pub fn or_length(is_wrong: bool, by: Refusal, refusal: Option<Refusal>) -> Option<Refusal>
     ensures { result ≡ judged.or_length is_wrong by refusal }
 {
     if !is_wrong {

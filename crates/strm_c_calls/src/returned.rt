@@ -1,19 +1,18 @@
 //! The parts of an answer that are written where the caller has room for them.
-ghost use Rattle.std.specs.Prelude.{◌≡◌, pos, negsuc, option_copied};
+ghost use Rattle.std.specs.Prelude.{◌≡◌, pos, negsuc};
 ghost use Rattle.strm_head_calls.specs.declared.answer.Reply.TheVariants as Replies;
 ghost use Rattle.strm_c_numbers.specs.Numbers as numbers;
 ghost use Rattle.strm_c_numbers.specs.Bytes.{filled, filled_if};
 ghost use Rattle.strm_c_calls.specs.Codes as codes;
 ghost use Rattle.strm_c_calls.specs.Returned.{AreValues, HasTaken, IsNamed, IsValue};
-ghost use Rattle.strm_c_calls.specs.Returned.{ctl_of, dat_of, got_lengths, got_of, got_whole};
-ghost use Rattle.strm_c_calls.specs.Returned.{name_field, received_band, received_flags, reply_next};
+ghost use Rattle.strm_c_calls.specs.Returned.{ctl_of, dat_of, got_lengths, got_of};
+ghost use Rattle.strm_c_calls.specs.Returned.{name_field, received_band, received_flags};
 ghost use Rattle.strm_c_calls.specs.Returned.{returned_bytes, returned_count, returned_name};
-ghost use Rattle.strm_c_calls.specs.Returned.{returned_value};
+ghost use Rattle.strm_c_calls.specs.Returned.{returned_value, serviced_value};
 
 use crate::codes::{more_number, priority_number};
-use strm_c_numbers::{fill, fill_part, int_of, kind_number, length_of, read_number};
-use strm_head_calls::{Acknowledged, Answer, Received, Reply};
-use strm_msg::{Message, MsgKind};
+use strm_c_numbers::{fill, fill_part, int_of, read_number};
+use strm_head_calls::{Acknowledged, Answer, Received, Reply, Serviced};
 
 /// The description of a message or of an ioctl that is returned with its bytes.
 #[repr(C)]
@@ -25,9 +24,9 @@ pub struct Returned {
     pub dat_len: i32,
     /// 1, or 0 if nothing was found. For an ioctl its answer: STRM_ACK, STRM_NAK or STRM_TIMEOUT.
     pub found: i32,
-    /// RS_HIPRI or 0. For getpmsg MSG_HIPRI or MSG_BAND. For a message of a wire, the number of its kind.
+    /// RS_HIPRI or 0. For getpmsg MSG_HIPRI or MSG_BAND.
     pub flags: i32,
-    /// The band of the message of getpmsg, or of a wire.
+    /// The band of the message of getpmsg.
     pub band: i32,
     /// MORECTL, MOREDATA, both or neither.
     pub more: i32,
@@ -85,35 +84,6 @@ fn write_ack(answer: &Acknowledged, dat: &mut [u8]) -> Returned
     }
 }
 
-/// The description of a message that is taken whole from a wire.
-fn whole(m: &Message) -> Returned
-    ensures { result ≡ got_whole m.now }
-{
-    let flags = kind_number(m.kind);
-    Returned {
-        band: int_of(u64::from(m.band)),
-        ..lengths(length_of(m.ctl.as_ref()), length_of(m.dat.as_ref()), flags)
-    }
-}
-
-/// The description of a closed wire from which all messages were taken.
-fn hangup() -> Returned
-    ensures { result ≡ got_of Replies.Hangup }
-{
-    lengths(-1, -1, kind_number(MsgKind::MHangup))
-}
-
-/// Writes both parts of a message to buffers, and returns its description.
-fn write_whole(m: &Message, ctl: &mut [u8], dat: &mut [u8]) -> Returned
-    ensures control { ctl.new ≡ filled_if (ctl_of (Replies.Message m.now)) ctl.old }
-    ensures bytes { dat.new ≡ filled_if (dat_of (Replies.Message m.now)) dat.old }
-    ensures told { result ≡ got_of (Replies.Message m.now) }
-{
-    fill_part(ctl, m.ctl.as_ref());
-    fill_part(dat, m.dat.as_ref());
-    whole(m)
-}
-
 /// Writes the parts of a reply to buffers, and returns its description.
 fn write_reply(reply: &Reply, ctl: &mut [u8], dat: &mut [u8]) -> Returned
     ensures control { ctl.new ≡ filled_if (ctl_of reply.now) ctl.old }
@@ -164,19 +134,7 @@ fn write_reply(reply: &Reply, ctl: &mut [u8], dat: &mut [u8]) -> Returned
             lengths(-1, int_of(bytes.len() as u64), 0)
         }
         Reply::Str { answer } => write_ack(answer, dat),
-        Reply::Message { m } => write_whole(m, ctl, dat),
-        Reply::Hangup => hangup(),
         _ => nothing(0),
-    }
-}
-
-/// The description of the message that a take would return, or of the hangup if there is none.
-pub fn write_next(first: Option<&Message>) -> Returned
-    ensures { result ≡ got_of (reply_next (option_copied first.entry)) }
-{
-    match first {
-        Some(m) => whole(m),
-        None => hangup(),
     }
 }
 
@@ -196,6 +154,17 @@ fn bit(truth: bool) -> u64
     if truth { 1 } else { 0 }
 }
 
+/// The number of the reply of a service call, or 0 if it has none.
+fn serviced_value(told: Serviced) -> u64
+    ensures { result ≡ serviced_value told }
+{
+    match told {
+        Serviced::Bcanputnext { can } => bit(can),
+        Serviced::Qsize { messages } => messages,
+        Serviced::Putbq | Serviced::Putnext => 0,
+    }
+}
+
 /// The number of a reply, or 0 if it has none.
 fn value_of(reply: &Reply) -> u64
     ensures { result ≡ returned_value reply.now }
@@ -208,6 +177,7 @@ fn value_of(reply: &Reply) -> u64
         Reply::Ckband { waits } => bit(*waits),
         Reply::Getband { band } => *band,
         Reply::Find { found } => bit(*found),
+        Reply::Service { told } => serviced_value(*told),
         _ => 0,
     }
 }

@@ -1,3 +1,4 @@
 pub mod Numbers
 pub mod Bytes
 pub mod Messages
+pub mod Whole

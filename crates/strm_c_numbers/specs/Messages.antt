@@ -24,13 +24,6 @@ flush_msg band flags =
     if nat_le flags 3 then option_map (λ sides. bare (MFlush sides.0 sides.1 None)) (sides_of flags)
     else option_map (λ sides. bare (MFlush sides.0 sides.1 (Some band))) (sides_of (flags - 4))
 
--- a message without parts, by the number of its kind; a further number has the flags of a flush
-abbrev pub bare_of : ℕ → ℕ → ℕ → Option Msg
-bare_of kind band number =
-    if nat_eq kind 134 then flush_msg band number
-    else if nat_eq kind 137 then Some (bare MHangup)
-    else None
-
 -- a byte of an error: an errno, or NOERROR, which is 255 and leaves the side as it is
 abbrev pub side_errno_of : ℕ → Option (Option Errno)
 side_errno_of byte = if nat_eq byte 255 then Some None else option_map (λ errno. Some errno) (errno_of byte)
@@ -53,13 +46,20 @@ abbrev pub options_msg : Option MsgKind → Option Msg
 options_msg (Some (MSetopts mode prot marks)) = Some (bare (MSetopts mode prot marks))
 options_msg asked = None
 
--- the message of a kind by its number in sys/stream.h: M_DATA is 0x00, M_PROTO 0x01, M_SETOPTS 0x10,
--- M_PCPROTO 0x83, M_FLUSH 0x86, M_HANGUP 0x89 and M_ERROR 0x8a
+-- a message without parts, by the number of its kind: M_SETOPTS is 0x10, M_FLUSH 0x86, M_HANGUP 0x89 and
+-- M_ERROR 0x8a. Its data say what is set, and which errors; a further number has the flags of a flush
+abbrev pub bare_of : ℕ → ℕ → Part → ℕ → Option Msg
+bare_of kind band dat number =
+    if nat_eq kind 16 then options_msg (options_asked dat)
+    else if nat_eq kind 134 then flush_msg band number
+    else if nat_eq kind 137 then Some (bare MHangup)
+    else if nat_eq kind 138 then error_msg dat number
+    else None
+
+-- the message of a kind by its number in sys/stream.h: M_DATA is 0x00, M_PROTO 0x01 and M_PCPROTO 0x83
 abbrev pub message_of : ℕ → ℕ → Part → Part → ℕ → Option Msg
 message_of kind band ctl dat number =
     if nat_eq kind 0 then option_map (λ bytes. data_msg band bytes) dat
     else if nat_eq kind 1 then option_map (λ bytes. proto_msg band bytes dat) ctl
-    else if nat_eq kind 16 then options_msg (options_asked dat)
     else if nat_eq kind 131 then option_map (λ bytes. pcproto_msg bytes dat) ctl
-    else if nat_eq kind 138 then error_msg dat number
-    else bare_of kind band number
+    else bare_of kind band dat number

@@ -1,6 +1,6 @@
 -- The numbers of errors, kinds of message, sides, modes and lengths in C (errno(3), stropts.h and
 -- sys/stream.h of System V Release 4).
-use Rattle.std.specs.Prelude.{ℕ, ◌+◌, nat_eq, min, Bool, true, false, Option, Some, None, length, if◌then◌else◌, ℤ, pos, negsuc}
+use Rattle.std.specs.Prelude.{ℕ, ◌+◌, nat_eq, nat_le, min, Bool, true, false, Option, Some, None, length, if◌then◌else◌, ℤ, pos, negsuc}
 use Rattle.strm_msg.specs.Message.{Part}
 use Rattle.strm_msg.specs.declared.kind.MsgKind.{MsgKind}
 use Rattle.strm_msg.specs.declared.kind.MsgKind.TheVariants.{MData, MProto, MPcproto, MIoctl, MSetopts, MIocack, MIocnak, MFlush, MHangup, MError}
@@ -8,6 +8,8 @@ use Rattle.strm_msg.specs.declared.errno.Errno.{Errno}
 use Rattle.strm_msg.specs.declared.errno.Errno.TheVariants.{EBADF, ENOSR, EINVAL, ERANGE, ENXIO, EBADMSG, ENODATA, EAGAIN, ETIME, EIO, EPROTO}
 use Rattle.strm_msg.specs.declared.words.End.{End}
 use Rattle.strm_msg.specs.declared.words.End.TheVariants as Ends
+use Rattle.strm_msg.specs.declared.words.Side.{Side}
+use Rattle.strm_msg.specs.declared.words.Side.TheVariants as Sides
 use Rattle.strm_msg.specs.declared.words.ReadMode.{ReadMode}
 use Rattle.strm_msg.specs.declared.words.ReadMode.TheVariants.{Rnorm, Rmsgn, Rmsgd}
 use Rattle.strm_msg.specs.declared.words.Prot.{Prot}
@@ -44,6 +46,14 @@ kind_number (MError rd wr) = 138
 -- the end of a number
 abbrev pub end_of : ℕ → Option End
 end_of n = if nat_eq n 0 then Some Ends.A else if nat_eq n 1 then Some Ends.B else None
+
+-- the side of a number
+abbrev pub side_of : ℕ → Option Side
+side_of n = if nat_eq n 0 then Some Sides.Rd else if nat_eq n 1 then Some Sides.Wr else None
+
+-- the band of a number
+abbrev pub band_of : ℕ → Option ℕ
+band_of n = if nat_le n 255 then Some n else None
 
 -- the sides of a flush, the read side first: FLUSHR is 1 and FLUSHW is 2
 abbrev pub sides_of : ℕ → Option (Bool × Bool)

@@ -1,13 +1,17 @@
 //! Numbers and bytes that pass to and from C: numbers for errnos, kinds of message, ends, sides and modes,
-//! bytes in a buffer, and the message of a line or a wire by the numbers of its kind and parts.
+//! bytes in a buffer, and a message by its numbers and parts.
 #![tactic(auto)]
 
 mod bytes;
 mod message;
 mod numbers;
+mod whole;
 
 pub use bytes::{fill, fill_part, length_of};
 pub use message::message_of;
 pub use numbers::{
-    end_of, errno_of, int_of, kind_number, mode_of, number_of, prot_of, read_number, sides_of,
+    band_of, end_of, errno_of, int_of, mode_of, number_of, prot_of, read_number, side_of, sides_of,
+};
+pub use whole::{
+    Whole, data_length, emptied_message, fill_data, whole_message, whole_of, whole_returns,
 };

@@ -1,11 +1,11 @@
 //! The message of a line or a wire, by the number of its kind, its parts, and a further number.
-ghost use Rattle.std.specs.Prelude.{◌≡◌, true, IfSome};
+ghost use Rattle.std.specs.Prelude.{◌≡◌, true, IfSome, option_copied, option_map};
 ghost use Rattle.strm_msg.specs.Kind.{is_from_line};
 ghost use Rattle.strm_msg.specs.Options.{options_asked};
 ghost use Rattle.strm_c_numbers.specs.Messages as messages;
 
 use crate::numbers::{errno_of, sides_of};
-use strm_msg::{Bytes, Errno, Message, MsgKind, options_asked};
+use strm_msg::{Bytes, Errno, Message, MsgKind, options_in};
 
 /// The number for a side that an M_ERROR leaves as it is (NOERROR).
 const NOERROR: u8 = 255;
@@ -25,11 +25,11 @@ fn flush_of(band: u8, flags: u32) -> Option<Message>
 }
 
 /// The options of the head that data ask for, if they ask for any.
-fn options_of(dat: &Option<Bytes>) -> Option<Message>
-    ensures message { result ≡ messages.options_msg (options_asked dat.now) }
+fn options_of(dat: Option<&[u8]>) -> Option<Message>
+    ensures message { result ≡ messages.options_msg (options_asked (option_map (λ bytes. bytes.now) dat.entry)) }
     ensures line { IfSome result (λ m. is_from_line m.kind ≡ true) }
 {
-    match options_asked(dat) {
+    match options_in(dat?) {
         Some(MsgKind::MSetopts { mode, prot, marks }) => {
             Some(Message::of_setopts(mode, prot, marks))
         }
@@ -60,29 +60,41 @@ fn error_of_sides(read: u8, write: u8) -> Option<Message>
 
 /// The error of one byte for both sides, or of one byte for each. Without data, the error of a number for
 /// both. Nothing if they say no error.
-fn error_of(dat: &Option<Bytes>, number: u32) -> Option<Message>
-    ensures message { result ≡ messages.error_msg dat.now number }
+fn error_of(dat: Option<&[u8]>, number: u32) -> Option<Message>
+    ensures message { result ≡ messages.error_msg (option_map (λ bytes. bytes.now) dat.entry) number }
     ensures line { IfSome result (λ m. is_from_line m.kind ≡ true) }
 {
     let Some(bytes) = dat else {
         return Some(Message::of_error(errno_of(number)?));
     };
-    match bytes.as_slice() {
+    match bytes {
         [both] => error_of_sides(*both, *both),
         [read, write] => error_of_sides(*read, *write),
         _ => None,
     }
 }
 
-/// The message without parts of these numbers, if they make one.
-fn bare_of(kind: u32, band: u8, number: u32) -> Option<Message>
-    ensures message { result ≡ messages.bare_of kind band number }
+/// The message without parts of these numbers and data, if they make one.
+pub fn bare_of(kind: u32, band: u8, dat: Option<&[u8]>, number: u32) -> Option<Message>
+    ensures message { result ≡ messages.bare_of kind band (option_map (λ bytes. bytes.now) dat.entry) number }
     ensures line { IfSome result (λ m. is_from_line m.kind ≡ true) }
 {
     match kind {
+        16 => options_of(dat),
         134 => flush_of(band, number),
         137 => Some(Message::of_hangup()),
+        138 => error_of(dat, number),
         _ => None,
+    }
+}
+
+/// The bytes of a part, if it is there.
+fn slice_of(part: &Option<Bytes>) -> Option<&[u8]>
+    ensures { option_copied result ≡ part.now }
+{
+    match part {
+        Some(bytes) => Some(bytes.as_slice()),
+        None => None,
     }
 }
 
@@ -100,12 +112,7 @@ pub fn message_of(
     match kind {
         0 => {
             drop(ctl);
-            Some(Message {
-                kind: MsgKind::MData,
-                band,
-                ctl: None,
-                dat: Some(dat?),
-            })
+            Some(Message::of_bytes(band, dat?))
         }
         1 => Some(Message {
             kind: MsgKind::MProto,
@@ -113,28 +120,17 @@ pub fn message_of(
             ctl: Some(ctl?),
             dat,
         }),
-        16 => {
-            drop(ctl);
-            let options = options_of(&dat);
-            drop(dat);
-            options
-        }
         131 => Some(Message {
             kind: MsgKind::MPcproto,
             band: 0,
             ctl: Some(ctl?),
             dat,
         }),
-        138 => {
-            drop(ctl);
-            let error = error_of(&dat, number);
-            drop(dat);
-            error
-        }
         _ => {
+            let m = bare_of(kind, band, slice_of(&dat), number);
             drop(ctl);
             drop(dat);
-            bare_of(kind, band, number)
+            m
         }
     }
 }

@@ -3,11 +3,12 @@ ghost use Rattle.std.specs.Prelude.{◌≡◌, ◌≤◌, pos};
 ghost use Rattle.strm_c_numbers.specs.Numbers as numbers;
 ghost use Rattle.strm_c_numbers.specs.Messages as messages;
 
-use strm_msg::{End, Errno, MsgKind, Prot, ReadMode};
+use strm_msg::{End, Errno, MsgKind, Prot, ReadMode, Side};
 
 /// The number of an errno (errno.h on Linux).
-pub fn number_of(errno: Errno) -> i32
-    ensures { result ≡ pos (numbers.errno_number errno) }
+pub fn errno_number(errno: Errno) -> u32
+    ensures value { result ≡ numbers.errno_number errno }
+    ensures most { result ≤ 74 }
 {
     match errno {
         Errno::EBADF => 9,
@@ -22,6 +23,13 @@ pub fn number_of(errno: Errno) -> i32
         Errno::EIO => 5,
         Errno::EPROTO => 71,
     }
+}
+
+/// The same number, as calls return it.
+pub fn number_of(errno: Errno) -> i32
+    ensures { result ≡ pos (numbers.errno_number errno) }
+{
+    errno_number(errno) as i32
 }
 
 /// The errno of a number, if it is one of `Errno`.
@@ -45,8 +53,8 @@ pub fn errno_of(number: u32) -> Option<Errno>
 }
 
 /// The number of a kind of message (sys/stream.h).
-pub fn kind_number(kind: MsgKind) -> i32
-    ensures { result ≡ pos (numbers.kind_number kind) }
+pub fn kind_number(kind: MsgKind) -> u32
+    ensures { result ≡ numbers.kind_number kind }
 {
     match kind {
         MsgKind::MData => 0,
@@ -71,6 +79,24 @@ pub fn end_of(end: u8) -> Option<End>
         1 => Some(End::B),
         _ => None,
     }
+}
+
+/// The side of a number, if it is one.
+pub fn side_of(side: u32) -> Option<Side>
+    ensures { result ≡ numbers.side_of side }
+{
+    match side {
+        0 => Some(Side::Rd),
+        1 => Some(Side::Wr),
+        _ => None,
+    }
+}
+
+/// The band of a number, if it is one.
+pub fn band_of(band: u32) -> Option<u8>
+    ensures { result ≡ numbers.band_of band }
+{
+    if band <= 255 { Some(band as u8) } else { None }
 }
 
 /// The sides that the flags of a flush name, the read side first.

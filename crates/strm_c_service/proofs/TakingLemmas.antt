@@ -1,52 +1,27 @@
--- A poll tells what it is to and changes nothing, and a take gives what is told before it.
-use Rattle.std.proofs.Common.{◌≡◌, ◌&&◌, not, Bool, true, false, Option, Some, None, List, [], ◌∷◌, refl, sym, ap, subst, ◌∙◌, slice_get, if◌then◌else◌}
+-- A take gives what is told before it.
+use Rattle.std.proofs.Common.{◌≡◌, ◌&&◌, not, Bool, true, false, Option, Some, None, List, [], ◌∷◌, refl, sym, ap, ◌∙◌, slice_get, if◌then◌else◌}
 use Rattle.strm_msg.specs.Message.{Msg}
 use Rattle.strm_msg.specs.declared.words.End.{End}
 use Rattle.strm_module.specs.Builtin.{builtin}
 use Rattle.strm_module.specs.declared.kind.Kind.{Kind}
 use Rattle.strm_module.specs.declared.shape.Shape.{Shape}
-use Rattle.strm_chain_ends.specs.declared.place.Place.{Place}
 use Rattle.strm_chain_ends.specs.Image as Ends
 use Rattle.strm_chain_ends.specs.Image.{Image}
-use Rattle.strm_chain.specs.Service.{Leads}
 use Rattle.strm_head_calls.specs.declared.refusal.Refusal.{Refusal}
 use Rattle.strm_head_calls.specs.declared.refusal.Refusal.TheVariants.{Closed, Broken, Invalid, WouldWait}
 use Rattle.strm_head_calls.specs.Effect.{reply_after}
 use Rattle.strm_head_calls.specs.declared.request.Request.{Request}
 use Rattle.strm_head_calls.specs.declared.request.Request.TheVariants as Requests
-use Rattle.strm_head_calls.specs.declared.answer.Reply.TheVariants as Replies
 use Rattle.strm_head_calls.specs.declared.answer.Reply.{Reply}
 use Rattle.strm_head_calls.specs.declared.answer.Answer.{Answer}
 use Rattle.strm_head_calls.specs.declared.answer.Answer.TheVariants.{Done, Refused, Broke}
 use Rattle.strm_head_calls.specs.Refusal.{first_that_holds}
 use Rattle.strm_head_ioctl.specs.Ask.{is_empty}
 use Rattle.strm_head_ioctl.specs.Outside.{has_output, first_output, taken_out}
-use Rattle.strm_head_ioctl.specs.Poll.{polled}
 use Rattle.strm_head.specs.Effects.{refusal_of, wants_memory}
-use Rattle.strm_head.specs.Step.{SettlesUnless, IsRefusedBy}
+use Rattle.strm_head.specs.Step.{IsRefusedBy}
 use Rattle.strm_c_calls.specs.Call.{IsStep}
-use Rattle.strm_c_calls.specs.Returned.{reply_next}
-use Rattle.strm_c_calls.specs.Outside.{answer_next, next_at}
-
--- a stream from which no move is made stays as it is
-stays : (old settled : Image Kind) (broken : Bool) (moves : List Place) → moves ≡ [] → SettlesUnless builtin broken old moves settled → settled ≡ old
-stays old settled true moves none still = still.unchanged
-stays old settled false moves none settles = subst (λ (m : List Place). Leads builtin old m settled) none settles.leads
-
--- what a poll answers, and the stream behind it
-pub record IsTold (old : Image Kind) (e : End) (answer : Answer) (new : Image Kind) : Type 0 where
-  pub is : answer ≡ Done (Replies.Poll (polled old e))
-  pub unchanged : new ≡ old
-
-pub step_tells : (old new : Image Kind) (e : End) (answer : Answer) → IsStep old e Requests.Poll answer new → IsTold old e answer new
-step_tells old new e (Done reply) done =
-    let finished = done.step.2 in
-    record {
-      is = ap (λ (r : Reply). Done r) finished.replies;
-      unchanged = finished.leaves ∙ stays old finished.settled old.broken done.moves (done.step.1 refl) finished.settles;
-    }
-step_tells old new e (Refused refusal) done = absurd (let no : false ≡ true = done.step.is_first.1 in cc)
-step_tells old new e Broke done = absurd (let no : true ≡ false = done.step.1 in cc)
+use Rattle.strm_c_service.specs.Taking.{reply_next, answer_next, next_at}
 
 -- the refusals of a take: where none holds, the end has an output
 has_one : (no_output closed broken waits : Bool) → first_that_holds ((no_output && closed, Closed) ∷ (broken, Broken) ∷ (no_output, Invalid) ∷ (waits, WouldWait) ∷ []) ≡ None → no_output ≡ false

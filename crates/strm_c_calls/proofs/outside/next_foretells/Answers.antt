@@ -1,5 +1,0 @@
-use Rattle.strm_c_calls.proofs.OutsideLemmas.{next_is}
-use Rattle.strm_c_calls.proofs.outside.next_foretells.Goals as goal
-
-pub returns : goal.returns
-returns c = λ old new e answer step fits. next_is old new e answer step fits

@@ -1,0 +1,2 @@
+pub mod WholeLemmas
+pub mod ReturnLemmas

@@ -1,0 +1,2 @@
+pub mod TakingLemmas
+pub mod SendingLemmas

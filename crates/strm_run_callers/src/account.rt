@@ -69,7 +69,6 @@ impl<K: Drop, N: RunName<K>> Account<K, N> {
 
 /// Makes one call from a seat, whose entry is kept behind those before it, as its receipt shows it. The
 /// modules that came back are dropped, and so is a call that was not made. Fails only when memory runs out.
-#[inline(never)]
 pub(crate) fn call_on<M: ModuleOf, N: RunName<M::Kind>, R: Wait>(
     rt: &R,
     shared: &Shared<M, Of<N>>,

@@ -1,7 +1,6 @@
 -- What callers of a shared stream find of its history.
-use Rattle.std.proofs.Common.{◌≡◌, ℕ, ◌+◌, zero, suc, Bool, List, [], ◌∷◌, Option, Some, None, map, take, ap, refl, sym, ◌∙◌, subst}
+use Rattle.std.proofs.Common.{◌≡◌, ℕ, ◌+◌, zero, Bool, List, [], ◌∷◌, Option, Some, None, map, take, ap, refl, sym, ◌∙◌, subst}
 use Rattle.std.specs.Prelude.{flat_map}
-use Rattle.std.specs.Option.{option_or}
 use Rattle.std.proofs.lemmas.Simd.{map-map}
 use Rattle.arrayvec.specs.ArrayVec.{ArrayVec}
 use Rattle.strm_msg.specs.Message.{Msg}
@@ -16,7 +15,6 @@ use Rattle.strm_head_calls.specs.declared.answer.Answer.TheVariants as Answers
 use Rattle.strm_head_calls.specs.declared.answer.Reply.TheVariants as ReplyOf
 use Rattle.strm_head_calls.specs.declared.request.Request.{Request}
 use Rattle.strm_head_calls.specs.declared.request.Request.TheVariants as Requests
-use Rattle.strm_head_calls.specs.declared.refusal.Refusal.{Refusal}
 use Rattle.strm_head_calls.specs.declared.refusal.Refusal.TheVariants.{Invalid, HungUp}
 use Rattle.strm_head_calls.specs.Refusal.{first_that_holds}
 use Rattle.strm_head_calls.specs.declared.call.Call.{Call}
@@ -71,12 +69,18 @@ module _ {K : Type 0} (means : Meaning K) where
       hands_out image call.end call.request (Answers.Done reply) back (end_of step.2.settled call.end).state.kept step.0 step.2.replies comes
   made_back image call Answers.Broke moves out after back step comes = hands_out image call.end call.request Answers.Broke back None step.0 tt comes
 
-  called_back : (old new : LogValue K) (caller number : ℕ) (call : Call (Shape K)) (answer : Answer) (back : List (Option (Shape K))) (receipt : Option (ReceiptValue K)) → IsCalled means old caller number call answer back receipt new → HandsBackMade call answer back
-  called_back old new caller number call answer back receipt is =
+  -- the step of a call that was made
+  pub called_step : (old new : LogValue K) (caller number : ℕ) (call : Call (Shape K)) (answer : Answer) (back : List (Option (Shape K))) (receipt : Option (ReceiptValue K)) → (is : IsCalled means old caller number call answer back receipt new) → Step means old.image call.end (Asked call.request) answer is.enters.entry.moves is.enters.entry.out.items new.image
+  called_step old new caller number call answer back receipt is =
       let entry = is.enters.entry in
       let at_end : Step means old.image call.end entry.event entry.answer entry.moves entry.out.items new.image = subst (λ (e : End). Step means old.image e entry.event entry.answer entry.moves entry.out.items new.image) is.enters.at is.enters.step.step in
       let has : Step means old.image call.end (Asked call.request) entry.answer entry.moves entry.out.items new.image = subst (λ (event : Event (Shape K)). Step means old.image call.end event entry.answer entry.moves entry.out.items new.image) is.enters.has at_end in
-      made_back old.image call answer entry.moves entry.out.items new.image back (subst (λ (a : Answer). Step means old.image call.end (Asked call.request) a entry.moves entry.out.items new.image) is.enters.answers has) is.comes_back
+      subst (λ (a : Answer). Step means old.image call.end (Asked call.request) a entry.moves entry.out.items new.image) is.enters.answers has
+
+  called_back : (old new : LogValue K) (caller number : ℕ) (call : Call (Shape K)) (answer : Answer) (back : List (Option (Shape K))) (receipt : Option (ReceiptValue K)) → IsCalled means old caller number call answer back receipt new → HandsBackMade call answer back
+  called_back old new caller number call answer back receipt is =
+      let entry = is.enters.entry in
+      made_back old.image call answer entry.moves entry.out.items new.image back (called_step old new caller number call answer back receipt is) is.comes_back
 
   -- what a caller can tell of it
   pub hands_back : {A : Type 0} (Agrees : A → Answer → Type 0) (old : LogValue K) (caller number : ℕ) (call : Call (Shape K)) (result : Called (Shape K) K A) (new : LogValue K) → CallsBy means Agrees old caller number call result new → HandsBack Agrees call result

@@ -1,3 +1,5 @@
 pub mod ArrivalLemmas
 pub mod FoundLemmas
 pub mod TurnLemmas
+pub mod NewsLemmas
+pub mod WaitLemmas

@@ -3,3 +3,4 @@ pub mod Seat
 pub mod Ending
 pub mod CallCounts
 pub mod Arrivals
+pub mod Waiting

@@ -4,13 +4,16 @@
 //! legal: the stream alone, called by one thread in the order of the history, could have given it.
 #![tactic(auto)]
 
+mod bell;
 mod call_counts;
 mod ending;
 mod fault;
+mod news;
 mod seat;
 mod shared;
 mod state;
 
+pub use bell::Bell;
 pub use fault::EndFault;
 pub use seat::Seat;
 pub use shared::Shared;

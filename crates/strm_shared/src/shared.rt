@@ -1,26 +1,29 @@
 //! A stream that several callers share.
-ghost use Rattle.std.specs.Prelude.{◌≡◌, ◌↔◌, true, IfOk, OnOk, IsErrOf};
+ghost use Rattle.std.specs.Prelude.{◌≡◌, ◌↔◌, ◌+◌, ◌<◌, ◌^◌, true, IfOk, IfSome, OnOk, IsErrOf};
+ghost use Rattle.std.specs.Sync.Mutex.{mutex_guard_value};
 ghost use Rattle.strm_head_calls.specs.Setup.{is_fit};
 ghost use Rattle.strm_shared_log.specs.Log.{Equals};
 ghost use Rattle.strm_shared_log.specs.Serials.{AreAccounted};
 ghost use Rattle.strm_shared_log.specs.Opened.{opened};
 ghost use Rattle.strm_shared_ring.specs.Feed.{fresh_feeder};
-ghost use Rattle.strm_shared.specs.Ending.{fresh_seats, is_fed, AreSeats, AreShown, CountsAgree, Counted, HandsBack, Shows, LacksReceipt, IsLegalEnd, HasAccepted};
+ghost use Rattle.strm_shared.specs.Ending.{fresh_seats, is_fed, AreSeats, AreShown, room_of, CountsAgree, Counted, HandsBack, Shows, LacksReceipt, IsLegalEnd, HasAccepted};
 ghost use Rattle.strm_shared_entry.specs.Own.{AreFromSeats};
 ghost use Rattle.strm_shared.specs.CallCounts.{FollowsCalls, IsNextCall};
+ghost use Rattle.strm_shared.specs.Waiting.{NeedNotWait, WaitedFor};
 
+use crate::bell::Bell;
 use crate::ending::{have_ended, left_of};
 use crate::fault::EndFault;
 use crate::seat::Seat;
-use crate::state::SharedState;
+use crate::state::{Readiness, SharedState};
 use std::alloc::Global;
 use std::marker::Model;
-use std::sync::{Mutex, Wait};
+use std::sync::{Arc, Condvar, Mutex, MutexGuard, Wait};
 use strm_head_calls::{ReplyAndCopy, ReplyForm};
 use strm_module::{BoxedModule, ModuleOf};
 use strm_msg::NoMem;
 use strm_shared_ended::Ended;
-use strm_shared_log::{Call, Called, Setup, room_for};
+use strm_shared_log::{Call, Called, EntryRoom, Setup, room_for};
 use strm_shared_ring::{AnyCalls, FeedEnd, Feeder, Ring, StreamRunName};
 
 /// A stream that several callers share.
@@ -33,6 +36,8 @@ pub struct Shared<M: ModuleOf, N: StreamRunName<M::Kind> = AnyCalls> {
     seats: u32,
     alloc: Global,
     locked: Mutex<SharedState<M, N>>,
+    changed: Condvar,
+    bell: Option<Arc<Bell, Global>>,
 }
 
 impl<M: ModuleOf, N: StreamRunName<M::Kind>> Model for Shared<M, N> {
@@ -90,8 +95,25 @@ impl<M: ModuleOf, N: StreamRunName<M::Kind>> Shared<M, N> {
             seats,
             alloc,
             locked: Mutex::new(locked),
+            changed: Condvar::new(),
+            bell: None,
         };
         Ok((shared, all, feeder))
+    }
+
+    /// The stream with a bell, in place of the one that it had. It rings the bell whenever it may have changed,
+    /// after its lock was given back.
+    ///
+    /// Each call rings that let in messages of the line. So does each other call, but for two kinds. One was
+    /// refused; the other only looks, as a poll, a peek and an I_NREAD do (streamio(7)). So a caller who tries
+    /// or polls its streams in turn does not ring for itself.
+    pub fn with_bell(self, bell: Arc<Bell, Global>) -> Shared<M, N>
+        ensures { result ≡ self }
+    {
+        Shared {
+            bell: Some(bell),
+            ..self
+        }
     }
 
     /// The number.
@@ -147,13 +169,111 @@ impl<M: ModuleOf, N: StreamRunName<M::Kind>> Shared<M, N> {
         ensures back { HandsBack A.Agrees call result }
         ensures shown { Shows A.Agrees seat.old call result }
     {
-        if seat.calls() == u64::MAX {
-            return Called::NoRoom(call);
-        }
-        let Ok(room) = room_for(self.alloc, seat.caller(), seat.calls() + 1, &call) else {
+        let Some(room) = self.room_for_next(seat, &call) else {
             return Called::NoRoom(call);
         };
-        self.locked.lock(rt).call::<A>(seat, call, room)
+        let mut locked = self.locked.lock(rt);
+        let (called, is_news) = locked.call_with_news::<A>(self.bell.is_some(), seat, call, room);
+        drop(locked);
+        self.tell(rt, is_news);
+        called
+    }
+
+    /// Makes one call of a caller, as `enter` makes it, as soon as it need not wait. While it would be refused
+    /// with EAGAIN, the caller sleeps. It looks again when the stream may have changed, or `wake` was called.
+    /// So a getmsg(2) waits for a message, and a putmsg(2) or a write(2) for room. Any other refusal comes at
+    /// once, such as that of an end that was hung up or closed meanwhile.
+    ///
+    /// Before each look the messages of the line come in that can. No other call comes between the last look
+    /// and this one. The call comes back when memory runs out, for its entry or for a message of the line. It
+    /// also comes back where the seat can count no more. Then it has changed nothing.
+    ///
+    /// It may sleep for ever. Nothing is said of who comes first, or that anybody does. An ioctl for which no
+    /// id is left sleeps for good: ids do not come back (I_STR, streamio(7)). A feeder wakes nobody, so a
+    /// program that feeds a line calls `wake`. A caller that is to stop is best woken by a hangup, or by a
+    /// close of the end.
+    pub fn call_waiting<A: ReplyForm, R: Wait>(
+        &self,
+        rt: &R,
+        seat: &mut Seat,
+        call: Call<BoxedModule<M>>,
+    ) -> Called<BoxedModule<M>, M::Kind, A::CallerCopy>
+        requires number { seat.old.number ≡ self.now.number }
+        requires next { IsNextCall N.calls seat.old call }
+        ensures counts { Counted call seat.old result seat.new }
+        ensures back { HandsBack A.Agrees call result }
+        ensures shown { Shows A.Agrees seat.old call result }
+        ensures waited { WaitedFor A.Agrees result }
+    {
+        let Some(room) = self.room_for_next(seat, &call) else {
+            return Called::NoRoom(call);
+        };
+        let (mut locked, before, is_ready) = self.lock_when_ready(rt, &call);
+        let called = locked.call_if::<A>(is_ready, seat, call, room);
+        let is_news = locked.take_news(before, self.bell.is_some());
+        drop(locked);
+        self.tell(rt, is_news);
+        called
+    }
+
+    /// Lets those who sleep on the stream look again, and rings its bell. To be called after a feeder has taken
+    /// a message: a feeder takes no lock and wakes nobody.
+    pub fn wake<R: Wait>(&self, rt: &R) {
+        let is_awaited = self.locked.lock(rt).take_sleepers();
+        self.tell(rt, is_awaited || self.bell.is_some());
+    }
+
+    /// Room for the entry of the seat's next call. Nothing where the seat can count no more, or when memory
+    /// runs out.
+    #[inline(always)]
+    fn room_for_next(&self, seat: &Seat, call: &Call<BoxedModule<M>>) -> Option<EntryRoom<M::Kind>>
+        ensures counts { IfSome result (λ room. seat.now.calls + 1 < 2 ^ 64) }
+        ensures room { IfSome result (λ room. room ≡ room_of seat.now call.now) }
+    {
+        if seat.calls() == u64::MAX {
+            return None;
+        }
+        room_for(self.alloc, seat.caller(), seat.calls() + 1, call).ok()
+    }
+
+    /// Takes the lock when a call need not wait, or when memory ran out for a message of the line. With it
+    /// comes the number of entries that the history had before the last messages came in, and whether the
+    /// call need not wait.
+    fn lock_when_ready<R: Wait>(
+        &self,
+        rt: &R,
+        call: &Call<BoxedModule<M>>,
+    ) -> (MutexGuard<'_, SharedState<M, N>>, usize, bool)
+        ensures { result.2 ≡ true → NeedNotWait M.Kind.means (mutex_guard_value result.0).log.image call.now }
+    {
+        let mut locked = self.locked.lock(rt);
+        for _ in rt.forever() {
+            let before = locked.count_entries();
+            match locked.readiness(call) {
+                Readiness::Ready => return (locked, before, true),
+                Readiness::NoMem => return (locked, before, false),
+                Readiness::Waits => locked = self.changed.wait(rt, locked),
+            }
+        }
+        unreachable!()
+    }
+
+    /// Where there is news, wakes those who sleep on the stream, and rings its bell. To be called when the lock
+    /// was given back.
+    #[inline(always)]
+    fn tell<R: Wait>(&self, rt: &R, is_news: bool) {
+        if is_news {
+            self.wake_all(rt);
+        }
+    }
+
+    /// Wakes those who sleep on the stream, and rings its bell.
+    #[inline(never)]
+    fn wake_all<R: Wait>(&self, rt: &R) {
+        self.changed.notify_all();
+        if let Some(bell) = &self.bell {
+            bell.ring(rt);
+        }
     }
 
     /// Ends the stream, when no caller and no feeder has it any more: its whole history, the stream to which
@@ -189,6 +309,8 @@ impl<M: ModuleOf, N: StreamRunName<M::Kind>> Shared<M, N> {
             seats: callers,
             alloc,
             locked,
+            changed: _,
+            bell: _,
         } = self;
         let locked = locked.into_inner();
         match have_ended(number, setup, callers, &locked, seats.as_slice(), &feed) {

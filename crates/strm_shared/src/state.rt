@@ -1,5 +1,5 @@
 //! The state under the lock of a shared stream.
-ghost use Rattle.std.specs.Prelude.{◌≡◌, ◌↔◌, ◌+◌, ◌<◌, ◌^◌, true, IfOk};
+ghost use Rattle.std.specs.Prelude.{◌≡◌, ◌↔◌, ◌+◌, ◌<◌, ◌^◌, true, false, IfOk, length};
 ghost use Rattle.strm_module.specs.Driver.{is_line};
 ghost use Rattle.strm_head_calls.specs.Setup.{is_fit};
 ghost use Rattle.strm_shared_entry.specs.Own.{arrivals};
@@ -9,12 +9,14 @@ ghost use Rattle.strm_shared_ring.specs.Inlet.{fresh_inlet};
 ghost use Rattle.strm_shared.specs.Ending.{room_of, Counted};
 ghost use Rattle.strm_shared.specs.CallCounts.{fresh_counts, turned, IsNextCall, KeepsTurns, SeatsAgree};
 ghost use Rattle.strm_shared.specs.Arrivals.{Intakes, SeatCalls, SeatCallsAfter, TakesAll};
+ghost use Rattle.strm_shared.specs.Waiting.{has_memory, Foretells, HasNews, MustWait, NeedNotWait, WaitedFor};
 
 use crate::call_counts::CallCounts;
+use crate::news::has_news;
 use crate::seat::Seat;
 use std::alloc::Global;
 use std::marker::Model;
-use strm_head_calls::ReplyForm;
+use strm_head_calls::{Refusal, ReplyForm};
 use strm_module::{BoxedModule, ModuleOf};
 use strm_msg::NoMem;
 use strm_shared_log::{Call, Called, EntryCell, EntryRoom, Landed, Log, Setup};
@@ -26,12 +28,15 @@ use strm_shared_ring::{Inlet, StreamRunName};
 /// While the calls are in turn, the counts are those of the history, and the calls of each caller are the
 /// first of those that the run has for it. The messages that came in, as the history has them, are those that
 /// have left the inlet.
+///
+/// A contract does not see whether somebody sleeps until the stream changes.
 #[derive(Drop)]
 pub(crate) struct SharedState<M: ModuleOf, N: StreamRunName<M::Kind>> {
     number: u32,
     log: Log<M>,
     turns: CallCounts,
     inlet: Inlet<M::Kind, N>,
+    is_awaited: bool,
 }
 
 impl<M: ModuleOf, N: StreamRunName<M::Kind>> Model for SharedState<M, N> {
@@ -52,6 +57,17 @@ pub(crate) enum Intake {
     /// There is none, or it cannot come in yet, and is held back.
     HeldBack,
     /// Memory ran out for it, and it is held back.
+    NoMem,
+}
+
+/// Whether a call can be made now, or its caller has to wait.
+#[derive(Clone, Copy)]
+pub(crate) enum Readiness {
+    /// It need not wait.
+    Ready,
+    /// It must wait: it would be refused with EAGAIN.
+    Waits,
+    /// Memory ran out for a message of the line.
     NoMem,
 }
 
@@ -80,6 +96,7 @@ impl<M: ModuleOf, N: StreamRunName<M::Kind>> SharedState<M, N> {
             log,
             turns,
             inlet,
+            is_awaited: false,
         })
     }
 
@@ -204,6 +221,125 @@ impl<M: ModuleOf, N: StreamRunName<M::Kind>> SharedState<M, N> {
         self.enter::<A>(seat, call, room, cell)
     }
 
+    /// Whether a call would have to wait, if it were made now.
+    fn would_wait(&self, call: &Call<BoxedModule<M>>) -> bool
+        ensures { result ≡ true ↔ MustWait M.Kind.means self.now.log.image call.now }
+    {
+        matches!(
+            self.log.stream().refusal(call.end, &call.request),
+            Some(Refusal::WouldWait)
+        )
+    }
+
+    /// Lets in the messages of the line that can come in, and says whether a call can be made then. Where it
+    /// must wait, its caller is taken for one who sleeps until the stream changes.
+    pub(crate) fn readiness(&mut self, call: &Call<BoxedModule<M>>) -> Readiness
+        ensures number { self.new.number ≡ self.old.number }
+        ensures log { TakesAll M.Kind.means self.old.log (has_memory result) self.new.log self.new.inlet.held }
+        ensures turns { self.new.turns ≡ self.old.turns }
+        ensures readiness { Foretells M.Kind.means self.new.log.image call.now result }
+    {
+        if !self.admit_arrivals() {
+            return Readiness::NoMem;
+        }
+        if self.would_wait(call) {
+            self.is_awaited = true;
+            return Readiness::Waits;
+        }
+        Readiness::Ready
+    }
+
+    /// Makes one call of a seat that is ready, so that its answer is not that it would have to wait. Its
+    /// place in the history is found first. A call that is not ready comes back, and so does one for whose
+    /// place memory runs out.
+    ///
+    /// To be called with the call that the run has next for the seat, which can count one more.
+    pub(crate) fn call_if<A: ReplyForm>(
+        &mut self,
+        is_ready: bool,
+        seat: &mut Seat,
+        call: Call<BoxedModule<M>>,
+        room: EntryRoom<M::Kind>,
+    ) -> Called<BoxedModule<M>, M::Kind, A::CallerCopy>
+        requires ready { is_ready ≡ true → NeedNotWait M.Kind.means self.old.log.image call }
+        requires room { room ≡ room_of seat.old call }
+        requires next { IsNextCall N.calls seat.old call }
+        requires counts { seat.old.calls + 1 < 2 ^ 64 }
+        ensures number { self.new.number ≡ self.old.number }
+        ensures log { SeatCalls M.Kind.means A.Agrees self.old seat.old call result self.new }
+        ensures waited { WaitedFor A.Agrees result }
+        ensures counts { Counted call seat.old result seat.new }
+        ensures turns { self.new.turns ≡ turned self.old.number seat.old result self.old.turns }
+        ensures inlet { self.new.inlet ≡ self.old.inlet }
+    {
+        if !is_ready {
+            drop(room);
+            return Called::NoRoom(call);
+        }
+        match self.log.reserve() {
+            Ok(cell) => self.enter::<A>(seat, call, room, cell),
+            Err(_) => {
+                drop(room);
+                Called::NoRoom(call)
+            }
+        }
+    }
+
+    /// Makes one call, as `call` makes it, and says whether those who sleep until the stream changes, or who
+    /// hear its bell, are to look again. If there is a bell and they are not, the stream is as it was.
+    pub(crate) fn call_with_news<A: ReplyForm>(
+        &mut self,
+        has_bell: bool,
+        seat: &mut Seat,
+        call: Call<BoxedModule<M>>,
+        room: EntryRoom<M::Kind>,
+    ) -> (Called<BoxedModule<M>, M::Kind, A::CallerCopy>, bool)
+        requires room { room ≡ room_of seat.old call }
+        requires next { IsNextCall N.calls seat.old call }
+        requires counts { seat.old.calls + 1 < 2 ^ 64 }
+        ensures number { self.new.number ≡ self.old.number }
+        ensures log { SeatCallsAfter M.Kind.means A.Agrees self.old seat.old call result.0 self.new }
+        ensures counts { Counted call seat.old result.0 seat.new }
+        ensures turns { self.new.turns ≡ turned self.old.number seat.old result.0 self.old.turns }
+        ensures still { has_bell ≡ true → result.1 ≡ false → self.new.log.image ≡ self.old.log.image }
+    {
+        let before = self.count_entries();
+        let called = self.call::<A>(seat, call, room);
+        let is_news = self.take_news(before, has_bell);
+        (called, is_news)
+    }
+
+    /// The number of entries of the history.
+    pub(crate) fn count_entries(&self) -> usize
+        ensures { result ≡ length self.now.log.history }
+    {
+        self.log.history().len()
+    }
+
+    /// Whether those who sleep until the stream changes, or who hear its bell, are to look again: the stream
+    /// may have changed since its history had this many entries. Where nobody sleeps and there is no bell,
+    /// nobody is told. Who is told is not taken for a sleeper any longer.
+    pub(crate) fn take_news(&mut self, before: usize, has_bell: bool) -> bool
+        ensures same { self.new ≡ self.old }
+        ensures news { has_bell ≡ true → (result ≡ true ↔ HasNews before self.old.log.history) }
+    {
+        if !self.is_awaited && !has_bell {
+            return false;
+        }
+        let is_news = has_news(self.log.history(), before);
+        self.is_awaited = self.is_awaited && !is_news;
+        is_news
+    }
+
+    /// Whether somebody sleeps until the stream changes, who is then not taken for a sleeper any longer.
+    pub(crate) fn take_sleepers(&mut self) -> bool
+        ensures { self.new ≡ self.old }
+    {
+        let is_awaited = self.is_awaited;
+        self.is_awaited = false;
+        is_awaited
+    }
+
     /// The stream with its history, the counts, and the inlet.
     pub(crate) fn into_parts(self) -> (Log<M>, CallCounts, Inlet<M::Kind, N>)
         ensures log { result.0 ≡ self.log }
@@ -219,6 +355,7 @@ impl<M: ModuleOf, N: StreamRunName<M::Kind>> SharedState<M, N> {
             log,
             turns,
             inlet,
+            is_awaited: _,
         } = self;
         (log, turns, inlet)
     }

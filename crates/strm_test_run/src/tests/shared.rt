@@ -18,6 +18,7 @@ mod ending;
 mod lines;
 mod many;
 mod receipts;
+mod waiting;
 
 /// A shared stream, its seats, and the feeder of a line.
 type Made<M, N> = (

@@ -1,5 +1,5 @@
 //! A stream that several callers share.
-ghost use Rattle.std.specs.Prelude.{◌≡◌, ◌↔◌, ◌+◌, ◌<◌, ◌^◌, true, IfOk, IfSome, OnOk, IsErrOf};
+ghost use Rattle.std.specs.Prelude.{◌≡◌, ◌↔◌, ◌+◌, ◌<◌, ◌^◌, true, IfOk, OnOk, IsErrOf};
 ghost use Rattle.std.specs.Sync.Mutex.{mutex_guard_value};
 ghost use Rattle.strm_head_calls.specs.Setup.{is_fit};
 ghost use Rattle.strm_shared_log.specs.Log.{Equals};
@@ -169,11 +169,13 @@ impl<M: ModuleOf, N: StreamRunName<M::Kind>> Shared<M, N> {
         ensures back { HandsBack A.Agrees call result }
         ensures shown { Shows A.Agrees seat.old call result }
     {
-        let Some(room) = self.room_for_next(seat, &call) else {
+        let Ok(room) = self.room_for_next(seat, &call) else {
             return Called::NoRoom(call);
         };
+        let mut is_news = false;
         let mut locked = self.locked.lock(rt);
-        let (called, is_news) = locked.call_with_news::<A>(self.bell.is_some(), seat, call, room);
+        let has_bell = self.bell.is_some();
+        let called = locked.call_with_news::<A>(&mut is_news, has_bell, seat, call, room);
         drop(locked);
         self.tell(rt, is_news);
         called
@@ -205,7 +207,7 @@ impl<M: ModuleOf, N: StreamRunName<M::Kind>> Shared<M, N> {
         ensures shown { Shows A.Agrees seat.old call result }
         ensures waited { WaitedFor A.Agrees result }
     {
-        let Some(room) = self.room_for_next(seat, &call) else {
+        let Ok(room) = self.room_for_next(seat, &call) else {
             return Called::NoRoom(call);
         };
         let (mut locked, before, is_ready) = self.lock_when_ready(rt, &call);
@@ -223,17 +225,21 @@ impl<M: ModuleOf, N: StreamRunName<M::Kind>> Shared<M, N> {
         self.tell(rt, is_awaited || self.bell.is_some());
     }
 
-    /// Room for the entry of the seat's next call. Nothing where the seat can count no more, or when memory
-    /// runs out.
+    /// Room for the entry of the seat's next call. Fails when memory runs out, and where the seat can count no
+    /// more.
     #[inline(always)]
-    fn room_for_next(&self, seat: &Seat, call: &Call<BoxedModule<M>>) -> Option<EntryRoom<M::Kind>>
-        ensures counts { IfSome result (λ room. seat.now.calls + 1 < 2 ^ 64) }
-        ensures room { IfSome result (λ room. room ≡ room_of seat.now call.now) }
+    fn room_for_next(
+        &self,
+        seat: &Seat,
+        call: &Call<BoxedModule<M>>,
+    ) -> Result<EntryRoom<M::Kind>, NoMem>
+        ensures counts { IfOk result (λ room. seat.now.calls + 1 < 2 ^ 64) }
+        ensures room { IfOk result (λ room. room ≡ room_of seat.now call.now) }
     {
         if seat.calls() == u64::MAX {
-            return None;
+            return Err(NoMem);
         }
-        room_for(self.alloc, seat.caller(), seat.calls() + 1, call).ok()
+        room_for(self.alloc, seat.caller(), seat.calls() + 1, call)
     }
 
     /// Takes the lock when a call need not wait, or when memory ran out for a message of the line. With it

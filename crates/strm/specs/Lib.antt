@@ -33,3 +33,6 @@ pub use Rattle.strm_script_print.specs.Lines
 pub use Rattle.strm_script_chart.specs.Chart
 pub use Rattle.strm_script_parse.specs.RunInput
 pub use Rattle.strm_script_play.specs.Played
+pub use Rattle.strm_owner.specs.Hearing
+pub use Rattle.strm_owner.specs.Rounds
+pub use Rattle.strm_owner.specs.Serves

@@ -1,0 +1,7 @@
+pub mod Edit
+pub mod EditLaws
+pub mod Keys
+pub mod Screen
+pub mod Modes
+pub mod Typing
+pub mod Terminal

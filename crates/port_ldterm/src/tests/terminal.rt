@@ -1,0 +1,313 @@
+//! A terminal over a wire, whose keys come in and whose output is taken. The outcome of each row is worked
+//! out by hand from termio(7) and streamio(7).
+use super::{RAW, USUAL};
+use crate::{GET_MODES, Modes, SET_MODES, Terminal};
+use std::alloc::Global;
+use std::process::Abort;
+use strm_head::{Arrived, Stream};
+use strm_head_calls::{Acknowledged, Answer, Name, Refusal, Reply, Request};
+use strm_module::{BoxedModule, Driver, Instance, Kind, Plain, Shape};
+use strm_msg::{Bytes, End, Errno, Message, Prot, ReadMode};
+use strm_owner::ServedModule;
+
+/// The most calls that a terminal makes for one event here.
+const BUDGET: u32 = 1000;
+
+/// An event, and its outcome.
+#[derive(Clone, Copy, Drop)]
+enum Row {
+    /// Keys come in, and this is shown.
+    Types(&'static [u8], &'static [u8]),
+    /// A process reads these bytes.
+    Reads(&'static [u8]),
+    /// There is nothing to read.
+    ReadsNothing,
+    /// A process writes a text, and this is shown.
+    Writes(&'static [u8], &'static [u8]),
+    /// A process writes while nobody takes what is shown.
+    WritesOn(&'static [u8]),
+    /// A process cannot write, as all is full.
+    WritesNothing,
+    /// What waited is shown.
+    Shows(&'static [u8]),
+    /// A process asks for the modes.
+    Asks(&'static [u8]),
+    /// A process sets the modes.
+    Sets(&'static [u8]),
+    /// A process cannot set these modes.
+    SetsNothing(&'static [u8]),
+    /// A process flushes the read side.
+    Flushes,
+}
+
+use Row::{
+    Asks, Flushes, Reads, ReadsNothing, Sets, SetsNothing, Shows, Types, Writes, WritesNothing,
+    WritesOn,
+};
+
+/// Keys are edited, and lines are read one by one.
+const EDITS: &[Row] = &[
+    Types(b"lx\x7fs\r", b"lx\x08 \x08s\r\n"),
+    Reads(b"ls\n"),
+    Writes(b"login:", b"login:"),
+    Types(b"rot\x08ot\r", b"rot\x08 \x08ot\r\n"),
+    Reads(b"root\n"),
+    Types(
+        b"rm -r\x15date\r",
+        b"rm -r\x08 \x08\x08 \x08\x08 \x08\x08 \x08\x08 \x08date\r\n",
+    ),
+    Reads(b"date\n"),
+    Writes(b"a\nb\n", b"a\r\nb\r\n"),
+    Types(b"half", b"half"),
+    ReadsNothing,
+    Types(b" a line\r", b" a line\r\n"),
+    Reads(b"half a line\n"),
+    Types(b"bye\x04", b"bye"),
+    Reads(b"bye"),
+    Types(b"\x04", b""),
+    Reads(b""),
+];
+
+/// Lines that come in one message go up one by one. The head is full from 16 bytes on: what comes behind is
+/// neither lost nor shown before it is typed.
+const FILLS: &[Row] = &[
+    Types(b"one\rtwo\rthr", b"one\r\ntwo\r\nthr"),
+    Reads(b"one\n"),
+    Reads(b"two\n"),
+    Types(b"ee and more and more\r", b"ee and more and more\r\n"),
+    Types(b"second\r", b"second\r\n"),
+    Types(b"third\r", b""),
+    Reads(b"three and more and more\n"),
+    Shows(b"third\r\n"),
+    Reads(b"second\n"),
+    Reads(b"third\n"),
+    ReadsNothing,
+];
+
+/// Output that nobody takes fills the wire, and then the queue of the module.
+const HOLDS: &[Row] = &[
+    WritesOn(b"0123456789abcdef"),
+    WritesOn(b"0123456789abcdef"),
+    WritesOn(b"0123456789abcdef"),
+    WritesNothing,
+    Shows(b"0123456789abcdef0123456789abcdef0123456789abcdef"),
+    Writes(b"more", b"more"),
+];
+
+/// Modes are told and set. Without ICANON the line goes up.
+const SETS: &[Row] = &[
+    Asks(&[0, 0, 0, 15]),
+    SetsNothing(&[0, 0, 0]),
+    SetsNothing(&[0, 0, 0, 16]),
+    SetsNothing(&[1, 0, 0, 1]),
+    Types(b"a", b"a"),
+    Sets(&[0, 0, 0, 0]),
+    Reads(b"a"),
+    Types(b"q\x03\r", b""),
+    Reads(b"q\x03\r"),
+    Writes(b"\n", b"\n"),
+    Asks(&[0, 0, 0, 0]),
+    Sets(&[0, 0, 0, 10]),
+    Types(b"\x7f", b"^?"),
+    Reads(b"\x7f"),
+    Writes(b"\n", b"\r\n"),
+];
+
+/// A flush forgets the line that is being typed.
+const FORGETS: &[Row] = &[
+    Types(b"old", b"old"),
+    Flushes,
+    Types(b"new\r", b"new\r\n"),
+    Reads(b"new\n"),
+];
+
+/// A terminal, its stream, and the module that it serves.
+#[derive(Drop)]
+struct Tty {
+    stream: Stream<Plain>,
+    module: ServedModule,
+    terminal: Terminal,
+    alloc: Global,
+}
+
+/// A module that the program serves, of this name.
+fn module(rt: &impl Abort, alloc: Global, name: &[u8]) -> BoxedModule<Plain> {
+    let shape = Shape::new(1, name, Some((16, 8)), Some((16, 8)), Kind::Pass);
+    let shape = shape.expect(rt, "a good name").noenabled();
+    BoxedModule::new(alloc, Instance::new(shape, Plain)).expect(rt, "no memory")
+}
+
+impl Tty {
+    fn new(rt: &impl Abort, alloc: Global, modes: Modes) -> Tty {
+        let stream = Stream::new(alloc, Driver::Wire, (16, 8), (16, 8)).expect(rt, "no memory");
+        let name = Name::of(b"ldterm").expect(rt, "a short name");
+        let mut tty = Tty {
+            stream,
+            module: ServedModule::new(alloc, End::A, name),
+            terminal: Terminal::new(alloc, modes),
+            alloc,
+        };
+        let instance = module(rt, alloc, b"ldterm");
+        tty.ask(Request::Push { instance });
+        tty.ask(Request::SetRead {
+            mode: ReadMode::Rmsgn,
+            prot: Prot::Norm,
+        });
+        tty
+    }
+
+    /// Makes a call, and lets the terminal do its part.
+    fn ask(&mut self, request: Request<BoxedModule<Plain>>) -> Answer {
+        let answer = self.stream.apply(End::A, request).answer;
+        self.pump();
+        answer
+    }
+
+    fn pump(&mut self) {
+        self.module
+            .pump(&mut self.stream, &mut self.terminal, BUDGET);
+    }
+
+    fn bytes(&self, rt: &impl Abort, bytes: &[u8]) -> Bytes {
+        Bytes::from_slice(self.alloc, bytes).expect(rt, "no memory")
+    }
+
+    /// Whether these bytes are taken of the wire, in messages of any length.
+    fn shows(&mut self, rt: &impl Abort, wanted: &[u8]) -> bool {
+        let mut shown = Vec::new(self.alloc);
+        for _ in 0..BUDGET {
+            let Answer::Done(Reply::Message { m }) = self.ask(Request::Take) else {
+                break;
+            };
+            let dat = m.dat.as_ref().expect(rt, "data alone");
+            shown
+                .extend_from_slice(dat.as_slice())
+                .expect(rt, "no memory");
+        }
+        shown.as_slice() == wanted
+    }
+
+    fn types(&mut self, rt: &impl Abort, keys: &[u8]) -> bool {
+        let m = Message::of_data(self.alloc, 0, keys).expect(rt, "no memory");
+        let arrived = self.stream.arrive(m);
+        self.pump();
+        matches!(arrived, Arrived::Taken { .. })
+    }
+
+    fn reads(&mut self, wanted: &[u8]) -> bool {
+        match self.ask(Request::Read { max: 64 }) {
+            Answer::Done(Reply::Read { dat }) => dat.as_slice() == wanted,
+            _ => false,
+        }
+    }
+
+    fn writes(&mut self, rt: &impl Abort, text: &[u8]) -> bool {
+        let dat = self.bytes(rt, text);
+        matches!(
+            self.ask(Request::Write { dat }),
+            Answer::Done(Reply::Write { .. })
+        )
+    }
+
+    /// The answer to an ioctl that the terminal carries out.
+    fn ioctl(&mut self, rt: &impl Abort, cmd: u32, bytes: Option<&[u8]>) -> Answer {
+        let dat = bytes.map(|bytes| self.bytes(rt, bytes));
+        self.ask(Request::Strput { cmd, dat });
+        self.ask(Request::Strget { drops: false })
+    }
+
+    fn happens(&mut self, rt: &impl Abort, row: Row) -> bool {
+        match row {
+            Types(keys, shown) => self.types(rt, keys) && self.shows(rt, shown),
+            Reads(bytes) => self.reads(bytes),
+            ReadsNothing => matches!(
+                self.ask(Request::Read { max: 64 }),
+                Answer::Refused(Refusal::WouldWait)
+            ),
+            Writes(text, shown) => self.writes(rt, text) && self.shows(rt, shown),
+            WritesOn(text) => self.writes(rt, text),
+            WritesNothing => !self.writes(rt, b"x"),
+            Shows(shown) => self.shows(rt, shown),
+            Asks(modes) => is_answer(self.ioctl(rt, GET_MODES, None), Some(modes)),
+            Sets(modes) => is_answer(self.ioctl(rt, SET_MODES, Some(modes)), None),
+            SetsNothing(modes) => is_refused(self.ioctl(rt, SET_MODES, Some(modes))),
+            Flushes => matches!(
+                self.ask(Request::Flush { r: true, w: false }),
+                Answer::Done(Reply::Flush)
+            ),
+        }
+    }
+}
+
+/// Whether an ioctl was carried out, and gave these bytes.
+fn is_answer(answer: Answer, wanted: Option<&[u8]>) -> bool {
+    let Answer::Done(
+        Reply::Str {
+            answer: Acknowledged::Ack { rval: 0, dat },
+        },
+    ) = answer
+    else {
+        return false;
+    };
+    match (dat, wanted) {
+        (Some(dat), Some(wanted)) => dat.as_slice() == wanted,
+        (None, None) => true,
+        _ => false,
+    }
+}
+
+/// Whether an ioctl was not carried out.
+fn is_refused(answer: Answer) -> bool {
+    matches!(
+        answer,
+        Answer::Done(Reply::Str {
+            answer: Acknowledged::Nak {
+                errno: Errno::EINVAL
+            }
+        })
+    )
+}
+
+/// Plays rows, one after another.
+fn play(rt: &impl Abort, alloc: Global, modes: Modes, rows: &[Row]) {
+    let mut tty = Tty::new(rt, alloc, modes);
+    for (at, row) in rows.iter().enumerate() {
+        let is_so = tty.happens(rt, *row);
+        assert!(rt; is_so, "row {at}");
+    }
+}
+
+#[test]
+fn keys_are_edited_and_read_in_lines(rt: HostRuntime) {
+    play(&rt, rt.alloc(), USUAL, EDITS);
+}
+
+#[test]
+fn lines_that_nobody_reads_wait(rt: HostRuntime) {
+    play(&rt, rt.alloc(), USUAL, FILLS);
+}
+
+#[test]
+fn output_that_nobody_takes_waits(rt: HostRuntime) {
+    play(&rt, rt.alloc(), USUAL, HOLDS);
+}
+
+#[test]
+fn modes_are_told_and_set(rt: HostRuntime) {
+    play(&rt, rt.alloc(), USUAL, SETS);
+}
+
+#[test]
+fn flush_forgets_the_line(rt: HostRuntime) {
+    play(&rt, rt.alloc(), USUAL, FORGETS);
+}
+
+#[test]
+fn raw_keys_go_up_as_they_come(rt: HostRuntime) {
+    play(
+        &rt,
+        rt.alloc(),
+        RAW,
+        &[Types(b"a\x7f\r", b""), Reads(b"a\x7f\r")],
+    );
+}

@@ -1,0 +1,2 @@
+pub mod RoundLemmas
+pub mod ServesLemmas

@@ -346,6 +346,7 @@ fn calls(alloc: Global, bytes: &[u8]) -> anyhow::Result<Vec<ScriptCall<BoxedModu
         setups: _,
         scripts,
         feeds,
+        expected: _,
     } = handed(alloc, bytes)?;
     drop(names);
     drop(feeds);
@@ -393,6 +394,7 @@ fn play_out<R: Print + Wait>(
         mut setups,
         scripts,
         feeds,
+        expected: _,
     } = handed;
     let has_process = !scripts.is_empty();
     let work = Work {

@@ -45,6 +45,7 @@ fn time_to_print<R: Clock + Threads + Sync>(
     let Outcome {
         names,
         mut transcript,
+        expected: _,
     } = outcome;
     let start = Instant::now(rt)?;
     let mut text = Vec::new(alloc);

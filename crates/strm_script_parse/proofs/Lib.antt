@@ -1,3 +1,4 @@
+pub mod ExpectedLemmas
 pub mod FieldLemmas
 pub mod HandingLemmas
 pub mod LineLemmas

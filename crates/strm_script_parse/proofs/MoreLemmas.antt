@@ -32,3 +32,7 @@ module _ {A : Type 0} where
   -- the same of one among others
   pub same_blocks : (blocks : List (Vec A Global)) (i : ℕ) (d : Vec A Global) (written : List A) → written ≡ items_of (slice_index_or blocks i d) → flat_map items_of (slice_set blocks i (with_items (slice_index_or blocks i d) written)) ≡ flat_map items_of blocks
   same_blocks blocks i d written same = written_back items_of blocks i (with_items (slice_index_or blocks i d) written) d (refilled (slice_index_or blocks i d) written same)
+
+-- the same where both are seen
+pub one_more_seen : {X B C : Type 0} (f : X → C) (g : B → C) (made : List X) (seen : List B) (new : X) (one : B) → map f made ≡ map g seen → f new ≡ g one → map f (made ++ new ∷ []) ≡ map g (seen ++ one ∷ [])
+one_more_seen f g made seen new one so_far same = map-append f made (new ∷ []) ∙ one_more g (map f made) seen (f new) one so_far same

@@ -80,22 +80,22 @@ calls_kept d calls k are = record {
 -- ---- a line, and those behind it
 
 module _ {K : Type 0} (words : KindWords K) where
-  pub line_at : (n : ℕ) (d e : Partial K) (line : List ℕ) → IsAt n d → line_onto words d line ≡ Ok e → IsAt (n + 1) e
+  pub line_at : (n : ℕ) (d e : Partial K) (line : List ℕ) → IsAt n d → line_onto words (n + 1) d line ≡ Ok e → IsAt (n + 1) e
   line_at n d e line stands is =
-      let keeps = line_keeps words d e line is stands.kept in
+      let keeps = line_keeps words (n + 1) d e line is stands.kept in
       record { kept = keeps.kept; modules = omega (arith, keeps.modules, stands.modules) }
 
-  pub line_more : (d e f : Partial K) (n : ℕ) (line : List ℕ) → IsAt n d → line_onto words d line ≡ Ok e → IsMore e.streams f.streams → IsMore d.streams f.streams
-  line_more d e f n line stands is more = more_of_more d.streams e.streams f.streams (line_keeps words d e line is stands.kept).streams more
+  pub line_more : (d e f : Partial K) (n : ℕ) (line : List ℕ) → IsAt n d → line_onto words (n + 1) d line ≡ Ok e → IsMore e.streams f.streams → IsMore d.streams f.streams
+  line_more d e f n line stands is more = more_of_more d.streams e.streams f.streams (line_keeps words (n + 1) d e line is stands.kept).streams more
 
-  pub line_after : (some : Streams) (d e : Partial K) (n : ℕ) (line : List ℕ) → IsAt n d → line_onto words d line ≡ Ok e → IsMore some d.streams → IsMore some e.streams
-  line_after some d e n line stands is more = more_of_more some d.streams e.streams more (line_keeps words d e line is stands.kept).streams
+  pub line_after : (some : Streams) (d e : Partial K) (n : ℕ) (line : List ℕ) → IsAt n d → line_onto words (n + 1) d line ≡ Ok e → IsMore some d.streams → IsMore some e.streams
+  line_after some d e n line stands is more = more_of_more some d.streams e.streams more (line_keeps words (n + 1) d e line is stands.kept).streams
 
   module _ (n : ℕ) (d : Partial K) (text line rest : List ℕ) (first : lines text ≡ line ∷ lines rest) where
     behind : (others : List (List ℕ)) → lines text ++ others ≡ line ∷ (lines rest ++ others)
     behind others = ap (λ (l : List (List ℕ)). l ++ others) first
 
-    pub first_more : (e : Partial K) (others : List (List ℕ)) → line_onto words d line ≡ Ok e → lines_onto words n d (lines text ++ others) ≡ lines_onto words (n + 1) e (lines rest ++ others)
+    pub first_more : (e : Partial K) (others : List (List ℕ)) → line_onto words (n + 1) d line ≡ Ok e → lines_onto words n d (lines text ++ others) ≡ lines_onto words (n + 1) e (lines rest ++ others)
     first_more e others is = one_more words n d (lines text ++ others) (lines rest ++ others) line (behind others) e is
 
     pub first_fault : (fault : ScriptFault) → IsFaultOfLine words n d line fault → IsFaultOfLines words n d text fault
@@ -104,7 +104,7 @@ module _ {K : Type 0} (words : KindWords K) where
         one_fault words n d (lines text ++ others) (lines rest ++ others) line (behind others) fault.cause is.1
         ∙ ap (λ (k : ℕ). Err (record { line = k; cause = fault.cause })) (sym is.0))
 
-    pub read_behind : (e f : Partial K) (m : ℕ) → IsAt n d → line_onto words d line ≡ Ok e → length rest < length text → AreRead words (n + 1) e rest m f → AreRead words n d text m f
+    pub read_behind : (e f : Partial K) (m : ℕ) → IsAt n d → line_onto words (n + 1) d line ≡ Ok e → length rest < length text → AreRead words (n + 1) e rest m f → AreRead words n d text m f
     read_behind e f m stands is shorter read = record {
       onto = λ others. first_more e others is ∙ read.onto others;
       few = omega (arith, read.few, shorter);
@@ -112,9 +112,9 @@ module _ {K : Type 0} (words : KindWords K) where
       streams = line_more d e f n line stands is read.streams;
     }
 
-    pub section_read : (e : Partial K) (streams : ℕ) (calls : List (Call K)) (many : ℕ) → IsAt n d → line_onto words d line ≡ Ok e → streams ≤ length d.streams → length e.streams ≡ streams → takes e.place (length calls) ≡ true → AddCalls words (take streams d.streams) (lines rest) calls many → many < length text → AreRead words n d text (n + 1 + many) (with_calls e calls)
+    pub section_read : (e : Partial K) (streams : ℕ) (calls : List (Call K)) (many : ℕ) → IsAt n d → line_onto words (n + 1) d line ≡ Ok e → streams ≤ length d.streams → length e.streams ≡ streams → takes e.place (length calls) ≡ true → AddCalls words (take streams d.streams) (lines rest) calls many → many < length text → AreRead words n d text (n + 1 + many) (with_calls e calls)
     section_read e streams calls many stands is declared none room add few =
-        let keeps = line_keeps words d e line is stands.kept in
+        let keeps = line_keeps words (n + 1) d e line is stands.kept in
         let same = same_streams d.streams e.streams streams declared keeps.streams none in
         record {
           onto = λ others. first_more e others is ∙ add.onto (n + 1) e others same (takes_room e.place (length calls) room);

@@ -1,5 +1,5 @@
 -- Lines that say calls alone, and texts that are cut at the end of a line.
-use Rattle.std.proofs.Common.{◌≡◌, ℕ, suc, ◌+◌, ◌<◌, ◌==◌, nat_lt, Bool, true, false, cond, List, [], ◌∷◌, ◌++◌, length, map, take, drop, get_or, slice_get, slice_index, codes, Option, Some, Result, Ok, Err, IfOk, refl, sym, ap, subst, ◌∙◌, arith}
+use Rattle.std.proofs.Common.{◌≡◌, ℕ, suc, ◌+◌, ◌<◌, ◌==◌, nat_lt, Bool, true, false, cond, List, [], ◌∷◌, ◌++◌, length, map, take, drop, get_or, slice_get, slice_index, codes, Option, Some, None, Result, Ok, Err, IfOk, refl, sym, ap, subst, ◌∙◌, arith}
 use Rattle.std.specs.Str.{bytes_eq}
 use Rattle.std.specs.Str.Lines.{lines, lines_of_parts, strip_carriage_return}
 use Rattle.std.specs.List.{find, onto_first, slice_split}
@@ -21,7 +21,8 @@ use Rattle.strm_script_words.specs.declared.verb.Verb.{Verb}
 use Rattle.strm_script_words.specs.declared.verb.Verb.TheVariants as Verb
 use Rattle.strm_msg.specs.declared.memory.NoMem.{NoMem}
 use Rattle.strm_module.specs.declared.shape.Shape.{Shape}
-use Rattle.strm_script_parse.specs.Plan.{Call, Streams, Partial, Place, Nowhere, In_process, In_feed, call_view}
+use Rattle.strm_script_parse.specs.Plan.{Call, Expect, Streams, Partial, Place, Nowhere, In_process, In_feed, call_view}
+use Rattle.strm_script_parse.specs.Expected.{call_fields, reply_fields, expected_of}
 use Rattle.strm_script_parse.specs.Reading.{ended, stream_onto, process_onto, feed_onto, call_at, call_onto, with_call, fields_in, fields_onto, word_onto, inner_onto, outside, line_onto, lines_onto, modules_after}
 use Rattle.strm_script_parse.specs.Sound.{end_is_there, AreCallsThere}
 use Rattle.strm_script_parse.specs.Section.{HasRoom, called, with_calls, AddsCalls, Says}
@@ -85,12 +86,12 @@ lines_cut text k n next there ends =
 
 called_nothing : {K : Type 0} (place : Place K) → called place [] ≡ place
 called_nothing Nowhere = refl
-called_nothing {K} (In_process process) = ap (λ (calls : List (Call K)). In_process (record { name = process.name; calls = calls })) (append-nil process.calls)
+called_nothing {K} (In_process process) = ap (λ (calls : List (Call K)). In_process (record { name = process.name; calls = calls; expected = process.expected })) (append-nil process.calls)
 called_nothing (In_feed feed) = refl
 
 called_twice : {K : Type 0} (place : Place K) (some more : List (Call K)) → called (called place some) more ≡ called place (some ++ more)
 called_twice Nowhere some more = refl
-called_twice {K} (In_process process) some more = ap (λ (calls : List (Call K)). In_process (record { name = process.name; calls = calls })) (append_assoc process.calls some more)
+called_twice {K} (In_process process) some more = ap (λ (calls : List (Call K)). In_process (record { name = process.name; calls = calls; expected = process.expected })) (append_assoc process.calls some more)
 called_twice (In_feed feed) some more = refl
 
 room_for_both : {K : Type 0} (place : Place K) (some more : List (Call K)) → HasRoom place (length (some ++ more)) → HasRoom place (length some) × HasRoom (called place some) (length more)
@@ -160,76 +161,79 @@ module _ {K : Type 0} (words : KindWords K) (streams : Streams) where
   call_by asked verb (target ∷ texts) =
       arity_at words verb texts >>= λ arity. cond (length texts == arity) (or_fault causes.NoSuch (target_of streams target) >>= λ place. asked >>= λ asked. Ok (record { stream = place.0; end = place.1; asked = asked })) (Err causes.Fields)
 
-  call_same : (one other : ℕ) (verb : Verb) (texts : List (List ℕ)) → is_push verb ≡ false → call_at words streams one verb texts ≡ call_at words streams other verb texts
+  call_same : (one other : ℕ) (verb : Verb) (texts : List (List ℕ)) → is_push verb ≡ false → call_at words streams one verb texts None ≡ call_at words streams other verb texts None
   unfolding call_at
   call_same one other verb [] none = refl
   call_same one other verb (target ∷ texts) none =
       ap (λ asked. call_by asked verb (target ∷ texts)) (request_is one verb texts none ∙ sym (request_is other verb texts none))
 
   -- a line without fields says nothing
-  pub says_nothing : AddsCalls streams (λ d. fields_onto words d []) []
+  pub says_nothing : AddsCalls streams (λ n d. fields_onto words n d []) []
   says_nothing = record {
-    onto = λ d same room. ap (λ (place : Place K). Ok (record d { place = place })) (sym (called_nothing d.place));
+    onto = λ n d same room. ap (λ (place : Place K). Ok (record d { place = place })) (sym (called_nothing d.place));
     there = All-nil (λ (call : Call K). end_is_there (slice_get streams call.stream) call.end ≡ true);
   }
 
-  inner_call : (d : Partial K) (place : Place K) (word : List ℕ) (texts : List (List ℕ)) (verb : Verb) (call : Call K) → verb_named word ≡ Some verb → is_push verb ≡ false → call_at words streams 0 verb texts ≡ Ok call → d.streams ≡ streams → HasRoom place 1 → inner_onto words d place word texts ≡ Ok (record d { place = called place (call ∷ []) })
+  inner_call : (n : ℕ) (d : Partial K) (place : Place K) (word : List ℕ) (texts : List (List ℕ)) (verb : Verb) (call : Call K) → verb_named word ≡ Some verb → is_push verb ≡ false → reply_fields texts ≡ None → call_at words streams 0 verb (call_fields texts) None ≡ Ok call → d.streams ≡ streams → HasRoom place 1 → inner_onto words n d place word texts ≡ Ok (record d { place = called place (call ∷ []) })
   unfolding call_onto
-  inner_call d Nowhere word texts verb call named none read same room = absurd room
-  inner_call d (In_process process) word texts verb call named none read same room =
+  inner_call n d Nowhere word texts verb call named none bare read same room = absurd room
+  inner_call n d (In_process process) word texts verb call named none bare read same room =
       let found : or_fault (outside word) (verb_named word) ≡ Ok verb = ap (or_fault (outside word)) named in
-      let begun : inner_onto words d (In_process process) word texts ≡ call_onto words d process verb texts = ap (λ (r : Result Verb Cause). r >>= λ verb. call_onto words d process verb texts) found in
-      let its : call_at words d.streams (d.modules + 1) verb texts ≡ Ok call = ap (λ (s : Streams). call_at words s (d.modules + 1) verb texts) same ∙ call_same (d.modules + 1) 0 verb texts none ∙ read in
-      let going : call_onto words d process verb texts ≡ with_call d process verb call = ap (λ (r : Result (Call K) Cause). r >>= λ call. with_call d process verb call) its in
+      let begun : inner_onto words n d (In_process process) word texts ≡ call_onto words n d process verb texts = ap (λ (r : Result Verb Cause). r >>= λ verb. call_onto words n d process verb texts) found in
       let is_room : nat_lt (length process.calls) MOST_CALLS ≡ true = lt-ltb (length process.calls) MOST_CALLS (omega (arith, room)) in
+      let fields = call_fields texts in
+      let its : call_at words d.streams (d.modules + 1) verb fields None ≡ Ok call = ap (λ (s : Streams). call_at words s (d.modules + 1) verb fields None) same ∙ call_same (d.modules + 1) 0 verb fields none ∙ read in
+      let uncut = ap (λ (replies : Option (List (List ℕ))). call_at words d.streams (d.modules + 1) verb fields replies >>= λ call. with_call d process verb call (expected_of n (length process.calls) replies)) bare in
+      let going = ap (λ (r : Result (Call K) Cause). r >>= λ call. with_call d process verb call []) its in
+      let whole = ap (λ (expected : List Expect). Ok (record d { modules = modules_after verb d.modules; place = In_process (record { name = process.name; calls = process.calls ++ call ∷ []; expected = expected }) })) (append-nil process.expected) in
       let put = ap (λ (b : Bool). cond b (Ok (record d { modules = modules_after verb d.modules; place = called (In_process process) (call ∷ []) })) (Err causes.TooMany)) is_room in
       let modules = ap (λ (b : Bool). Ok (record d { modules = cond b (d.modules + 1) d.modules; place = called (In_process process) (call ∷ []) })) none in
-      begun ∙ going ∙ put ∙ modules
-  inner_call d (In_feed feed) word texts verb call named none read same room = absurd room
+      begun ∙ uncut ∙ going ∙ ap (λ (r : Result (Partial K) Cause). cond (nat_lt (length process.calls) MOST_CALLS) r (Err causes.TooMany)) whole ∙ put ∙ modules
+  inner_call n d (In_feed feed) word texts verb call named none bare read same room = absurd room
 
   -- a line that is a call, and no push, says that call
-  pub says_call : (word : List ℕ) (texts : List (List ℕ)) (verb : Verb) (call : Call K) → verb_named word ≡ Some verb → is_push verb ≡ false → call_at words streams 0 verb texts ≡ Ok call → AddsCalls streams (λ d. word_onto words d word texts) (call ∷ [])
+  pub says_call : (word : List ℕ) (texts : List (List ℕ)) (verb : Verb) (call : Call K) → verb_named word ≡ Some verb → is_push verb ≡ false → reply_fields texts ≡ None → call_at words streams 0 verb (call_fields texts) None ≡ Ok call → AddsCalls streams (λ n d. word_onto words n d word texts) (call ∷ [])
   unfolding word_onto
-  says_call word texts verb call named none read = record {
-    onto = λ d same room.
+  says_call word texts verb call named none bare read = record {
+    onto = λ n d same room.
         let other = verb_declares_nothing word verb named in
-        let no_stream = ap (λ (b : Bool). cond b (stream_onto (ended d) texts) (cond (bytes_eq word (codes "process")) (process_onto (ended d) texts) (cond (bytes_eq word (codes "feed")) (feed_onto (ended d) texts) (inner_onto words d d.place word texts)))) other.0 in
-        let no_process = ap (λ (b : Bool). cond b (process_onto (ended d) texts) (cond (bytes_eq word (codes "feed")) (feed_onto (ended d) texts) (inner_onto words d d.place word texts))) other.1 in
-        let no_feed = ap (λ (b : Bool). cond b (feed_onto (ended d) texts) (inner_onto words d d.place word texts)) other.2 in
-        no_stream ∙ no_process ∙ no_feed ∙ inner_call d d.place word texts verb call named none read same room;
-    there = All-cons (λ (call : Call K). end_is_there (slice_get streams call.stream) call.end ≡ true) call [] (call_there words streams 0 verb texts call read) (All-nil (λ (call : Call K). end_is_there (slice_get streams call.stream) call.end ≡ true));
+        let no_stream = ap (λ (b : Bool). cond b (stream_onto (ended d) texts) (cond (bytes_eq word (codes "process")) (process_onto (ended d) texts) (cond (bytes_eq word (codes "feed")) (feed_onto (ended d) texts) (inner_onto words n d d.place word texts)))) other.0 in
+        let no_process = ap (λ (b : Bool). cond b (process_onto (ended d) texts) (cond (bytes_eq word (codes "feed")) (feed_onto (ended d) texts) (inner_onto words n d d.place word texts))) other.1 in
+        let no_feed = ap (λ (b : Bool). cond b (feed_onto (ended d) texts) (inner_onto words n d d.place word texts)) other.2 in
+        no_stream ∙ no_process ∙ no_feed ∙ inner_call n d d.place word texts verb call named none bare read same room;
+    there = All-cons (λ (call : Call K). end_is_there (slice_get streams call.stream) call.end ≡ true) call [] (call_there words streams 0 verb (call_fields texts) None call read) (All-nil (λ (call : Call K). end_is_there (slice_get streams call.stream) call.end ≡ true));
   }
 
-  line_adds : (line : List ℕ) (fields : List (List ℕ)) (calls : List (Call K)) → fields_in line ≡ Ok fields → AddsCalls streams (λ d. fields_onto words d fields) calls → AddsCalls streams (λ d. line_onto words d line) calls
+  line_adds : (line : List ℕ) (fields : List (List ℕ)) (calls : List (Call K)) → fields_in line ≡ Ok fields → AddsCalls streams (λ n d. fields_onto words n d fields) calls → AddsCalls streams (λ n d. line_onto words n d line) calls
   unfolding line_onto
   line_adds line fields calls is adds = record {
-    onto = λ d same room. ap (λ (r : Result (List (List ℕ)) Cause). r >>= λ texts. fields_onto words d texts) is ∙ adds.onto d same room;
+    onto = λ n d same room. ap (λ (r : Result (List (List ℕ)) Cause). r >>= λ texts. fields_onto words n d texts) is ∙ adds.onto n d same room;
     there = adds.there;
   }
 
-  says_so : (line : List ℕ) (fields : List (List ℕ)) (said : Said (Shape K)) → fields_in line ≡ Ok fields → Says streams (λ d. fields_onto words d fields) said → Says streams (λ d. line_onto words d line) said
+  says_so : (line : List ℕ) (fields : List (List ℕ)) (said : Said (Shape K)) → fields_in line ≡ Ok fields → Says streams (λ n d. fields_onto words n d fields) said → Says streams (λ n d. line_onto words n d line) said
   says_so line fields Said.Nothing is says = line_adds line fields [] is says
   says_so line fields (Said.Call call) is says = line_adds line fields (call_view call ∷ []) is says
   says_so line fields Said.Other is says = says
 
   -- a line says what its fields say
-  pub line_says : (line : List ℕ) (fields : List (List ℕ)) (r : Result (Said (Shape K)) NoMem) → fields_in line ≡ Ok fields → IfOk r (λ said. Says streams (λ d. fields_onto words d fields) said) → IfOk r (λ said. Says streams (λ d. line_onto words d line) said)
+  pub line_says : (line : List ℕ) (fields : List (List ℕ)) (r : Result (Said (Shape K)) NoMem) → fields_in line ≡ Ok fields → IfOk r (λ said. Says streams (λ n d. fields_onto words n d fields) said) → IfOk r (λ said. Says streams (λ n d. line_onto words n d line) said)
   line_says line fields (Ok said) is says = says_so line fields said is says
   line_says line fields (Err error) is says = tt
 
   -- one line more of those that say calls
-  pub one_said : (all rest after : List (List ℕ)) (line : List ℕ) (calls said : List (Call K)) (many : ℕ) → rest ≡ line ∷ after → ((n : ℕ) (d : Partial K) (others : List (List ℕ)) → d.streams ≡ streams → HasRoom d.place (length calls) → lines_onto words n d (all ++ others) ≡ lines_onto words (n + many) (with_calls d calls) (rest ++ others)) → AddsCalls streams (λ d. line_onto words d line) said → (n : ℕ) (d : Partial K) (others : List (List ℕ)) → d.streams ≡ streams → HasRoom d.place (length (calls ++ said)) → lines_onto words n d (all ++ others) ≡ lines_onto words (n + (many + 1)) (with_calls d (calls ++ said)) (after ++ others)
+  pub one_said : (all rest after : List (List ℕ)) (line : List ℕ) (calls said : List (Call K)) (many : ℕ) → rest ≡ line ∷ after → ((n : ℕ) (d : Partial K) (others : List (List ℕ)) → d.streams ≡ streams → HasRoom d.place (length calls) → lines_onto words n d (all ++ others) ≡ lines_onto words (n + many) (with_calls d calls) (rest ++ others)) → AddsCalls streams (λ n d. line_onto words n d line) said → (n : ℕ) (d : Partial K) (others : List (List ℕ)) → d.streams ≡ streams → HasRoom d.place (length (calls ++ said)) → lines_onto words n d (all ++ others) ≡ lines_onto words (n + (many + 1)) (with_calls d (calls ++ said)) (after ++ others)
   one_said all rest after line calls said many first so_far says n d others same room =
       let both = room_for_both d.place calls said room in
-      let next = one_more words (n + many) (with_calls d calls) (rest ++ others) (after ++ others) line (ap (λ (l : List (List ℕ)). l ++ others) first) (with_calls (with_calls d calls) said) (says.onto (with_calls d calls) same both.1) in
+      let next = one_more words (n + many) (with_calls d calls) (rest ++ others) (after ++ others) line (ap (λ (l : List (List ℕ)). l ++ others) first) (with_calls (with_calls d calls) said) (says.onto (n + many + 1) (with_calls d calls) same both.1) in
       so_far n d others same both.0 ∙ next
       ∙ ap (λ (place : Place K). lines_onto words (n + many + 1) (record d { place = place }) (after ++ others)) (called_twice d.place calls said)
       ∙ ap (λ (k : ℕ). lines_onto words k (with_calls d (calls ++ said)) (after ++ others)) (add_assoc n many 1)
 
-  pub said_there : (calls said : List (Call K)) (line : List ℕ) → AreCallsThere streams calls → AddsCalls streams (λ d. line_onto words d line) said → AreCallsThere streams (calls ++ said)
+  pub said_there : (calls said : List (Call K)) (line : List ℕ) → AreCallsThere streams calls → AddsCalls streams (λ n d. line_onto words n d line) said → AreCallsThere streams (calls ++ said)
   said_there calls said line there says = All-append (λ (call : Call K). end_is_there (slice_get streams call.stream) call.end ≡ true) calls said there says.there
 
-  pub nothing_said : (all rest after : List (List ℕ)) (line : List ℕ) (calls : List (Call K)) (many : ℕ) → rest ≡ line ∷ after → ((n : ℕ) (d : Partial K) (others : List (List ℕ)) → d.streams ≡ streams → HasRoom d.place (length calls) → lines_onto words n d (all ++ others) ≡ lines_onto words (n + many) (with_calls d calls) (rest ++ others)) → AddsCalls streams (λ d. line_onto words d line) [] → (n : ℕ) (d : Partial K) (others : List (List ℕ)) → d.streams ≡ streams → HasRoom d.place (length calls) → lines_onto words n d (all ++ others) ≡ lines_onto words (n + (many + 1)) (with_calls d calls) (after ++ others)
+  pub nothing_said : (all rest after : List (List ℕ)) (line : List ℕ) (calls : List (Call K)) (many : ℕ) → rest ≡ line ∷ after → ((n : ℕ) (d : Partial K) (others : List (List ℕ)) → d.streams ≡ streams → HasRoom d.place (length calls) → lines_onto words n d (all ++ others) ≡ lines_onto words (n + many) (with_calls d calls) (rest ++ others)) → AddsCalls streams (λ n d. line_onto words n d line) [] → (n : ℕ) (d : Partial K) (others : List (List ℕ)) → d.streams ≡ streams → HasRoom d.place (length calls) → lines_onto words n d (all ++ others) ≡ lines_onto words (n + (many + 1)) (with_calls d calls) (after ++ others)
   nothing_said all rest after line calls many first so_far says n d others same room =
       let whole = append-nil calls in
       one_said all rest after line calls [] many first so_far says n d others same (subst (λ (l : List (Call K)). HasRoom d.place (length l)) (sym whole) room)

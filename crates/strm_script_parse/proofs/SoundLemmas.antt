@@ -19,9 +19,10 @@ use Rattle.strm_script_words.specs.declared.arrival.MessageWord.{MessageWord}
 use Rattle.strm_script_words.specs.declared.fault.Cause.{Cause}
 use Rattle.strm_script_words.specs.declared.fault.Cause.TheVariants as causes
 use Rattle.strm_script_words.specs.declared.verb.Verb.{Verb}
-use Rattle.strm_script_parse.specs.Plan.{Call, Process, Fed, Streams, Partial, Whole, Place, Nowhere, In_process, In_feed}
+use Rattle.strm_script_parse.specs.Plan.{Call, Expect, Process, Fed, Streams, Partial, Whole, Place, Nowhere, In_process, In_feed}
 use Rattle.strm_script_parse.specs.Reading.{ended, ended_at, plan_of, fresh_name, driver_at, setup_arity, setup_at, setup_onto, declared_at, has_room, with_stream, stream_onto, process_name, with_process, process_onto, has_feed, with_feed, feed_onto, call_at, with_call, call_onto, with_message, message_onto, inner_onto, outside, word_onto, fields_in, fields_onto, line_onto, modules_after, nothing_yet, FaultAt, lines_onto, then_lines}
 use Rattle.strm_script_parse.specs.Targets.{stream_names, stream_at}
+use Rattle.strm_script_parse.specs.Expected.{call_fields, reply_fields, expected_of}
 use Rattle.strm_script_parse.specs.Sound.{end_is_there, line_is_there, AreCallsThere, IsSound}
 use Rattle.strm_script_parse.specs.declared.draft.TheConstants.{MOST_STREAMS, MOST_PROCESSES, MOST_CALLS, MOST_MESSAGES}
 use Rattle.strm_script_parse.specs.Section.{IsMore}
@@ -163,7 +164,7 @@ stream_keeps d e (name ∷ driver ∷ texts) is k =
 -- ---- a process
 
 abbrev new_process : {K : Type 0} → List ℕ → Process K
-new_process name = record { name = name; calls = [] }
+new_process name = record { name = name; calls = []; expected = [] }
 
 with_process_keeps : {K : Type 0} (d e : Partial K) (name : List ℕ) → with_process d name ≡ Ok e → IsDraft d → Keeps d e
 with_process_keeps {K} d e name is k =
@@ -234,15 +235,16 @@ one_module : (verb : Verb) (modules : ℕ) (b : Bool) → cond b (modules + 1) m
 one_module verb modules true = omega arith
 one_module verb modules false = omega arith
 
-abbrev called : {K : Type 0} → Process K → Call K → Process K
-called process call = record { name = process.name; calls = process.calls ++ call ∷ [] }
+abbrev called : {K : Type 0} → Process K → Call K → List Expect → Process K
+called process call expected = record { name = process.name; calls = process.calls ++ call ∷ []; expected = process.expected ++ expected }
 
-call_keeps : {K : Type 0} (words : KindWords K) (d e : Partial K) (process : Process K) (verb : Verb) (texts : List (List ℕ)) → call_onto words d process verb texts ≡ Ok e → IsDraft (record d { place = In_process process }) → Keeps d e
+call_keeps : {K : Type 0} (words : KindWords K) (n : ℕ) (d e : Partial K) (process : Process K) (verb : Verb) (texts : List (List ℕ)) → call_onto words n d process verb texts ≡ Ok e → IsDraft (record d { place = In_process process }) → Keeps d e
 unfolding call_onto
-call_keeps {K} words d e process verb texts is k =
-    through (call_at words d.streams (d.modules + 1) verb texts) (λ call. with_call d process verb call) e is (λ call read is.
-    passed (nat_lt (length process.calls) MOST_CALLS) (Ok (record d { modules = modules_after verb d.modules; place = In_process (called process call) })) e causes.TooMany is (λ _ is.
-    same (Keeps d) (record d { modules = modules_after verb d.modules; place = In_process (called process call) }) e is (record {
+call_keeps {K} words n d e process verb texts is k =
+    let expected = expected_of n (length process.calls) (reply_fields texts) in
+    through (call_at words d.streams (d.modules + 1) verb (call_fields texts) (reply_fields texts)) (λ call. with_call d process verb call expected) e is (λ call read is.
+    passed (nat_lt (length process.calls) MOST_CALLS) (Ok (record d { modules = modules_after verb d.modules; place = In_process (called process call expected) })) e causes.TooMany is (λ _ is.
+    same (Keeps d) (record d { modules = modules_after verb d.modules; place = In_process (called process call expected) }) e is (record {
       kept = record {
         setups = k.setups;
         few_streams = k.few_streams;
@@ -253,7 +255,7 @@ call_keeps {K} words d e process verb texts is k =
           calls = k.there.calls;
           lines = k.there.lines;
           once = k.there.once;
-          going_on = All-push (λ (c : Call K). end_is_there (slice_get d.streams c.stream) c.end ≡ true) process.calls call k.there.going_on (call_there words d.streams (d.modules + 1) verb texts call read);
+          going_on = All-push (λ (c : Call K). end_is_there (slice_get d.streams c.stream) c.end ≡ true) process.calls call k.there.going_on (call_there words d.streams (d.modules + 1) verb (call_fields texts) (reply_fields texts) call read);
         };
       };
       modules = one_module verb d.modules (is_push verb);
@@ -285,10 +287,10 @@ message_keeps d e feed word texts is k =
 
 -- ---- a line
 
-inner_keeps : {K : Type 0} (words : KindWords K) (d e : Partial K) (place : Place K) (word : List ℕ) (texts : List (List ℕ)) → inner_onto words d place word texts ≡ Ok e → IsDraft (record d { place = place }) → Keeps d e
-inner_keeps words d e Nowhere word texts is k = absurd cc
-inner_keeps words d e (In_process process) word texts is k = through (or_fault (outside word) (verb_named word)) (λ verb. call_onto words d process verb texts) e is (λ verb _ is. call_keeps words d e process verb texts is k)
-inner_keeps words d e (In_feed feed) word texts is k = through (or_fault (outside word) (message_named word)) (λ m. message_onto d feed m texts) e is (λ m _ is. message_keeps d e feed m texts is k)
+inner_keeps : {K : Type 0} (words : KindWords K) (n : ℕ) (d e : Partial K) (place : Place K) (word : List ℕ) (texts : List (List ℕ)) → inner_onto words n d place word texts ≡ Ok e → IsDraft (record d { place = place }) → Keeps d e
+inner_keeps words n d e Nowhere word texts is k = absurd cc
+inner_keeps words n d e (In_process process) word texts is k = through (or_fault (outside word) (verb_named word)) (λ verb. call_onto words n d process verb texts) e is (λ verb _ is. call_keeps words n d e process verb texts is k)
+inner_keeps words n d e (In_feed feed) word texts is k = through (or_fault (outside word) (message_named word)) (λ m. message_onto d feed m texts) e is (λ m _ is. message_keeps d e feed m texts is k)
 
 -- what a line keeps of what has ended, it keeps
 since_ended : {K : Type 0} (d e : Partial K) → Keeps (ended d) e → Keeps d e
@@ -298,26 +300,26 @@ since_ended d e keeps = record {
   streams = (keeps.streams.0, keeps.streams.1 ∙ ap (λ (s : Streams). s ++ keeps.streams.0) (ended_streams d d.place));
 }
 
-word_keeps : {K : Type 0} (words : KindWords K) (d e : Partial K) (word : List ℕ) (texts : List (List ℕ)) → word_onto words d word texts ≡ Ok e → IsDraft d → Keeps d e
+word_keeps : {K : Type 0} (words : KindWords K) (n : ℕ) (d e : Partial K) (word : List ℕ) (texts : List (List ℕ)) → word_onto words n d word texts ≡ Ok e → IsDraft d → Keeps d e
 unfolding word_onto
-word_keeps words d e word texts is k =
+word_keeps words n d e word texts is k =
     let after = ended_kept d k in
     either (bytes_eq word (codes "stream")) (stream_onto (ended d) texts) _ e is (λ is. since_ended d e (stream_keeps (ended d) e texts is after)) (λ is.
     either (bytes_eq word (codes "process")) (process_onto (ended d) texts) _ e is (λ is. since_ended d e (process_keeps (ended d) e texts is after)) (λ is.
     either (bytes_eq word (codes "feed")) (feed_onto (ended d) texts) _ e is (λ is. since_ended d e (feed_keeps (ended d) e texts is after)) (λ is.
-    inner_keeps words d e d.place word texts is k)))
+    inner_keeps words n d e d.place word texts is k)))
 
 unchanged : {K : Type 0} (d e : Partial K) → ◌≡◌ {A = Result (Partial K) Cause} (Ok d) (Ok e) → IsDraft d → Keeps d e
 unchanged d e is k = same (Keeps d) d e is (record { kept = k; modules = omega arith; streams = none_more d.streams })
 
-fields_keep : {K : Type 0} (words : KindWords K) (d e : Partial K) (texts : List (List ℕ)) → fields_onto words d texts ≡ Ok e → IsDraft d → Keeps d e
-fields_keep words d e [] is k = unchanged d e is k
-fields_keep words d e (word ∷ texts) is k = word_keeps words d e word texts is k
+fields_keep : {K : Type 0} (words : KindWords K) (n : ℕ) (d e : Partial K) (texts : List (List ℕ)) → fields_onto words n d texts ≡ Ok e → IsDraft d → Keeps d e
+fields_keep words n d e [] is k = unchanged d e is k
+fields_keep words n d e (word ∷ texts) is k = word_keeps words n d e word texts is k
 
 -- a line keeps a plan of which a run can be made
-pub line_keeps : {K : Type 0} (words : KindWords K) (d e : Partial K) (line : List ℕ) → line_onto words d line ≡ Ok e → IsDraft d → Keeps d e
+pub line_keeps : {K : Type 0} (words : KindWords K) (n : ℕ) (d e : Partial K) (line : List ℕ) → line_onto words n d line ≡ Ok e → IsDraft d → Keeps d e
 unfolding line_onto
-line_keeps words d e line is k = through (fields_in line) (λ texts. fields_onto words d texts) e is (λ texts _ is. fields_keep words d e texts is k)
+line_keeps words n d e line is k = through (fields_in line) (λ texts. fields_onto words n d texts) e is (λ texts _ is. fields_keep words n d e texts is k)
 
 -- the others follow a line that was added
 after_line : {K : Type 0} (n : ℕ) (read : Result (Partial K) Cause) (others : Partial K → Result (Whole K) FaultAt) (whole : Whole K) → then_lines n read others ≡ Ok whole → ((e : Partial K) → read ≡ Ok e → others e ≡ Ok whole → IsSound whole) → IsSound whole
@@ -329,4 +331,4 @@ pub lines_sound : {K : Type 0} (words : KindWords K) (all : List (List ℕ)) (n 
 unfolding lines_onto
 lines_sound {K} words [] n d whole is k = let one : plan_of d ≡ whole = cc in subst (λ (w : Whole K). IsSound w) one (kept_sound d k)
 lines_sound {K} words (line ∷ all) n d whole is k =
-    after_line (n + 1) (line_onto words d line) (λ e. lines_onto words (n + 1) e all) whole is (λ e read is. lines_sound words all (n + 1) e whole is (line_keeps words d e line read k).kept)
+    after_line (n + 1) (line_onto words (n + 1) d line) (λ e. lines_onto words (n + 1) e all) whole is (λ e read is. lines_sound words all (n + 1) e whole is (line_keeps words (n + 1) d e line read k).kept)

@@ -1,5 +1,5 @@
 -- Each line keeps that all is there which processes and feeds name, and that no line has two feeds.
-use Rattle.std.proofs.Common.{◌≡◌, ℕ, zero, suc, ◌==◌, ◌&&◌, ◌||◌, not, Bool, true, false, List, [], ◌∷◌, ◌++◌, length, position, slice_get, get_or, Some, Ok, refl, ap, ◌∙◌, codes}
+use Rattle.std.proofs.Common.{◌≡◌, ℕ, zero, suc, ◌==◌, ◌&&◌, ◌||◌, not, Bool, true, false, List, [], ◌∷◌, ◌++◌, length, position, slice_get, get_or, Option, Some, Ok, refl, ap, ◌∙◌, codes}
 use Rattle.std.specs.Str.{bytes_eq}
 use Rattle.std.proofs.lemmas.Bool.{eqb-false, or_parts}
 use Rattle.std.proofs.lemmas.List.Elements.{All-nil, All-cons}
@@ -17,6 +17,7 @@ use Rattle.strm_script_words.specs.Table.{arity_at, request_at}
 use Rattle.strm_script_words.specs.declared.fault.Cause.TheVariants as causes
 use Rattle.strm_script_words.specs.declared.verb.Verb.{Verb}
 use Rattle.strm_script_parse.specs.Plan.{Call, Process, Fed, Streams, Place, Nowhere, In_process, In_feed}
+use Rattle.strm_script_parse.specs.Expected.{are_choices}
 use Rattle.strm_script_parse.specs.Reading.{call_at, placed_call, has_feed}
 use Rattle.strm_script_parse.specs.Targets.{stream_names, stream_at, stream_of, target_of, end_of, end_a}
 use Rattle.strm_script_parse.specs.declared.plan.TheConstants.{LONGEST}
@@ -79,12 +80,12 @@ placed_there words streams serial verb target texts call is =
     same (IsCallThere streams) (record { stream = place.0; end = place.1; asked = asked }) call is (target_there streams target place (found_in (target_of streams target) causes.NoSuch place found))))
 
 -- the stream and the end of a call that was read are there
-pub call_there : {K : Type 0} (words : KindWords K) (streams : Streams) (serial : ℕ) (verb : Verb) (texts : List (List ℕ)) (call : Call K) → call_at words streams serial verb texts ≡ Ok call → IsCallThere streams call
+pub call_there : {K : Type 0} (words : KindWords K) (streams : Streams) (serial : ℕ) (verb : Verb) (texts : List (List ℕ)) (replies : Option (List (List ℕ))) (call : Call K) → call_at words streams serial verb texts replies ≡ Ok call → IsCallThere streams call
 unfolding call_at
-call_there words streams serial verb [] call is = absurd cc
-call_there words streams serial verb (target ∷ texts) call is =
+call_there words streams serial verb [] replies call is = absurd cc
+call_there words streams serial verb (target ∷ texts) replies call is =
     through (arity_at words verb texts) _ call is (λ arity _ is.
-    passed (length texts == arity) (placed_call words streams serial verb target texts) call causes.Fields is (λ _ is.
+    passed (are_choices replies && (length texts == arity)) (placed_call words streams serial verb target texts) call causes.Fields is (λ _ is.
     placed_there words streams serial verb target texts call is))
 
 -- ---- one stream more

@@ -25,6 +25,7 @@ use Rattle.strm_script_words.specs.declared.fault.Cause.TheVariants as causes
 use Rattle.strm_script_words.specs.declared.verb.Verb.{Verb}
 use Rattle.strm_script_words.specs.declared.verb.Verb.TheVariants as verbs
 use Rattle.strm_script_parse.specs.Plan.{Call, Fed, Partial, Process, Streams}
+use Rattle.strm_script_parse.specs.Expected.{are_choices, call_fields, expected_of, reply_fields}
 use Rattle.strm_script_parse.specs.Reading.{fields_in, fresh_name, has_room, lines_onto, nothing_yet, spelt, with_call, with_message, with_process}
 use Rattle.strm_script_parse.specs.declared.loading.TheConstants.{MOST_READ}
 use Rattle.std.specs.Str.Lines.{lines}
@@ -158,7 +159,7 @@ nothing = nothing_yet
 
 -- so many processes have ended
 abbrev ended : ℕ → Partial Kind
-ended many = record nothing { processes = replicate many (record { name = 112 ∷ []; calls = [] }) }
+ended many = record nothing { processes = replicate many (record { name = 112 ∷ []; calls = []; expected = [] }) }
 
 process_256 : is_ok (with_process (ended 255) (113 ∷ [])) ≡ true
 process_256 = refl
@@ -166,10 +167,10 @@ process_256 = refl
 process_257 : with_process (ended 256) (113 ∷ []) ≡ Err causes.TooMany
 process_257 = refl
 
-call_65536 : (d : Partial Kind) (process : Process Kind) (verb : Verb) (call : Call Kind) → length process.calls ≡ 65535 → is_ok (with_call d process verb call) ≡ true
+call_65536 : (d : Partial Kind) (process : Process Kind) (verb : Verb) (call : Call Kind) → length process.calls ≡ 65535 → is_ok (with_call d process verb call []) ≡ true
 call_65536 d process verb call many = rw many refl
 
-call_65537 : (d : Partial Kind) (process : Process Kind) (verb : Verb) (call : Call Kind) → length process.calls ≡ 65536 → with_call d process verb call ≡ Err causes.TooMany
+call_65537 : (d : Partial Kind) (process : Process Kind) (verb : Verb) (call : Call Kind) → length process.calls ≡ 65536 → with_call d process verb call [] ≡ Err causes.TooMany
 call_65537 d process verb call many = rw many refl
 
 message_65536 : (d : Partial Kind) (feed : Fed) → length feed.messages ≡ 65535 → is_ok (with_message d feed (data_msg 0 [])) ≡ true
@@ -193,3 +194,39 @@ script_too_long bytes many = rw many refl
 
 most_that_is_read : MOST_READ ≡ 1048577
 most_that_is_read = refl
+
+-- ---- the replies that a call expects
+
+-- the fields of `write s:a =c`, and others behind them
+abbrev write_line : List (List ℕ) → List (List ℕ)
+write_line others = codes "s:a" ∷ codes "=c" ∷ others
+
+fields_of_the_call : call_fields (write_line (codes ":" ∷ codes "1" ∷ codes "|" ∷ codes "EAGAIN" ∷ [])) ≡ write_line []
+fields_of_the_call = refl
+
+two_choices : expected_of 5 2 (reply_fields (write_line (codes ":" ∷ codes "1" ∷ codes "|" ∷ codes "ENOSR" ∷ codes "broke" ∷ []))) ≡ record { call = 2; line = 5; choices = codes " 1" ∷ codes " ENOSR broke" ∷ [] } ∷ []
+two_choices = refl
+
+nothing_expected : expected_of 5 2 (reply_fields (write_line [])) ≡ []
+nothing_expected = refl
+
+-- a choice without a field, at each place
+no_choice : are_choices (reply_fields (write_line (codes ":" ∷ []))) ≡ false
+no_choice = refl
+
+no_first_choice : are_choices (reply_fields (write_line (codes ":" ∷ codes "|" ∷ codes "1" ∷ []))) ≡ false
+no_first_choice = refl
+
+no_last_choice : are_choices (reply_fields (write_line (codes ":" ∷ codes "1" ∷ codes "|" ∷ []))) ≡ false
+no_last_choice = refl
+
+no_middle_choice : are_choices (reply_fields (write_line (codes ":" ∷ codes "1" ∷ codes "|" ∷ codes "|" ∷ codes "2" ∷ []))) ≡ false
+no_middle_choice = refl
+
+-- a second `:` is a field of a reply
+second_colon : reply_fields (write_line (codes ":" ∷ codes ":" ∷ [])) ≡ Some (codes ":" ∷ [])
+second_colon = refl
+
+-- the first field is NAME:END, whatever it is
+colon_in_place_of_a_target : call_fields (codes ":" ∷ codes "=c" ∷ []) ≡ codes ":" ∷ codes "=c" ∷ []
+colon_in_place_of_a_target = refl

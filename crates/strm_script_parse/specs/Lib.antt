@@ -2,6 +2,7 @@ pub mod Streams
 pub mod Plan
 pub mod Last
 pub mod Targets
+pub mod Expected
 pub mod Reading
 pub mod Reads
 pub mod Spelling

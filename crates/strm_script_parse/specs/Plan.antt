@@ -1,5 +1,6 @@
 -- The plan that a script spells: streams in order, processes with their calls, and feeds with their messages.
-use Rattle.std.specs.Prelude.{ℕ, List, map}
+use Rattle.std.specs.Prelude.{ℕ, List, Vec, map}
+use Rattle.std.specs.Global.{Global}
 use Rattle.strm_msg.specs.Message.{Msg}
 use Rattle.strm_msg.specs.declared.words.End.{End}
 use Rattle.strm_module.specs.declared.shape.Shape.{Shape}
@@ -8,6 +9,7 @@ use Rattle.strm_script_words.specs.Table.{Asked, asked_of}
 use Rattle.strm_run_input.specs.declared.script.ScriptCall.{ScriptCall}
 use Rattle.strm_run_input.specs.declared.script.Feed.{Feed}
 pub use Rattle.strm_script_parse.specs.Streams.{Streams, streams_view, streams_of}
+use Rattle.strm_script_parse.specs.declared.plan.Expected.{Expected}
 use Rattle.strm_script_parse.specs.declared.plan.ProcessDecl.{ProcessDecl}
 use Rattle.strm_script_parse.specs.declared.plan.Plan.{Plan}
 use Rattle.strm_script_parse.specs.declared.plan.Names.{Names}
@@ -20,10 +22,18 @@ pub record Call (K : Type 0) : Type 0 where
   pub end : End
   pub asked : Asked K
 
--- a process: its name, and its calls in order
+-- the replies that a script expects of a call: the number of the call among those of its process, from 0; the
+-- number of its line, from 1; and the choices, each with a blank in front of each of its fields
+pub record Expect : Type 0 where
+  pub call : ℕ
+  pub line : ℕ
+  pub choices : List (List ℕ)
+
+-- a process: its name, its calls in order, and the replies that are expected of some of them
 pub record Process (K : Type 0) : Type 0 where
   pub name : List ℕ
   pub calls : List (Call K)
+  pub expected : List Expect
 
 -- the messages that are offered to a line or a wire
 pub record Fed : Type 0 where
@@ -62,9 +72,19 @@ pub record Partial (K : Type 0) : Type 0 where
 abbrev pub call_view : {K : Type 0} → ScriptCall (Shape K) → Call K
 call_view line = record { stream = line.stream; end = line.call.end; asked = asked_of line.call.request }
 
+-- texts
+abbrev pub texts_in : List (Vec ℕ Global) → List (List ℕ)
+texts_in texts = map (λ text. text.items) texts
+
+-- the replies that are expected of a call
+abbrev pub expected_view : Expected → Expect
+expected_view expected =
+    record { call = expected.call; line = expected.line; choices = texts_in expected.choices.items }
+
 -- a process; its calls are without their layout in memory
 abbrev pub process_view : {K : Type 0} → ProcessDecl (Shape K) → Process K
-process_view process = record { name = process.name.items; calls = map call_view process.calls }
+process_view process =
+    record { name = process.name.items; calls = map call_view process.calls; expected = map expected_view process.expected.items }
 
 -- the messages of a feed, and the stream that it is for
 abbrev pub feed_view : Feed → Fed

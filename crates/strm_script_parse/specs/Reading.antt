@@ -1,5 +1,5 @@
 -- The reading of a script from left to right: its plan, or its first fault.
-use Rattle.std.specs.Prelude.{ℕ, ◌+◌, ◌<◌, ◌==◌, ◌||◌, ◌&&◌, Bool, not, nat_lt, nat_le, List, [], ◌∷◌, ◌++◌, length, Result, Ok, Err, codes, map, is_some, if◌then◌else◌, slice_index}
+use Rattle.std.specs.Prelude.{ℕ, ◌+◌, ◌<◌, ◌==◌, ◌||◌, ◌&&◌, Bool, not, nat_lt, nat_le, Option, List, [], ◌∷◌, ◌++◌, length, Result, Ok, Err, codes, map, is_some, if◌then◌else◌, slice_index}
 use Rattle.std.specs.Str.{bytes_eq}
 use Rattle.std.specs.Str.Lines.{lines}
 use Rattle.std.specs.List.{list_any, list_all}
@@ -20,7 +20,8 @@ use Rattle.strm_script_words.specs.declared.fault.Cause.{Cause}
 use Rattle.strm_script_words.specs.declared.fault.Cause.TheVariants as causes
 use Rattle.strm_script_words.specs.declared.verb.Verb.{Verb}
 use Rattle.strm_script_words.specs.declared.arrival.MessageWord.{MessageWord}
-use Rattle.strm_script_parse.specs.Plan.{Call, Process, Fed, Streams, Whole, Place, Nowhere, In_process, In_feed, Partial}
+use Rattle.strm_script_parse.specs.Expected.{call_fields, reply_fields, are_choices, expected_of}
+use Rattle.strm_script_parse.specs.Plan.{Call, Expect, Process, Fed, Streams, Whole, Place, Nowhere, In_process, In_feed, Partial}
 use Rattle.strm_script_parse.specs.Targets.{stream_names, stream_at, target_of}
 use Rattle.strm_script_parse.specs.declared.plan.TheConstants.{LONGEST}
 use Rattle.strm_script_parse.specs.declared.draft.TheConstants.{MOST_STREAMS, MOST_PROCESSES, MOST_CALLS, MOST_MESSAGES, LONGEST_LINE}
@@ -124,7 +125,7 @@ process_name processes text = do
 -- the plan with a new process of this name, which goes on
 abbrev pub with_process : {K : Type 0} → Partial K → List ℕ → Result (Partial K) Cause
 with_process d chosen =
-    if nat_lt (length d.processes) MOST_PROCESSES then Ok (record d { place = In_process (record { name = chosen; calls = [] }) }) else Err causes.TooMany
+    if nat_lt (length d.processes) MOST_PROCESSES then Ok (record d { place = In_process (record { name = chosen; calls = []; expected = [] }) }) else Err causes.TooMany
 
 -- the plan behind a process line
 unfoldable pub process_onto : {K : Type 0} → Partial K → List (List ℕ) → Result (Partial K) Cause
@@ -161,21 +162,23 @@ placed_call words streams serial verb target texts = do
   asked ← request_at words serial verb texts
   Ok (record { stream = place.0; end = place.1; asked = asked })
 
--- a call; the number of fields is checked first, and for a push the word of its kind before that
-unfoldable pub call_at : {K : Type 0} → KindWords K → Streams → ℕ → Verb → List (List ℕ) → Result (Call K) Cause
-call_at words streams serial verb [] = Err causes.Fields
-call_at words streams serial verb (target ∷ texts) =
-    arity_at words verb texts >>= λ arity. if length texts == arity then placed_call words streams serial verb target texts else Err causes.Fields
+-- a call, by its fields and those of the expected replies; first it is checked that there are as many fields as
+-- there have to be, and for a push the word of its kind before that
+unfoldable pub call_at : {K : Type 0} → KindWords K → Streams → ℕ → Verb → List (List ℕ) → Option (List (List ℕ)) → Result (Call K) Cause
+call_at words streams serial verb [] replies = Err causes.Fields
+call_at words streams serial verb (target ∷ texts) replies =
+    arity_at words verb texts >>= λ arity. if are_choices replies && (length texts == arity) then placed_call words streams serial verb target texts else Err causes.Fields
 
--- the plan with one more call of the process that goes on
-abbrev pub with_call : {K : Type 0} → Partial K → Process K → Verb → Call K → Result (Partial K) Cause
-with_call d process verb call =
-    if nat_lt (length process.calls) MOST_CALLS then Ok (record d { modules = modules_after verb d.modules; place = In_process (record { name = process.name; calls = process.calls ++ call ∷ [] }) })
+-- the plan with one more call of the process that goes on, and the replies that are expected of it
+abbrev pub with_call : {K : Type 0} → Partial K → Process K → Verb → Call K → List Expect → Result (Partial K) Cause
+with_call d process verb call expected =
+    if nat_lt (length process.calls) MOST_CALLS then Ok (record d { modules = modules_after verb d.modules; place = In_process (record { name = process.name; calls = process.calls ++ call ∷ []; expected = process.expected ++ expected }) })
     else Err causes.TooMany
 
--- the plan behind a call line; a push declares the next module
-unfoldable pub call_onto : {K : Type 0} → KindWords K → Partial K → Process K → Verb → List (List ℕ) → Result (Partial K) Cause
-call_onto words d process verb texts = call_at words d.streams (d.modules + 1) verb texts >>= λ call. with_call d process verb call
+-- the plan behind a call line of this number; a push declares the next module
+unfoldable pub call_onto : {K : Type 0} → KindWords K → ℕ → Partial K → Process K → Verb → List (List ℕ) → Result (Partial K) Cause
+call_onto words n d process verb texts =
+    call_at words d.streams (d.modules + 1) verb (call_fields texts) (reply_fields texts) >>= λ call. with_call d process verb call (expected_of n (length process.calls) (reply_fields texts))
 
 -- ---- a message of a feed
 
@@ -195,24 +198,28 @@ message_onto d feed word texts = message_at word texts >>= λ m. with_message d 
 abbrev pub outside : List ℕ → Cause
 outside word = if is_some (verb_named word) || is_some (message_named word) then causes.OutOfPlace else causes.UnknownWord
 
+-- the plan behind the line of a feed that begins with this word
+abbrev pub fed_onto : {K : Type 0} → Partial K → Fed → List ℕ → List (List ℕ) → Result (Partial K) Cause
+fed_onto d feed word texts = or_fault (outside word) (message_named word) >>= λ m. message_onto d feed m texts
+
 -- the plan behind a call of the process that goes on, or a message of the feed that goes on; `flush` is a
 -- message in a feed, and a call elsewhere
-abbrev pub inner_onto : {K : Type 0} → KindWords K → Partial K → Place K → List ℕ → List (List ℕ) → Result (Partial K) Cause
-inner_onto words d Nowhere word texts = Err (outside word)
-inner_onto words d (In_process process) word texts = or_fault (outside word) (verb_named word) >>= λ verb. call_onto words d process verb texts
-inner_onto words d (In_feed feed) word texts = or_fault (outside word) (message_named word) >>= λ m. message_onto d feed m texts
+abbrev pub inner_onto : {K : Type 0} → KindWords K → ℕ → Partial K → Place K → List ℕ → List (List ℕ) → Result (Partial K) Cause
+inner_onto words n d Nowhere word texts = Err (outside word)
+inner_onto words n d (In_process process) word texts = or_fault (outside word) (verb_named word) >>= λ verb. call_onto words n d process verb texts
+inner_onto words n d (In_feed feed) word texts = fed_onto d feed word texts
 
--- the plan behind the line that begins with this word
-unfoldable pub word_onto : {K : Type 0} → KindWords K → Partial K → List ℕ → List (List ℕ) → Result (Partial K) Cause
-word_onto words d word texts =
+-- the plan behind the line of this number that begins with this word
+unfoldable pub word_onto : {K : Type 0} → KindWords K → ℕ → Partial K → List ℕ → List (List ℕ) → Result (Partial K) Cause
+word_onto words n d word texts =
     if bytes_eq word (codes "stream") then stream_onto (ended d) texts
     else (if bytes_eq word (codes "process") then process_onto (ended d) texts
-    else (if bytes_eq word (codes "feed") then feed_onto (ended d) texts else inner_onto words d d.place word texts))
+    else (if bytes_eq word (codes "feed") then feed_onto (ended d) texts else inner_onto words n d d.place word texts))
 
 -- the plan behind a line of these fields; a line without fields adds nothing
-abbrev pub fields_onto : {K : Type 0} → KindWords K → Partial K → List (List ℕ) → Result (Partial K) Cause
-fields_onto words d [] = Ok d
-fields_onto words d (word ∷ texts) = word_onto words d word texts
+abbrev pub fields_onto : {K : Type 0} → KindWords K → ℕ → Partial K → List (List ℕ) → Result (Partial K) Cause
+fields_onto words n d [] = Ok d
+fields_onto words n d (word ∷ texts) = word_onto words n d word texts
 
 -- a line has more bytes than it may have
 abbrev pub IsTooLong : List ℕ → Type 0
@@ -225,9 +232,9 @@ fields_in line =
     if nat_lt LONGEST_LINE (length line) then Err causes.TooLong
     else (if slice_index line 0 == 35 then Ok [] else (if list_all is_allowed line then Ok (fields_of line) else Err causes.Byte))
 
--- the plan behind a line
-unfoldable pub line_onto : {K : Type 0} → KindWords K → Partial K → List ℕ → Result (Partial K) Cause
-line_onto words d line = fields_in line >>= λ texts. fields_onto words d texts
+-- the plan behind a line of this number
+unfoldable pub line_onto : {K : Type 0} → KindWords K → ℕ → Partial K → List ℕ → Result (Partial K) Cause
+line_onto words n d line = fields_in line >>= λ texts. fields_onto words n d texts
 
 -- ---- all lines
 
@@ -248,7 +255,7 @@ then_lines n (Err cause) others = Err (record { line = n; cause = cause })
 -- the reading of lines, one after another, behind that many that were read
 unfoldable pub lines_onto : {K : Type 0} → KindWords K → ℕ → Partial K → List (List ℕ) → Result (Whole K) FaultAt
 lines_onto words n d [] = Ok (plan_of d)
-lines_onto words n d (line ∷ others) = then_lines (n + 1) (line_onto words d line) (λ e. lines_onto words (n + 1) e others)
+lines_onto words n d (line ∷ others) = then_lines (n + 1) (line_onto words (n + 1) d line) (λ e. lines_onto words (n + 1) e others)
 
 -- the plan before the first line
 abbrev pub nothing_yet : {K : Type 0} → Partial K

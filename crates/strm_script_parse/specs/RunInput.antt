@@ -1,12 +1,15 @@
 -- The input of a run, made of a plan, and the names of the plan.
-use Rattle.std.specs.Prelude.{ℕ, List, Vec, map}
+use Rattle.std.specs.Prelude.{ℕ, List, [], ◌∷◌, Vec, map}
 use Rattle.std.specs.Global.{Global}
 use Rattle.std.specs.List.{flat_map}
 use Rattle.arrayvec.specs.ArrayVec.{ArrayVec}
 use Rattle.strm_head_calls.specs.declared.setup.Setup.{Setup}
 use Rattle.strm_run_input.specs.declared.script.ScriptCall.{ScriptCall}
+use Rattle.strm_script_parse.specs.Plan.{Expect, expected_view}
+use Rattle.strm_script_parse.specs.declared.plan.Expected.{Expected}
 use Rattle.strm_script_parse.specs.declared.plan.ProcessDecl.{ProcessDecl}
 use Rattle.strm_script_parse.specs.declared.plan.Plan.{Plan}
+use Rattle.strm_script_parse.specs.declared.run_input.Replies.{Replies}
 
 -- the setup of each stream, in order of declaration
 abbrev pub setups_of : {P : Type 0} → Plan P → List Setup
@@ -23,3 +26,26 @@ calls_of_blocks blocks = flat_map (λ block. block.items) blocks
 -- the names of the processes, in order
 abbrev pub names_of : {P : Type 0} → List (ProcessDecl P) → List (ArrayVec ℕ)
 names_of processes = map (λ process. process.name) processes
+
+-- the stream of each call, in order
+abbrev pub call_streams : {P : Type 0} → List (ScriptCall P) → List ℕ
+call_streams calls = map (λ call. call.stream) calls
+
+-- the same where replies are expected; else nothing
+abbrev pub streams_if : {P : Type 0} → List Expected → List (ScriptCall P) → List ℕ
+streams_if [] calls = []
+streams_if (one ∷ others) calls = call_streams calls
+
+-- the replies that are expected of the calls of a process, and the stream of each call if there are some
+pub record RepliesValue : Type 0 where
+  pub streams : List ℕ
+  pub expected : List Expect
+
+-- the replies that a run hands on
+abbrev pub replies_view : Replies → RepliesValue
+replies_view replies = record { streams = replies.streams.items; expected = map expected_view replies.expected.items }
+
+-- the replies that a process expects
+abbrev pub replies_of : {P : Type 0} → ProcessDecl P → RepliesValue
+replies_of process =
+    record { streams = streams_if process.expected.items process.calls; expected = map expected_view process.expected.items }

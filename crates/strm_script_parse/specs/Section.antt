@@ -34,7 +34,7 @@ HasRoom (In_feed feed) many = ⊥
 -- the process that goes on, with these calls more
 abbrev pub called : {K : Type 0} → Place K → List (Call K) → Place K
 called Nowhere calls = Nowhere
-called (In_process process) calls = In_process (record { name = process.name; calls = process.calls ++ calls })
+called (In_process process) calls = In_process (record { name = process.name; calls = process.calls ++ calls; expected = process.expected })
 called (In_feed feed) calls = In_feed feed
 
 abbrev pub with_calls : {K : Type 0} → Partial K → List (Call K) → Partial K
@@ -51,13 +51,14 @@ whole_lines sections = flat_map (λ section. lines section.text.now) sections
 abbrev pub IsMore : Streams → Streams → Type 0
 IsMore streams all = (more : Streams) × (all ≡ streams ++ more)
 
--- on these streams the reading adds these calls to the process that goes on, and changes nothing else
-pub record AddsCalls {K : Type 0} (streams : Streams) (read : Partial K → Result (Partial K) Cause) (calls : List (Call K)) : Type 0 where
-  pub onto : (d : Partial K) → d.streams ≡ streams → HasRoom d.place (length calls) → read d ≡ Ok (with_calls d calls)
+-- on these streams the reading of a line, whichever number it has, adds these calls to the process that goes on,
+-- and changes nothing else
+pub record AddsCalls {K : Type 0} (streams : Streams) (read : ℕ → Partial K → Result (Partial K) Cause) (calls : List (Call K)) : Type 0 where
+  pub onto : (n : ℕ) (d : Partial K) → d.streams ≡ streams → HasRoom d.place (length calls) → read n d ≡ Ok (with_calls d calls)
   pub there : AreCallsThere streams calls
 
 -- the promise of a line that is read apart: it adds no call, or one
-abbrev pub Says : {K : Type 0} → Streams → (Partial K → Result (Partial K) Cause) → Said (Shape K) → Type 0
+abbrev pub Says : {K : Type 0} → Streams → (ℕ → Partial K → Result (Partial K) Cause) → Said (Shape K) → Type 0
 Says streams read Said.Nothing = AddsCalls streams read []
 Says streams read (Said.Call call) = AddsCalls streams read (call_view call ∷ [])
 Says streams read Said.Other = ⊤
@@ -92,7 +93,7 @@ module _ {K : Type 0} (words : KindWords K) where
 
   -- the fault of a line that has that many lines before it, or out of memory
   abbrev pub IsFaultOfLine : ℕ → Partial K → List ℕ → ScriptFault → Type 0
-  IsFaultOfLine n d line fault = IsNoMemory fault ⊎ ((fault.line ≡ n + 1) × (line_onto words d line ≡ Err fault.cause))
+  IsFaultOfLine n d line fault = IsNoMemory fault ⊎ ((fault.line ≡ n + 1) × (line_onto words (n + 1) d line ≡ Err fault.cause))
 
   -- the first fault of the lines of a text that has that many lines before it, or out of memory
   abbrev pub IsFaultOfLines : ℕ → Partial K → List ℕ → ScriptFault → Type 0
@@ -101,9 +102,9 @@ module _ {K : Type 0} (words : KindWords K) where
 
   -- ---- the same of drafts
 
-  -- the new draft is the old one with this line
-  abbrev pub HasReadLine : Draft (Shape K) → List ℕ → Draft (Shape K) → Type 0
-  HasReadLine old line new = line_onto words (draft_view old) line ≡ Ok (draft_view new)
+  -- the new draft is the old one of n lines with this line
+  abbrev pub HasReadLine : ℕ → Draft (Shape K) → List ℕ → Draft (Shape K) → Type 0
+  HasReadLine n old line new = line_onto words (n + 1) (draft_view old) line ≡ Ok (draft_view new)
 
   abbrev pub HasLineFault : ℕ → Draft (Shape K) → List ℕ → ScriptFault → Type 0
   HasLineFault n old line fault = IsFaultOfLine n (draft_view old) line fault

@@ -1,4 +1,5 @@
-//! A call line: a verb, NAME:END, and the fields of the call.
+//! A call line: a verb, NAME:END, the fields of the call, and the replies that are expected of it.
+ghost use Rattle.std.specs.Option.{option_map};
 ghost use Rattle.std.specs.Prelude.{◌≡◌, ◌≤◌, ◌<◌, ◌^◌, true, length, IsErrOf};
 ghost use Rattle.strm_script_parse.specs.Last.{IsKnown};
 ghost use Rattle.strm_script_parse.specs.Plan.{call_view, streams_of};
@@ -9,6 +10,7 @@ ghost use Rattle.strm_script_words.specs.Fault.{Gives};
 ghost use Rattle.strm_script_words.specs.Table.{takes_memory};
 
 use crate::declared::Found;
+use crate::expected::are_choices;
 use crate::plan::Name;
 use crate::target::target_of;
 use indexmap::IndexMap;
@@ -56,7 +58,8 @@ where
     Ok(ScriptCall { stream, call })
 }
 
-/// The call of this verb, by its fields: NAME:END and those behind it. Takes memory as `placed_call` does.
+/// The call of this verb, by its fields: NAME:END and those behind it, and those of the expected replies. Takes
+/// memory as `placed_call` does.
 #[tactic(auto, unfolding(crate::specs::Reading::call_at))]
 #[inline(always)]
 pub(crate) fn call_at<M: PlayModule>(
@@ -66,21 +69,22 @@ pub(crate) fn call_at<M: PlayModule>(
     serial: u64,
     verb: Verb,
     texts: &[&[u8]],
+    replies: Option<&[&[u8]]>,
 ) -> Result<ScriptCall<BoxedModule<M>>, ReadError>
 where
     M::Kind: ReadKind,
     requires few { length streams.now.entries ≤ MOST_STREAMS }
     requires known { IsKnown (streams_of streams.now) last.old }
     ensures known { IsKnown (streams_of streams.now) last.new }
-    ensures call { Gives call_view result
-        (call_at M.Kind.words (streams_of streams.now) serial verb (texts_of texts.now)) }
+    ensures call { Gives call_view result (call_at M.Kind.words (streams_of streams.now) serial verb
+        (texts_of texts.now) (option_map (λ fields. texts_of fields.now) replies.entry)) }
     ensures memory { IsErrOf result ReadError.Memory → takes_memory verb ≡ true }
 {
     let [target, texts @ ..] = texts else {
         return Err(ReadError::Fault(Cause::Fields));
     };
     let arity = verb.arity::<M::Kind>(texts)?;
-    if texts.len() != arity {
+    if !are_choices(replies) || texts.len() != arity {
         return Err(ReadError::Fault(Cause::Fields));
     }
     placed_call(alloc, streams, last, serial, verb, target, texts)

@@ -1,9 +1,9 @@
 //! A plan while it is read, line by line.
 ghost use Rattle.std.specs.Prelude.{◌≡◌, ◌≤◌, ◌<◌, ◌^◌, true, Ok, length, map, IsErrOf};
-ghost use Rattle.strm_script_parse.specs.Plan.{call_view, draft_view, feed_place, feed_view};
+ghost use Rattle.strm_script_parse.specs.Plan.{call_view, draft_view, feed_view};
 ghost use Rattle.strm_script_parse.specs.Plan.{plan_view, process_place, process_view, streams_of};
 ghost use Rattle.strm_script_parse.specs.Reading as reading;
-ghost use Rattle.strm_script_parse.specs.Reading.{IsTooLong, call_onto, feed_onto, fields_onto};
+ghost use Rattle.strm_script_parse.specs.Reading.{IsTooLong, call_onto, fed_onto, feed_onto, fields_onto};
 ghost use Rattle.strm_script_parse.specs.Reading.{inner_onto, line_onto, message_onto, process_onto};
 ghost use Rattle.strm_script_parse.specs.Reading.{setup_onto, stream_onto, word_onto};
 ghost use Rattle.strm_script_parse.specs.Reads.{Becomes, Reads, TakesMemoryLast};
@@ -13,6 +13,7 @@ ghost use Rattle.strm_script_words.specs.Fault.{Gives};
 
 use crate::call_line::{call_at, modules_after};
 use crate::declared::Declared;
+use crate::expected::{add_expected, cut_replies};
 use crate::names::{add_stream, process_name, stream_name};
 use crate::plan::{Name, Plan, ProcessDecl};
 use crate::setup::{arity, driver_at, setup_at};
@@ -189,8 +190,12 @@ where
         if self.processes.len() >= MOST_PROCESSES {
             return Err(ReadError::Fault(Cause::TooMany));
         }
-        let calls = Script::new(alloc);
-        match Box::new(alloc, ProcessDecl { name, calls }) {
+        let process = ProcessDecl {
+            name,
+            calls: Script::new(alloc),
+            expected: Vec::new(alloc),
+        };
+        match Box::new(alloc, process) {
             Ok(process) => self.current = Current::Process(process),
             Err(_) => return Err(ReadError::Memory),
         }
@@ -218,25 +223,29 @@ where
         Ok(())
     }
 
-    /// Reads a call of the process that goes on.
+    /// Reads a call of the process that goes on, in the line of this number.
     #[tactic(auto, unfolding(crate::specs::Reading::call_onto))]
     fn call_line(
         &mut self,
         alloc: Global,
+        number: u64,
         mut process: Box<ProcessDecl<BoxedModule<M>>>,
         verb: Verb,
         texts: &[&[u8]],
     ) -> Result<(), ReadError>
         requires few { length self.old.streams.map.entries ≤ MOST_STREAMS }
         requires modules { self.old.modules < 2 ^ 63 }
-        ensures { Reads (λ d. call_onto M.Kind.words d (process_view process.value) verb)
+        ensures { Reads (λ d. call_onto M.Kind.words number d (process_view process.value) verb)
             texts.now self.old self.new result }
     {
+        let (texts, replies) = cut_replies(texts);
         let Declared { map, last } = &mut self.streams;
-        let call = call_at(alloc, map, last, self.modules + 1, verb, texts)?;
-        if process.calls.len() >= MOST_CALLS {
+        let call = call_at(alloc, map, last, self.modules + 1, verb, texts, replies)?;
+        let many = process.calls.len();
+        if many >= MOST_CALLS {
             return Err(ReadError::Fault(Cause::TooMany));
         }
+        add_expected(alloc, &mut process.expected, number, many, replies)?;
         process.calls.push(alloc, call)?;
         self.modules = modules_after(verb, self.modules);
         self.current = Current::Process(process);
@@ -267,17 +276,18 @@ where
     fn process_word(
         &mut self,
         alloc: Global,
+        number: u64,
         process: Box<ProcessDecl<BoxedModule<M>>>,
         word: &[u8],
         texts: &[&[u8]],
     ) -> Result<(), ReadError>
         requires few { length self.old.streams.map.entries ≤ MOST_STREAMS }
         requires modules { self.old.modules < 2 ^ 63 }
-        ensures { Reads (λ d. inner_onto M.Kind.words d (process_place process.value) word.now)
+        ensures { Reads (λ d. inner_onto M.Kind.words number d (process_place process.value) word.now)
             texts.now self.old self.new result }
     {
         match from_keyword(word) {
-            Some(verb) => self.call_line(alloc, process, verb, texts),
+            Some(verb) => self.call_line(alloc, number, process, verb, texts),
             None => Err(ReadError::Fault(outside(word))),
         }
     }
@@ -290,8 +300,7 @@ where
         word: &[u8],
         texts: &[&[u8]],
     ) -> Result<(), ReadError>
-        ensures { Reads (λ d. inner_onto M.Kind.words d (feed_place feed) word.now)
-            texts.now self.old self.new result }
+        ensures { Reads (λ d. fed_onto d (feed_view feed) word.now) texts.now self.old self.new result }
     {
         match from_keyword(word) {
             Some(word) => self.message_line(alloc, feed, word, texts),
@@ -301,24 +310,37 @@ where
 
     /// Reads a line of the process or feed that goes on, by its word.
     #[tactic(auto, unfolding(crate::specs::Reading::call_onto, crate::specs::Reading::message_onto))]
-    fn inner_line(&mut self, alloc: Global, word: &[u8], texts: &[&[u8]]) -> Result<(), ReadError>
+    fn inner_line(
+        &mut self,
+        alloc: Global,
+        number: u64,
+        word: &[u8],
+        texts: &[&[u8]],
+    ) -> Result<(), ReadError>
         requires few { length self.old.streams.map.entries ≤ MOST_STREAMS }
         requires modules { self.old.modules < 2 ^ 63 }
-        ensures { Reads (λ d. inner_onto M.Kind.words d d.place word.now) texts.now self.old self.new result }
+        ensures { Reads (λ d. inner_onto M.Kind.words number d d.place word.now)
+            texts.now self.old self.new result }
     {
         match mem::replace(&mut self.current, Current::Nowhere) {
             Current::Nowhere => Err(ReadError::Fault(outside(word))),
-            Current::Process(process) => self.process_word(alloc, process, word, texts),
+            Current::Process(process) => self.process_word(alloc, number, process, word, texts),
             Current::Feed(feed) => self.feed_word(alloc, feed, word, texts),
         }
     }
 
-    /// Reads a line, by its word.
+    /// Reads the line of this number, by its word.
     #[tactic(auto, unfolding(crate::specs::Reading::word_onto))]
-    fn word_line(&mut self, alloc: Global, word: &[u8], texts: &[&[u8]]) -> Result<(), ReadError>
+    fn word_line(
+        &mut self,
+        alloc: Global,
+        number: u64,
+        word: &[u8],
+        texts: &[&[u8]],
+    ) -> Result<(), ReadError>
         requires few { length self.old.streams.map.entries ≤ MOST_STREAMS }
         requires modules { self.old.modules < 2 ^ 63 }
-        ensures { Reads (λ d. word_onto M.Kind.words d word.now) texts.now self.old self.new result }
+        ensures { Reads (λ d. word_onto M.Kind.words number d word.now) texts.now self.old self.new result }
     {
         if word == b"stream".as_slice() {
             self.close()?;
@@ -332,36 +354,38 @@ where
             self.close()?;
             return self.feed_line(alloc, texts);
         }
-        self.inner_line(alloc, word, texts)
+        self.inner_line(alloc, number, word, texts)
     }
 
-    /// Reads a line, by its fields. A line without fields adds nothing.
-    fn fields_line(&mut self, alloc: Global, texts: &[&[u8]]) -> Result<(), ReadError>
+    /// Reads the line of this number, by its fields. A line without fields adds nothing.
+    fn fields_line(&mut self, alloc: Global, number: u64, texts: &[&[u8]]) -> Result<(), ReadError>
         requires few { length self.old.streams.map.entries ≤ MOST_STREAMS }
         requires modules { self.old.modules < 2 ^ 63 }
-        ensures { Reads (fields_onto M.Kind.words) texts.now self.old self.new result }
+        ensures { Reads (fields_onto M.Kind.words number) texts.now self.old self.new result }
     {
         match texts {
             [] => Ok(()),
-            [word, texts @ ..] => self.word_line(alloc, word, texts),
+            [word, texts @ ..] => self.word_line(alloc, number, word, texts),
         }
     }
 
-    /// Reads a line. The list is for its fields, so that not each line takes memory for them.
+    /// Reads the line of this number, from 1. The list is for its fields, so that not each line takes memory for
+    /// them.
     #[tactic(auto, unfolding(crate::specs::Reading::line_onto))]
     pub(crate) fn line<'a>(
         &mut self,
         alloc: Global,
+        number: u64,
         line: &'a [u8],
         texts: &mut Vec<&'a [u8]>,
     ) -> Result<(), ReadError>
         requires few { length self.old.streams.map.entries ≤ MOST_STREAMS }
         requires modules { self.old.modules < 2 ^ 63 }
-        ensures line { Becomes (λ d. line_onto M.Kind.words d line.now) self.old self.new result }
+        ensures line { Becomes (λ d. line_onto M.Kind.words number d line.now) self.old self.new result }
         ensures length { IsTooLong line.now → IsErrOf result (ReadError.Fault Cause.TooLong) }
     {
         fields_in(line, texts)?;
-        self.fields_line(alloc, texts.as_slice())
+        self.fields_line(alloc, number, texts.as_slice())
     }
 
     /// Whether a process goes on that has no call yet and may have that many.

@@ -5,6 +5,7 @@
 mod call_line;
 mod declared;
 mod draft;
+mod expected;
 mod fault;
 mod loading;
 mod making;
@@ -21,7 +22,7 @@ pub use fault::{PlayFault, ScriptFault};
 pub use loading::{LoadFault, MOST_READ, load};
 pub use making::with_modules;
 pub use parsing::{LONGEST_SCRIPT, parse, parse_made, parse_parallel};
-pub use plan::{Name, Names, Plan, ProcessDecl};
+pub use plan::{Expected, Name, Names, Plan, ProcessDecl};
 pub use push_decl::{CallDecl, Object, PushDecl};
-pub use run_input::{RunInput, into_run_input};
+pub use run_input::{Replies, RunInput, into_run_input};
 pub use strm_script_words::{Cause, PlayModule, ReadKind};

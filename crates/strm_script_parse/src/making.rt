@@ -96,9 +96,17 @@ fn processes<M: ModuleOf, F: Fn(&Shape<M::Kind>) -> Result<M, NoMem>>(
 {
     let mut made = Vec::with_capacity(alloc, declared.len())?;
     for process in declared {
-        let ProcessDecl { name, calls } = process;
+        let ProcessDecl {
+            name,
+            calls,
+            expected,
+        } = process;
         let calls = script(alloc, calls, make)?;
-        made.push(ProcessDecl { name, calls })?;
+        made.push(ProcessDecl {
+            name,
+            calls,
+            expected,
+        })?;
     }
     Ok(made)
 }

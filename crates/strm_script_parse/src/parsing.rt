@@ -121,15 +121,16 @@ where
     M::Kind: ReadKind,
     requires few { before < LONGEST_SCRIPT }
     requires at { IsAt before (draft_view draft.old) }
-    ensures read { OnOk result (HasReadLine M.Kind.words draft.old line.now draft.new) }
+    ensures read { OnOk result (HasReadLine M.Kind.words before draft.old line.now draft.new) }
     ensures fault { IfErr result (HasLineFault M.Kind.words before draft.old line.now) }
     ensures length { IsTooLong line.now → IsErrOf result (fault_at (before + 1) Cause.TooLong) }
 {
-    match draft.line(alloc, line, texts) {
+    let number = before + 1;
+    match draft.line(alloc, number, line, texts) {
         Ok(()) => Ok(()),
         Err(ReadError::Memory) => Err(no_memory()),
         Err(ReadError::Fault(cause)) => Err(ScriptFault {
-            line: before + 1,
+            line: number,
             cause,
         }),
     }

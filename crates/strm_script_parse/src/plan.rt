@@ -11,6 +11,17 @@ pub const LONGEST: usize = 16;
 /// The name of a stream or a process: 1 to 16 letters, digits and `_`.
 pub type Name = ArrayVec<u8, LONGEST>;
 
+/// The replies that a script expects of a call: any of some choices.
+#[derive(Drop)]
+pub struct Expected {
+    /// The number of the call among those of its process, from 0.
+    pub call: usize,
+    /// The number of its line, from 1.
+    pub line: u64,
+    /// The choices, as a transcript has a reply behind its `:`, with a blank in front of each field.
+    pub choices: Vec<Vec<u8>>,
+}
+
 /// A process: a caller with the calls that it makes, one after another.
 #[derive(Drop)]
 pub struct ProcessDecl<P = PushDecl> {
@@ -18,6 +29,8 @@ pub struct ProcessDecl<P = PushDecl> {
     pub name: Name,
     /// Its calls, in order, each with the number of its stream in the order of the plan. A push carries `P`.
     pub calls: Script<P>,
+    /// The replies that are expected of some of its calls, in order.
+    pub expected: Vec<Expected>,
 }
 
 /// A plan that a script spells. Its pushes carry `P`: the declaration of a module, or the module itself, of

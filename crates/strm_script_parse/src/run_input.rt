@@ -1,13 +1,23 @@
 //! The input of a run, made of a plan.
-ghost use Rattle.std.specs.Prelude.{◌≡◌, map, IfOk};
-ghost use Rattle.strm_script_parse.specs.RunInput.{setups_of, calls_of_processes, names_of};
+ghost use Rattle.std.specs.Prelude.{◌≡◌, ◌++◌, map, IfOk, OnOk};
+ghost use Rattle.strm_script_parse.specs.RunInput.{calls_of_processes, call_streams, names_of};
+ghost use Rattle.strm_script_parse.specs.RunInput.{replies_of, replies_view, setups_of, streams_if};
 
-use crate::plan::{Name, Names, Plan, ProcessDecl};
+use crate::plan::{Expected, Name, Names, Plan, ProcessDecl};
 use indexmap::IndexMap;
 use std::alloc::Global;
 use strm_head_calls::Setup;
 use strm_msg::NoMem;
-use strm_run_input::{Feed, Script};
+use strm_run_input::{Feed, Script, ScriptCall};
+
+/// The replies that are expected of the calls of a process.
+#[derive(Drop)]
+pub struct Replies {
+    /// The number of the stream of each call, in order, where replies are expected; else nothing.
+    pub streams: Vec<u32>,
+    /// The replies, as the plan had them.
+    pub expected: Vec<Expected>,
+}
 
 /// The input of a run, made of a plan, and the names of the plan.
 #[derive(Drop)]
@@ -20,6 +30,8 @@ pub struct RunInput<P> {
     pub scripts: Vec<Script<P>>,
     /// The feeds, as the plan had them.
     pub feeds: Vec<Feed>,
+    /// The replies that are expected of the calls of each process, in order.
+    pub expected: Vec<Replies>,
 }
 
 /// The setup of each stream, in order of declaration.
@@ -30,26 +42,80 @@ fn setups(alloc: Global, streams: &IndexMap<Name, Setup>) -> Result<Vec<Setup>, 
     Ok(all)
 }
 
-/// The name and the calls of each process. Fails only when memory runs out.
-fn scripts<P: Drop>(
+/// Adds the streams of calls. Fails only when memory runs out.
+fn add_streams<P: Drop>(streams: &mut Vec<u32>, calls: &[ScriptCall<P>]) -> Result<(), NoMem>
+    ensures { OnOk result (streams.new.items ≡ streams.old.items ++ call_streams calls.now) }
+{
+    for call in calls {
+        streams.push(call.stream)?;
+    }
+    Ok(())
+}
+
+/// The stream of each call. Fails only when memory runs out.
+fn call_streams<P: Drop>(alloc: Global, calls: &Script<P>) -> Result<Vec<u32>, NoMem>
+    ensures { IfOk result (λ all. all.items ≡ call_streams calls.now) }
+{
+    let mut streams = Vec::with_capacity(alloc, calls.len())?;
+    let (full, last) = calls.blocks();
+    for block in full {
+        add_streams(&mut streams, block.as_slice())?;
+    }
+    add_streams(&mut streams, last)?;
+    Ok(streams)
+}
+
+/// The stream of each call of a process, if replies are expected. Fails only when memory runs out.
+fn streams_if<P: Drop>(
     alloc: Global,
-    processes: Vec<ProcessDecl<P>>,
-) -> Result<(Vec<Name>, Vec<Script<P>>), NoMem>
-    ensures names { IfOk result (λ both. both.0.items ≡ names_of processes.items) }
-    ensures calls { IfOk result (λ both. both.1.items ≡ calls_of_processes processes.items) }
+    expected: &[Expected],
+    calls: &Script<P>,
+) -> Result<Vec<u32>, NoMem>
+    ensures { IfOk result (λ all. all.items ≡ streams_if expected.now calls.now) }
+{
+    match expected {
+        [] => Ok(Vec::new(alloc)),
+        [_, ..] => call_streams(alloc, calls),
+    }
+}
+
+/// The names, the calls and the expected replies of processes, each in order.
+#[derive(Drop)]
+struct Parts<P> {
+    names: Vec<Name>,
+    scripts: Vec<Script<P>>,
+    expected: Vec<Replies>,
+}
+
+/// The parts of processes. Fails only when memory runs out.
+fn parts_of<P: Drop>(alloc: Global, processes: Vec<ProcessDecl<P>>) -> Result<Parts<P>, NoMem>
+    ensures names { IfOk result (λ parts. parts.names.items ≡ names_of processes.items) }
+    ensures calls { IfOk result (λ parts. parts.scripts.items ≡ calls_of_processes processes.items) }
+    ensures expected { IfOk result (λ parts. map replies_view parts.expected.items ≡ map replies_of processes.items) }
 {
     let mut names = Vec::with_capacity(alloc, processes.len())?;
     let mut scripts = Vec::with_capacity(alloc, processes.len())?;
+    let mut all = Vec::with_capacity(alloc, processes.len())?;
     for process in processes {
-        let ProcessDecl { name, calls } = process;
+        let ProcessDecl {
+            name,
+            calls,
+            expected,
+        } = process;
+        let streams = streams_if(alloc, expected.as_slice(), &calls)?;
         names.push(name)?;
         scripts.push(calls)?;
+        all.push(Replies { streams, expected })?;
     }
-    Ok((names, scripts))
+    Ok(Parts {
+        names,
+        scripts,
+        expected: all,
+    })
 }
 
 /// Makes the input of a run of a plan: the setup of each stream, the calls of each process, and each feed.
-/// The names of the streams and processes are returned with it.
+/// The names of the streams and processes are returned with it, and the replies that are expected.
 ///
 /// Fails only when memory runs out.
 pub fn into_run_input<P: Drop>(alloc: Global, plan: Plan<P>) -> Result<RunInput<P>, NoMem>
@@ -58,6 +124,8 @@ pub fn into_run_input<P: Drop>(alloc: Global, plan: Plan<P>) -> Result<RunInput<
     ensures setups { IfOk result (λ handed. handed.setups.items ≡ setups_of plan) }
     ensures scripts { IfOk result (λ handed. handed.scripts.items ≡ calls_of_processes plan.processes.items) }
     ensures feeds { IfOk result (λ handed. handed.feeds.items ≡ plan.feeds.items) }
+    ensures expected { IfOk result
+        (λ handed. map replies_view handed.expected.items ≡ map replies_of plan.processes.items) }
 {
     let Plan {
         streams,
@@ -65,11 +133,19 @@ pub fn into_run_input<P: Drop>(alloc: Global, plan: Plan<P>) -> Result<RunInput<
         feeds,
     } = plan;
     let setups = setups(alloc, &streams)?;
-    let (processes, scripts) = scripts(alloc, processes)?;
+    let Parts {
+        names,
+        scripts,
+        expected,
+    } = parts_of(alloc, processes)?;
     Ok(RunInput {
-        names: Names { streams, processes },
+        names: Names {
+            streams,
+            processes: names,
+        },
         setups,
         scripts,
         feeds,
+        expected,
     })
 }

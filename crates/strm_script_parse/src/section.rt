@@ -12,6 +12,7 @@ ghost use Rattle.strm_script_words.specs.Table.{is_push};
 use crate::call_line::call_at;
 use crate::declared::Found;
 use crate::draft::fields_in;
+use crate::expected::cut_replies;
 use crate::plan::Name;
 use indexmap::IndexMap;
 use memchr::memmem;
@@ -33,7 +34,7 @@ const PROCESS: &[u8] = b"\nprocess";
 enum Said<P> {
     /// Nothing.
     Nothing,
-    /// A call that is no push.
+    /// A call that is no push, and of which no reply is expected.
     Call(ScriptCall<P>),
     /// Another line, or one with a fault.
     Other,
@@ -106,7 +107,7 @@ where
     requires known { IsKnown (streams_of streams.now) last.old }
     ensures known { IsKnown (streams_of streams.now) last.new }
     ensures said { IfOk result
-        (Says (streams_of streams.now) (λ d. word_onto M.Kind.words d word.now (texts_of texts.now))) }
+        (Says (streams_of streams.now) (λ n d. word_onto M.Kind.words n d word.now (texts_of texts.now))) }
 {
     let Some(verb) = from_keyword(word) else {
         return Ok(Said::Other);
@@ -114,7 +115,10 @@ where
     if is_push(verb) {
         return Ok(Said::Other);
     }
-    match call_at(alloc, streams, last, 0, verb, texts) {
+    let (texts, None) = cut_replies(texts) else {
+        return Ok(Said::Other);
+    };
+    match call_at(alloc, streams, last, 0, verb, texts, None) {
         Ok(call) => Ok(Said::Call(call)),
         Err(ReadError::Memory) => Err(NoMem),
         Err(ReadError::Fault(_)) => Ok(Said::Other),
@@ -134,7 +138,7 @@ where
     requires known { IsKnown (streams_of streams.now) last.old }
     ensures known { IsKnown (streams_of streams.now) last.new }
     ensures said { IfOk result
-        (Says (streams_of streams.now) (λ d. fields_onto M.Kind.words d (texts_of texts.now))) }
+        (Says (streams_of streams.now) (λ n d. fields_onto M.Kind.words n d (texts_of texts.now))) }
 {
     match texts {
         [] => Ok(Said::Nothing),
@@ -155,7 +159,7 @@ where
     requires few { length streams.now.entries ≤ MOST_STREAMS }
     requires known { IsKnown (streams_of streams.now) last.old }
     ensures known { IsKnown (streams_of streams.now) last.new }
-    ensures said { IfOk result (Says (streams_of streams.now) (λ d. line_onto M.Kind.words d line.now)) }
+    ensures said { IfOk result (Says (streams_of streams.now) (λ n d. line_onto M.Kind.words n d line.now)) }
 {
     match fields_in(line, texts) {
         Ok(()) => fields_said(alloc, streams, last, texts.as_slice()),

@@ -17,7 +17,7 @@ use Rattle.strm_script_parse.specs.Plan.{plan_view}
 use Rattle.strm_script_parse.specs.Reading.{spelt}
 use Rattle.strm_script_parse.specs.Spelling.{Spells}
 use Rattle.strm_script_parse.specs.declared.plan.Plan.{Plan}
-use Rattle.strm_script_parse.specs.RunInput.{setups_of, calls_of_processes, names_of}
+use Rattle.strm_script_parse.specs.RunInput.{setups_of, calls_of_processes, names_of, replies_of, replies_view}
 use Rattle.strm_script_play.specs.declared.playing.Outcome.{Outcome}
 use Rattle.strm_script_parse.specs.declared.fault.PlayFault.{PlayFault}
 use Rattle.strm_script_parse.specs.declared.fault.PlayFault.TheVariants.{Script, Run}
@@ -28,10 +28,11 @@ calls_of plan caller = get_or (calls_of_processes plan.processes.items) caller [
 
 -- a plan was played: the names of its streams and processes are kept, and each stream that it declares has a
 -- log, in order, with a legal history; the history has the calls of each process on that stream, in order,
--- and its messages that came in are from the stream's feed
+-- and its messages that came in are from the stream's feed; the replies that the plan expects are kept
 pub record IsPlayedPlan {K : Type 0} (means : Meaning K) (plan : Plan (Shape K)) (outcome : Outcome K) : Type 0 where
   pub streams : outcome.names.streams ≡ plan.streams
   pub names : outcome.names.processes.items ≡ names_of plan.processes.items
+  pub expected : map replies_view outcome.expected.items ≡ map replies_of plan.processes.items
   pub many : length outcome.transcript.streams.items ≡ length (setups_of plan)
   pub legal : (k : ℕ) (setup : Setup) (log : StreamLog K) → k < length (setups_of plan) → IsLegal means (get_or (setups_of plan) k setup) (get_or outcome.transcript.streams.items k log)
   pub calls : (k caller : ℕ) (log : StreamLog K) → k < length (setups_of plan) → map asked_of (own caller (get_or outcome.transcript.streams.items k log).history.items) ≡ calls_on k (calls_of plan caller)

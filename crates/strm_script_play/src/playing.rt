@@ -15,7 +15,7 @@ use strm_module::{BoxedModule, Kind, ModuleOf};
 use strm_run::{Gate, RunFault, Transcript, run};
 use strm_run_input::is_worker_count;
 use strm_script_parse::{
-    Names, Plan, PlayFault, PlayModule, ReadKind, RunInput, into_run_input, parse_parallel,
+    Names, Plan, PlayFault, PlayModule, ReadKind, Replies, RunInput, into_run_input, parse_parallel,
 };
 use strm_shared_log::SameKind;
 
@@ -26,6 +26,8 @@ pub struct Outcome<K = Kind> {
     pub names: Names,
     /// The log of each stream.
     pub transcript: Transcript<K>,
+    /// The replies that are expected of the calls of each process, in order.
+    pub expected: Vec<Replies>,
 }
 
 /// A gate at which nobody waits.
@@ -60,9 +62,14 @@ where
         setups,
         scripts,
         feeds,
+        expected,
     } = into_run_input(alloc, plan)?;
     let transcript = run(rt, alloc, setups, scripts, feeds, workers, &Open)?;
-    Ok(Outcome { names, transcript })
+    Ok(Outcome {
+        names,
+        transcript,
+        expected,
+    })
 }
 
 /// The number of threads that read a script: that of the workers, if a run may have that many, else one.

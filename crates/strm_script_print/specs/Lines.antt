@@ -51,9 +51,13 @@ abbrev pub event_text : {K : Type 0} → KindSpelling K → List ℕ → End →
 event_text spelling stream at_end (Asked request) = call_text spelling stream at_end request
 event_text spelling stream at_end (Arrived m) = spaced (message_fields m)
 
+-- the reply of an answer, with a blank in front of each field: what stands behind the `:`
+abbrev pub said_text : Answer → List ℕ
+said_text answer = spaced (answer_fields answer)
+
 -- the text of an answer: ` : REPLY`, and the end of the line
 unfoldable pub answer_text : Answer → List ℕ
-answer_text answer = spaced (Word (codes ":") ∷ []) ++ spaced (answer_fields answer) ++ 10 ∷ []
+answer_text answer = spaced (Word (codes ":") ∷ []) ++ said_text answer ++ 10 ∷ []
 
 -- the line of a step
 unfoldable pub entry_text : {K : Type 0} → KindSpelling K → List (List ℕ) → List ℕ → Entry K → List ℕ

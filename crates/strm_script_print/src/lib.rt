@@ -18,6 +18,6 @@ pub use entry::{end_word, put_event};
 pub use field::{fields_are_read_back, put_number, put_part, put_word};
 pub use module::PrintKind;
 pub use printing::print;
-pub use reply::put_answer;
+pub use reply::{put_answer, put_said};
 pub use sharing::print_parallel;
 pub use stream::{put_end, put_far_end, put_feed, put_heading};

@@ -2,7 +2,7 @@
 ghost use Rattle.std.specs.Prelude.{◌≡◌, false};
 ghost use Rattle.strm_script_text.specs.Writing.{Writes};
 ghost use Rattle.strm_script_print.specs.LineBuffer.{Adds, AddsFields};
-ghost use Rattle.strm_script_print.specs.Lines.{answer_text};
+ghost use Rattle.strm_script_print.specs.Lines.{answer_text, said_text};
 ghost use Rattle.strm_script_print.specs.Replies as text;
 ghost use Rattle.strm_script_print.specs.Replies.{acknowledged_fields, answer_fields, list_fields};
 ghost use Rattle.strm_script_print.specs.Replies.{peeked_fields, reply_fields, serviced_fields};
@@ -204,5 +204,16 @@ pub fn put_answer<W: Write>(w: &mut W, answer: &Answer) -> io::Result<()>
 {
     let mut out = LineBuffer::new();
     add_answer(w, &mut out, answer);
+    out.finish(w)
+}
+
+/// Writes the reply of an answer as a transcript has it behind the `:`, with a blank in front of each field.
+///
+/// Refused if the writer refuses, with its error.
+pub fn put_said<W: Write>(w: &mut W, answer: &Answer) -> io::Result<()>
+    ensures { Writes W.contents w.old w.new result (said_text answer.now) }
+{
+    let mut out = LineBuffer::new();
+    add_said(w, &mut out, answer);
     out.finish(w)
 }

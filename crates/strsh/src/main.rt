@@ -4,7 +4,8 @@
 //!
 //! - 0 if the transcript was printed, or help or the version was asked for;
 //! - 1 if the run or the printing failed;
-//! - 2 if the command line or the script has a fault.
+//! - 2 if the command line or the script has a fault;
+//! - 3 if the transcript was printed, and a reply that the script expects was not met.
 #![tactic(auto)]
 
 mod playing;
@@ -22,7 +23,7 @@ fn words<R: Env + AllocGlobal>(rt: &R) -> Result<Vec<String>, Fault> {
 
 fn main(rt: HostRuntime) -> ExitCode {
     let status = match words(&rt).and_then(|words| serve(&rt, words.as_slice())) {
-        Ok(()) => 0,
+        Ok(status) => status,
         Err(fault) => {
             let _ = print!(rt; "{fault}");
             fault.status()

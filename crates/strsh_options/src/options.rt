@@ -28,7 +28,9 @@ down an echo stream and takes it at the head:
   stream s echo 16/4 16/4
   process p
   putmsg s:a =c =hello norm
-  getmsg s:a 64 64 any";
+  getmsg s:a 64 64 any
+
+Behind a call, `: REPLY` expects that reply, byte for byte as a transcript spells it.";
 
 /// The options of a command line.
 #[derive(Debug, Drop)]

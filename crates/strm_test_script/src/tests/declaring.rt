@@ -29,7 +29,11 @@ fn calls_of<P: Drop>(rt: &impl Abort, plan: Plan<P>) -> (Call<P>, Call<P>) {
         mut processes,
         feeds: _,
     } = plan;
-    let ProcessDecl { name: _, calls } = processes.pop().expect(rt, "a process");
+    let ProcessDecl {
+        name: _,
+        calls,
+        expected: _,
+    } = processes.pop().expect(rt, "a process");
     let (_, mut calls) = calls.into_blocks();
     let ScriptCall { stream: _, call } = calls.pop().expect(rt, "a call");
     let ScriptCall {

@@ -40,6 +40,7 @@ returns-clause-played g c =
     record {
       streams = handed.streams;
       names = handed.names;
+      expected = handed.expected;
       many = ran.many ∙ as_many;
       legal = λ k setup log under. rw (← handed.setups) (ran.legal k setup log (rw as_many under));
       calls = λ k caller log under. ran.calls k caller log (rw as_many under) ∙ ap (λ calls. calls_on k calls) (script_calls _ caller ∙ ap (λ all. get_or all caller []) handed.scripts);

@@ -1,0 +1,2 @@
+pub mod CountingLemmas
+pub mod EntryLemmas

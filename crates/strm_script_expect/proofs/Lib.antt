@@ -1,2 +1,3 @@
 pub mod CountingLemmas
 pub mod EntryLemmas
+mod WorkedExamples

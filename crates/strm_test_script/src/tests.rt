@@ -7,6 +7,7 @@ use strm_script_parse::{Names, RunInput, into_run_input, parse_made};
 
 mod charting;
 mod declaring;
+mod expecting;
 mod loading;
 mod printing;
 

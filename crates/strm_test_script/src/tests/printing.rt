@@ -30,7 +30,7 @@ enum Ask {
 
 /// An answer, as a table has it.
 #[derive(Clone, Copy, Drop)]
-enum Say {
+pub(super) enum Say {
     Line,
     Ack(u64, Part),
     Nak(Errno),
@@ -164,7 +164,8 @@ fn acknowledged(answer: Acknowledged) -> Answer {
     Answer::Done(Reply::Str { answer })
 }
 
-fn answer(rt: &impl Abort, alloc: Global, say: Say) -> Answer {
+/// The answer that a table has.
+pub(super) fn answer(rt: &impl Abort, alloc: Global, say: Say) -> Answer {
     match say {
         Line => Answer::Done(Reply::Line),
         Ack(rval, dat) => acknowledged(Acknowledged::Ack {
@@ -178,7 +179,7 @@ fn answer(rt: &impl Abort, alloc: Global, say: Say) -> Answer {
 }
 
 /// A step with this maker, without the places that moved.
-fn step(
+pub(super) fn step(
     rt: &impl Abort,
     alloc: Global,
     (who, end): (Who, End),
@@ -190,7 +191,7 @@ fn step(
 }
 
 /// A message that came in.
-fn came(rt: &impl Abort, alloc: Global, m: Message, answer: Answer) -> Kept<Kind> {
+pub(super) fn came(rt: &impl Abort, alloc: Global, m: Message, answer: Answer) -> Kept<Kind> {
     let m = BoxedMessage::new(alloc, m).expect(rt, "no memory");
     step(rt, alloc, (Who::Line, A), Event::Arrived(m), answer)
 }

@@ -1,4 +1,4 @@
-use Rattle.std.proofs.Common.{◌≡◌, ℕ, ◌<◌, get_or, length, take}
+use Rattle.std.proofs.Common.{◌≡◌, ℕ, ◌<◌, get_or, length}
 use Rattle.strm_script_expect.specs.Unmet.{number_on}
 use Rattle.strm_script_expect.proofs.counting.counted.Given as goal
 

@@ -2,7 +2,7 @@ use Rattle.std.proofs.Common.{◌≡◌, ◌++◌, length, map}
 use Rattle.std.specs.List.{flat_map}
 use Rattle.std.specs.Vec.Iter.{into_iter_items, into_iter_len}
 use Rattle.strm_script_parse.specs.Plan.{expected_view}
-use Rattle.strm_script_expect.specs.Unmet.{AreNumbers, entry_at, missed_view, said_in, seen_all, unmet_by}
+use Rattle.strm_script_expect.specs.Unmet.{entry_at, missed_view, said_in, seen_all, unmet_by}
 use Rattle.strm_script_expect.proofs.judging.add_unmet_of.Given as goal
 
 -- those so far that were not met were added

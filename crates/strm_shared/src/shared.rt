@@ -172,13 +172,11 @@ impl<M: ModuleOf, N: StreamRunName<M::Kind>> Shared<M, N> {
         let Ok(room) = self.room_for_next(seat, &call) else {
             return Called::NoRoom(call);
         };
-        let mut is_news = false;
         let mut locked = self.locked.lock(rt);
-        let has_bell = self.bell.is_some();
-        let called = locked.call_with_news::<A>(&mut is_news, has_bell, seat, call, room);
-        drop(locked);
-        self.tell(rt, is_news);
-        called
+        if self.bell.is_some() || locked.is_awaited() {
+            return self.call_and_tell::<A, R>(rt, locked, seat, call, room);
+        }
+        locked.call::<A>(seat, call, room)
     }
 
     /// Makes one call of a caller, as `enter` makes it, as soon as it need not wait. While it would be refused
@@ -242,6 +240,29 @@ impl<M: ModuleOf, N: StreamRunName<M::Kind>> Shared<M, N> {
         room_for(self.alloc, seat.caller(), seat.calls() + 1, call)
     }
 
+    /// Makes one call of a seat under the lock, gives it back, and tells those who wait if there is news.
+    #[inline(never)]
+    fn call_and_tell<A: ReplyForm, R: Wait>(
+        &self,
+        rt: &R,
+        mut locked: MutexGuard<'_, SharedState<M, N>>,
+        seat: &mut Seat,
+        call: Call<BoxedModule<M>>,
+        room: EntryRoom<M::Kind>,
+    ) -> Called<BoxedModule<M>, M::Kind, A::CallerCopy>
+        requires room { room ≡ room_of seat.old call }
+        requires next { IsNextCall N.calls seat.old call }
+        requires counts { seat.old.calls + 1 < 2 ^ 64 }
+        ensures counts { Counted call seat.old result seat.new }
+        ensures back { HandsBack A.Agrees call result }
+        ensures shown { Shows A.Agrees seat.old call result }
+    {
+        let (called, is_news) = locked.call_with_news::<A>(self.bell.is_some(), seat, call, room);
+        drop(locked);
+        self.tell(rt, is_news);
+        called
+    }
+
     /// Takes the lock when a call need not wait, or when memory ran out for a message of the line. With it
     /// comes the number of entries that the history had before the last messages came in, and whether the
     /// call need not wait.
@@ -266,19 +287,12 @@ impl<M: ModuleOf, N: StreamRunName<M::Kind>> Shared<M, N> {
 
     /// Where there is news, wakes those who sleep on the stream, and rings its bell. To be called when the lock
     /// was given back.
-    #[inline(always)]
     fn tell<R: Wait>(&self, rt: &R, is_news: bool) {
         if is_news {
-            self.wake_all(rt);
-        }
-    }
-
-    /// Wakes those who sleep on the stream, and rings its bell.
-    #[inline(never)]
-    fn wake_all<R: Wait>(&self, rt: &R) {
-        self.changed.notify_all();
-        if let Some(bell) = &self.bell {
-            bell.ring(rt);
+            self.changed.notify_all();
+            if let Some(bell) = &self.bell {
+                bell.ring(rt);
+            }
         }
     }
 

@@ -285,31 +285,33 @@ impl<M: ModuleOf, N: StreamRunName<M::Kind>> SharedState<M, N> {
         }
     }
 
-    /// Makes one call, as `call` makes it, and writes down whether there is news: those who sleep until the
-    /// stream changes, or who hear its bell, are to look again. With a bell and no news the stream is as it
-    /// was.
-    #[inline(always)]
+    /// Makes one call, as `call` makes it, and says whether there is news: those who sleep until the stream
+    /// changes, or who hear its bell, are to look again. With a bell and no news the stream is as it was.
     pub(crate) fn call_with_news<A: ReplyForm>(
         &mut self,
-        is_news: &mut bool,
         has_bell: bool,
         seat: &mut Seat,
         call: Call<BoxedModule<M>>,
         room: EntryRoom<M::Kind>,
-    ) -> Called<BoxedModule<M>, M::Kind, A::CallerCopy>
+    ) -> (Called<BoxedModule<M>, M::Kind, A::CallerCopy>, bool)
         requires room { room ≡ room_of seat.old call }
         requires next { IsNextCall N.calls seat.old call }
         requires counts { seat.old.calls + 1 < 2 ^ 64 }
         ensures number { self.new.number ≡ self.old.number }
-        ensures log { SeatCallsAfter M.Kind.means A.Agrees self.old seat.old call result self.new }
-        ensures counts { Counted call seat.old result seat.new }
-        ensures turns { self.new.turns ≡ turned self.old.number seat.old result self.old.turns }
-        ensures still { has_bell ≡ true → is_news.new ≡ false → self.new.log.image ≡ self.old.log.image }
+        ensures log { SeatCallsAfter M.Kind.means A.Agrees self.old seat.old call result.0 self.new }
+        ensures counts { Counted call seat.old result.0 seat.new }
+        ensures turns { self.new.turns ≡ turned self.old.number seat.old result.0 self.old.turns }
+        ensures still { has_bell ≡ true → result.1 ≡ false → self.new.log.image ≡ self.old.log.image }
     {
         let before = self.count_entries();
         let called = self.call::<A>(seat, call, room);
-        *is_news = self.take_news(before, has_bell);
-        called
+        let is_news = self.take_news(before, has_bell);
+        (called, is_news)
+    }
+
+    /// Whether somebody sleeps until the stream changes.
+    pub(crate) fn is_awaited(&self) -> bool {
+        self.is_awaited
     }
 
     /// The number of entries of the history.

@@ -87,15 +87,22 @@ fn put_text<R: Threads + Sync, W: Write>(
     }
 }
 
+/// Writes the line of an expected reply that was not met.
+fn put_line<W: Write>(missed: &Missed, w: &mut W) -> io::Result<()>
+    ensures { OnOk result (Appends (W.contents w.old) (W.contents w.new) (line (missed_text (missed_view missed.now)))) }
+{
+    w.write_all(b"strsh: ")?;
+    put_missed(w, missed)?;
+    w.write_all(b"\n")
+}
+
 /// Writes a line for each expected reply that was not met.
 fn put_lines<W: Write>(missed: &[Missed], w: &mut W) -> io::Result<()>
     ensures { OnOk result (Appends (W.contents w.old) (W.contents w.new)
         (flat_map (λ one. line (missed_text (missed_view one))) missed.now)) }
 {
     for one in missed {
-        w.write_all(b"strsh: ")?;
-        put_missed(w, one)?;
-        w.write_all(b"\n")?;
+        put_line(one, w)?;
     }
     Ok(())
 }

@@ -260,9 +260,17 @@ fn hear<R: Abort + Threads + Wait + Sync>(
     one: Belled,
     two: Belled,
 ) -> bool {
-    let (a, b) = (&one.shared, &two.shared);
-    let (p, q) = (one.producer, two.producer);
-    let (mut c, mut d) = (one.consumer, two.consumer);
+    let Belled {
+        shared: first,
+        producer: p,
+        consumer: mut c,
+    } = one;
+    let Belled {
+        shared: second,
+        producer: q,
+        consumer: mut d,
+    } = two;
+    let (a, b) = (&first, &second);
     let (p, q) = thread::scope(
         thread::scope_env(),
         rt,
@@ -281,8 +289,8 @@ fn hear<R: Abort + Threads + Wait + Sync>(
             (p.join(rt), q.join(rt))
         },
     );
-    let ends_one = ended_with(rt, alloc, one.shared, p, c);
-    let ends_two = ended_with(rt, alloc, two.shared, q, d);
+    let ends_one = ended_with(rt, alloc, first, p, c);
+    let ends_two = ended_with(rt, alloc, second, q, d);
     are_taken(ends_one, 1, EACH_OF_TWO) && are_taken(ends_two, 1, EACH_OF_TWO)
 }
 

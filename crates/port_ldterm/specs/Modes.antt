@@ -18,7 +18,7 @@ modes_of number = record {
   icanon = has_mode number 1;
   echo = has_mode number 2;
   icrnl = has_mode number 4;
-  onlcr = has_mode number 8
+  onlcr = has_mode number 8;
 }
 
 -- whether bytes are modes: four of them, and no more than all modes together

@@ -46,7 +46,7 @@ fresh_terminal modes = record {
   up = None;
   down = None;
   waits = record { all = false; up = false; down = false; rd = false; wr = false };
-  asked = Nothing
+  asked = Nothing;
 }
 
 -- ---- what it asks for next
@@ -124,7 +124,7 @@ typed_by t m did = record t {
   editor = record { modes = t.editor.modes; line = did.line };
   back = left_of m did.left;
   up = going_up did;
-  down = unless_empty did.screen
+  down = unless_empty did.screen;
 }
 
 abbrev pub keys_taken : TerminalValue → Msg → TerminalValue
@@ -154,7 +154,7 @@ high_taken t side m = at_once (if flushes_line m.kind then forgetting t else t) 
 abbrev pub modes_set : TerminalValue → ℕ → Modes → TerminalValue
 modes_set t id modes = at_once (record t {
   editor = with_modes modes t.editor.line;
-  up = option_map (λ bytes. data_msg 0 bytes) (sent_by modes t.editor.line)
+  up = option_map (λ bytes. data_msg 0 bytes) (sent_by modes t.editor.line);
 }) Rd (ack_msg id 0 None)
 
 abbrev pub set_or_refused : TerminalValue → ℕ → Option Modes → TerminalValue

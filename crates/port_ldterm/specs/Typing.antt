@@ -71,5 +71,5 @@ stretch editing keys did = record {
   left = drop did.keys keys;
   up = option_map (λ up. up.items) did.up;
   line = editing.line;
-  screen = did.screen.items
+  screen = did.screen.items;
 }

@@ -4,9 +4,9 @@ use crate::{Owner, Pumped, ServedModule, Told};
 use std::alloc::Global;
 use std::process::Abort;
 use std::sync::Wait;
-use strm_head::Stream;
+use strm_head::{Outcome, Stream};
 use strm_head_calls::{Answer, Name, Refusal, Reply, Request, ServiceCall, Setup, Wanted};
-use strm_module::{BoxedModule, Driver, Instance, Kind, Plain, Shape};
+use strm_module::{BoxedModule, Driver, Instance, Kind, ModuleOf, Plain, Shape};
 use strm_msg::{BoxedMessage, Bytes, End, Side};
 use strm_shared::{AnyCalls, Call, Called, Log, Ring, Seat, Shared};
 
@@ -88,22 +88,24 @@ fn push(rt: &impl Abort, alloc: Global) -> Request<BoxedModule<Plain>> {
     Request::Push { instance }
 }
 
-fn write(rt: &impl Abort, alloc: Global, text: &[u8]) -> Request<BoxedModule<Plain>> {
+fn write<P>(rt: &impl Abort, alloc: Global, text: &[u8]) -> Request<P> {
     let dat = Bytes::from_slice(alloc, text).expect(rt, "no memory");
     Request::Write { dat }
 }
 
-/// A stream with the module, whose head is full at 5 bytes.
+/// A stream whose head is full at 5 bytes.
 fn stream(rt: &impl Abort, alloc: Global) -> Stream<Plain> {
-    let mut stream = Stream::new(alloc, Driver::Wire, (5, 4), (16, 8)).expect(rt, "no memory");
-    let pushed = stream.apply(End::A, push(rt, alloc)).answer;
-    assert!(rt; matches!(pushed, Answer::Done(Reply::Push)));
-    stream
+    Stream::new(alloc, Driver::Wire, (5, 4), (16, 8)).expect(rt, "no memory")
+}
+
+fn apply<M: ModuleOf>(stream: &mut Stream<M>, request: Request<BoxedModule<M>>) -> Answer {
+    let Outcome { answer, .. } = stream.apply(End::A, request);
+    answer
 }
 
 /// Whether these bytes are read.
-fn reads(stream: &mut Stream<Plain>, wanted: &[u8]) -> bool {
-    match stream.apply(End::A, Request::Read { max: 64 }).answer {
+fn reads<M: ModuleOf>(stream: &mut Stream<M>, wanted: &[u8]) -> bool {
+    match apply(stream, Request::Read { max: 64 }) {
         Answer::Done(Reply::Read { dat }) => dat.as_slice() == wanted,
         _ => false,
     }
@@ -117,94 +119,122 @@ fn idle(done: u32) -> Pumped {
     }
 }
 
+/// What a pump says whose budget was used up.
+fn used_up(done: u32) -> Pumped {
+    Pumped {
+        done,
+        is_idle: false,
+    }
+}
+
+/// A stream, its module, and an owner.
+#[derive(Drop)]
+struct Scene<M: ModuleOf> {
+    stream: Stream<M>,
+    served: ServedModule,
+    owner: Returner,
+}
+
+impl<M: ModuleOf> Scene<M> {
+    /// A stream with this module pushed, and the owner of the module of a name.
+    fn new(
+        rt: &impl Abort,
+        alloc: Global,
+        name: &[u8],
+        mut stream: Stream<M>,
+        push: Request<BoxedModule<M>>,
+    ) -> Scene<M> {
+        let pushed = apply(&mut stream, push);
+        drop(pushed);
+        Scene {
+            stream,
+            served: served_module(rt, alloc, name),
+            owner: Returner::new(alloc),
+        }
+    }
+
+    fn writes(&mut self, rt: &impl Abort, alloc: Global, text: &[u8]) {
+        let request = write(rt, alloc, text);
+        let written = apply(&mut self.stream, request);
+        drop(written);
+    }
+
+    /// Pumps, and says whether that is what came of it, and which refusals the owner has heard.
+    fn pumps(&mut self, budget: u32, wanted: Pumped, refusals: &[Refusal]) -> bool {
+        let pumped = self.served.pump(&mut self.stream, &mut self.owner, budget);
+        pumped == wanted && self.owner.was_refused(refusals)
+    }
+
+    fn reads(&mut self, wanted: &[u8]) -> bool {
+        reads(&mut self.stream, wanted)
+    }
+}
+
+/// A getq that finds nothing; and then a getq, a putnext, and a getq that finds nothing.
+fn serves_until_idle<M: ModuleOf>(rt: &impl Abort, alloc: Global, mut scene: Scene<M>) {
+    assert!(rt; scene.pumps(10, idle(1), &[Refusal::WouldWait]));
+    scene.writes(rt, alloc, b"abc");
+    assert!(rt; scene.pumps(10, idle(3), &[Refusal::WouldWait]));
+    assert!(rt; scene.reads(b"abc"));
+}
+
 #[test]
 fn owner_serves_its_module_until_it_has_nothing_to_do(rt: HostRuntime) {
     let alloc = rt.alloc();
-    let (served, mut stream) = (served_module(&rt, alloc, NAME), stream(&rt, alloc));
-    let mut owner = Returner::new(alloc);
-    // A getq that finds nothing.
-    assert!(rt; served.pump(&mut stream, &mut owner, 10) == idle(1));
-    assert!(rt; owner.was_refused(&[Refusal::WouldWait]));
-    let _ = stream.apply(End::A, write(&rt, alloc, b"abc"));
-    // A getq, a putnext, and a getq that finds nothing.
-    assert!(rt; served.pump(&mut stream, &mut owner, 10) == idle(3));
-    assert!(rt; owner.was_refused(&[Refusal::WouldWait]));
-    assert!(rt; reads(&mut stream, b"abc"));
+    let scene = Scene::new(&rt, alloc, NAME, stream(&rt, alloc), push(&rt, alloc));
+    serves_until_idle(&rt, alloc, scene);
+}
+
+/// No call, one call, and then the others.
+fn serves_within_budgets<M: ModuleOf>(rt: &impl Abort, alloc: Global, mut scene: Scene<M>) {
+    scene.writes(rt, alloc, b"abc");
+    assert!(rt; scene.pumps(0, used_up(0), &[]));
+    assert!(rt; scene.pumps(1, used_up(1), &[]));
+    assert!(rt; scene.pumps(10, idle(2), &[Refusal::WouldWait]));
+    assert!(rt; scene.reads(b"abc"));
 }
 
 #[test]
 fn budget_ends_a_pump_and_the_next_one_goes_on(rt: HostRuntime) {
     let alloc = rt.alloc();
-    let (served, mut stream) = (served_module(&rt, alloc, NAME), stream(&rt, alloc));
-    let mut owner = Returner::new(alloc);
-    let _ = stream.apply(End::A, write(&rt, alloc, b"abc"));
-    let nothing = Pumped {
-        done: 0,
-        is_idle: false,
-    };
-    assert!(rt; served.pump(&mut stream, &mut owner, 0) == nothing);
-    let one = Pumped {
-        done: 1,
-        is_idle: false,
-    };
-    assert!(rt; served.pump(&mut stream, &mut owner, 1) == one);
-    assert!(rt; served.pump(&mut stream, &mut owner, 10) == idle(2));
-    assert!(rt; reads(&mut stream, b"abc"));
+    let scene = Scene::new(&rt, alloc, NAME, stream(&rt, alloc), push(&rt, alloc));
+    serves_within_budgets(&rt, alloc, scene);
+}
+
+/// The first message fills the head. The second is taken, cannot go up, and comes back to the owner.
+fn keeps_what_has_no_room<M: ModuleOf>(rt: &impl Abort, alloc: Global, mut scene: Scene<M>) {
+    scene.writes(rt, alloc, b"first");
+    scene.writes(rt, alloc, b"second");
+    assert!(rt; scene.pumps(10, idle(4), &[Refusal::WouldWait]));
+    assert!(rt; scene.pumps(10, idle(1), &[Refusal::WouldWait]));
+    assert!(rt; scene.reads(b"first"));
+    assert!(rt; scene.pumps(10, idle(2), &[Refusal::WouldWait]));
+    assert!(rt; scene.reads(b"second"));
 }
 
 #[test]
 fn message_without_room_comes_back_to_its_owner(rt: HostRuntime) {
     let alloc = rt.alloc();
-    let (served, mut stream) = (served_module(&rt, alloc, NAME), stream(&rt, alloc));
-    let mut owner = Returner::new(alloc);
-    let _ = stream.apply(End::A, write(&rt, alloc, b"first"));
-    let _ = stream.apply(End::A, write(&rt, alloc, b"second"));
-    // The first message fills the head. The second is taken, and cannot go up.
-    assert!(rt; served.pump(&mut stream, &mut owner, 10) == idle(4));
-    assert!(rt; owner.was_refused(&[Refusal::WouldWait]) && owner.held.is_some());
-    assert!(rt; served.pump(&mut stream, &mut owner, 10) == idle(1));
-    assert!(rt; owner.was_refused(&[Refusal::WouldWait]) && owner.held.is_some());
-    assert!(rt; reads(&mut stream, b"first"));
-    assert!(rt; served.pump(&mut stream, &mut owner, 10) == idle(2));
-    assert!(rt; reads(&mut stream, b"second"));
+    let scene = Scene::new(&rt, alloc, NAME, stream(&rt, alloc), push(&rt, alloc));
+    keeps_what_has_no_room(&rt, alloc, scene);
+}
+
+/// There is no such module, and then the end is closed.
+fn finds_no_module<M: ModuleOf>(rt: &impl Abort, mut scene: Scene<M>) {
+    assert!(rt; scene.pumps(10, idle(1), &[Refusal::Invalid]));
+    let closed = apply(&mut scene.stream, Request::Close);
+    drop(closed);
+    assert!(rt; scene.pumps(10, idle(1), &[Refusal::Closed]));
 }
 
 #[test]
 fn owner_of_a_module_that_is_not_there_is_refused(rt: HostRuntime) {
     let alloc = rt.alloc();
-    let (served, mut stream) = (served_module(&rt, alloc, b"other"), stream(&rt, alloc));
-    let mut owner = Returner::new(alloc);
-    assert!(rt; served.pump(&mut stream, &mut owner, 10) == idle(1));
-    assert!(rt; owner.was_refused(&[Refusal::Invalid]));
-    let _ = stream.apply(End::A, Request::Close);
-    assert!(rt; served.pump(&mut stream, &mut owner, 10) == idle(1));
-    assert!(rt; owner.was_refused(&[Refusal::Closed]));
+    let scene = Scene::new(&rt, alloc, b"other", stream(&rt, alloc), push(&rt, alloc));
+    finds_no_module(&rt, scene);
 }
 
-#[test]
-fn owner_serves_the_output_of_a_wire(rt: HostRuntime) {
-    let alloc = rt.alloc();
-    let served = served_module(&rt, alloc, b"wire");
-    let mut stream: Stream<Plain> = Stream::new(alloc, Driver::Wire, (5, 4), (16, 8)).expect(
-        &rt,
-        "no memory",
-    );
-    let mut owner = Returner::new(alloc);
-    let _ = stream.apply(End::A, write(&rt, alloc, b"abc"));
-    // A getq, and a putnext, which an output has not.
-    assert!(rt; served.pump(&mut stream, &mut owner, 10) == idle(2));
-    assert!(rt; owner.was_refused(&[Refusal::Invalid]) && owner.held.is_some());
-}
-
-/// A call at end A.
-fn call(request: Request<BoxedModule<Plain>>) -> Call<BoxedModule<Plain>> {
-    Call {
-        end: End::A,
-        request,
-    }
-}
-
-/// The setup of a line whose head is full at 5 bytes.
+/// The setup of an echo whose head is full at 5 bytes.
 const SETUP: Setup = Setup {
     driver: Driver::Echo,
     head: (5, 4),
@@ -212,58 +242,75 @@ const SETUP: Setup = Setup {
     ring: 1,
 };
 
-#[test]
-fn history_has_the_calls_that_were_made(rt: HostRuntime) {
-    let alloc = rt.alloc();
-    let served = served_module(&rt, alloc, NAME);
-    let mut log: Log<Plain> = Log::new(alloc, SETUP).expect(&rt, "no memory");
-    let _ = log.call(0, 1, call(push(&rt, alloc)));
-    let _ = log.call(0, 2, call(write(&rt, alloc, b"abc")));
+/// A call at end A.
+fn call<P>(request: Request<P>) -> Call<P> {
+    Call {
+        end: End::A,
+        request,
+    }
+}
+
+/// The push, the write, the getq and the putnext are entries. The getq that finds nothing is not made.
+fn is_recorded<M: ModuleOf>(
+    rt: &impl Abort,
+    alloc: Global,
+    mut log: Log<M>,
+    push: Request<BoxedModule<M>>,
+) {
+    drop(log.call(0, 1, call(push)));
+    drop(log.call(0, 2, call(write(rt, alloc, b"abc"))));
     let mut owner = Returner::new(alloc);
+    let served = served_module(rt, alloc, NAME);
     assert!(rt; served.pump_log(&mut log, 7, &mut owner, 10) == idle(3));
     assert!(rt; owner.was_refused(&[Refusal::WouldWait]));
-    // The push, the write, the getq and the putnext: the getq that finds nothing is not made.
     assert!(rt; log.history().len() == 4);
 }
 
-/// Makes a call from a seat, and says whether it was done.
-fn is_done<R: Wait>(
+#[test]
+fn history_has_the_calls_that_were_made(rt: HostRuntime) {
+    let alloc = rt.alloc();
+    let log: Log<Plain> = Log::new(alloc, SETUP).expect(&rt, "no memory");
+    is_recorded(&rt, alloc, log, push(&rt, alloc));
+}
+
+/// Makes a call from a seat of the stream.
+fn makes<M: ModuleOf, R: Wait + Abort>(
     rt: &R,
-    shared: &Shared<Plain, AnyCalls>,
+    shared: &Shared<M, AnyCalls>,
     seat: &mut Seat,
-    request: Request<BoxedModule<Plain>>,
-) -> bool {
-    if seat.number() != shared.number() {
-        drop(request);
-        return false;
-    }
-    match shared.call(rt, seat, call(request)) {
-        Called::Done { answer, .. } => matches!(answer, Answer::Done(_)),
-        Called::NoRoom(_) => false,
-    }
+    request: Request<BoxedModule<M>>,
+) {
+    assert!(rt; seat.number() == shared.number());
+    drop(shared.call(rt, seat, call(request)));
+}
+
+/// Each call is made from the seat, the getq that finds nothing too.
+fn is_counted<M: ModuleOf, R: Wait + Abort>(
+    rt: &R,
+    alloc: Global,
+    shared: Shared<M, AnyCalls>,
+    mut seats: Vec<Seat>,
+    push: Request<BoxedModule<M>>,
+) {
+    let mut seat = seats.pop().expect(rt, "a seat");
+    let mut user = seats.pop().expect(rt, "a seat");
+    makes(rt, &shared, &mut user, push);
+    makes(rt, &shared, &mut user, write(rt, alloc, b"abc"));
+    let mut owner = Returner::new(alloc);
+    let served = served_module(rt, alloc, NAME);
+    assert!(rt; seat.number() == shared.number());
+    assert!(rt; served.pump_shared(&shared, rt, &mut seat, &mut owner, 10) == idle(3));
+    assert!(rt; owner.was_refused(&[Refusal::WouldWait]));
+    assert!(rt; seat.calls() == 3 && user.calls() == 2);
 }
 
 #[test]
 fn seat_counts_each_call_of_its_owner(rt: HostRuntime) {
     let alloc = rt.alloc();
-    let served = served_module(&rt, alloc, NAME);
     let ring = Ring::new(alloc, SETUP).expect(&rt, "no memory for a ring");
-    let (shared, mut seats, _) = Shared::<Plain, AnyCalls>::new(alloc, 0, 2, ring).expect(
+    let (shared, seats, _) = Shared::<Plain, AnyCalls>::new(alloc, 0, 2, ring).expect(
         &rt,
         "no memory",
     );
-    let (mut seat, mut user) = (
-        seats.pop().expect(&rt, "a seat"),
-        seats.pop().expect(&rt, "a seat"),
-    );
-    if seat.number() != shared.number() || user.number() != shared.number() {
-        return;
-    }
-    assert!(rt; is_done(&rt, &shared, &mut user, push(&rt, alloc)));
-    assert!(rt; is_done(&rt, &shared, &mut user, write(&rt, alloc, b"abc")));
-    let mut owner = Returner::new(alloc);
-    assert!(rt; served.pump_shared(&shared, &rt, &mut seat, &mut owner, 10) == idle(3));
-    assert!(rt; owner.was_refused(&[Refusal::WouldWait]));
-    // The getq that finds nothing is made, too.
-    assert!(rt; seat.calls() == 3 && user.calls() == 2);
+    is_counted(&rt, alloc, shared, seats, push(&rt, alloc));
 }

@@ -4,9 +4,9 @@ use super::{RAW, USUAL};
 use crate::{GET_MODES, Modes, SET_MODES, Terminal};
 use std::alloc::Global;
 use std::process::Abort;
-use strm_head::{Arrived, Stream};
+use strm_head::{Arrived, Outcome, Stream};
 use strm_head_calls::{Acknowledged, Answer, Name, Refusal, Reply, Request};
-use strm_module::{BoxedModule, Driver, Instance, Kind, Plain, Shape};
+use strm_module::{BoxedModule, Driver, Instance, Kind, ModuleOf, Plain, Shape};
 use strm_msg::{Bytes, End, Errno, Message, Prot, ReadMode};
 use strm_owner::ServedModule;
 
@@ -123,8 +123,8 @@ const FORGETS: &[Row] = &[
 
 /// A terminal, its stream, and the module that it serves.
 #[derive(Drop)]
-struct Tty {
-    stream: Stream<Plain>,
+struct Tty<M: ModuleOf> {
+    stream: Stream<M>,
     module: ServedModule,
     terminal: Terminal,
     alloc: Global,
@@ -137,9 +137,15 @@ fn module(rt: &impl Abort, alloc: Global, name: &[u8]) -> BoxedModule<Plain> {
     BoxedModule::new(alloc, Instance::new(shape, Plain)).expect(rt, "no memory")
 }
 
-impl Tty {
-    fn new(rt: &impl Abort, alloc: Global, modes: Modes) -> Tty {
-        let stream = Stream::new(alloc, Driver::Wire, (16, 8), (16, 8)).expect(rt, "no memory");
+impl<M: ModuleOf> Tty<M> {
+    /// A terminal on this stream, with the module of this push.
+    fn new(
+        rt: &impl Abort,
+        alloc: Global,
+        modes: Modes,
+        stream: Stream<M>,
+        push: Request<BoxedModule<M>>,
+    ) -> Tty<M> {
         let name = Name::of(b"ldterm").expect(rt, "a short name");
         let mut tty = Tty {
             stream,
@@ -147,18 +153,17 @@ impl Tty {
             terminal: Terminal::new(alloc, modes),
             alloc,
         };
-        let instance = module(rt, alloc, b"ldterm");
-        tty.ask(Request::Push { instance });
-        tty.ask(Request::SetRead {
+        drop(tty.ask(push));
+        drop(tty.ask(Request::SetRead {
             mode: ReadMode::Rmsgn,
             prot: Prot::Norm,
-        });
+        }));
         tty
     }
 
     /// Makes a call, and lets the terminal do its part.
-    fn ask(&mut self, request: Request<BoxedModule<Plain>>) -> Answer {
-        let answer = self.stream.apply(End::A, request).answer;
+    fn ask(&mut self, request: Request<BoxedModule<M>>) -> Answer {
+        let Outcome { answer, .. } = self.stream.apply(End::A, request);
         self.pump();
         answer
     }
@@ -258,23 +263,29 @@ fn is_answer(answer: Answer, wanted: Option<&[u8]>) -> bool {
 
 /// Whether an ioctl was not carried out.
 fn is_refused(answer: Answer) -> bool {
-    matches!(
-        answer,
-        Answer::Done(Reply::Str {
-            answer: Acknowledged::Nak {
-                errno: Errno::EINVAL
-            }
-        })
-    )
+    let Answer::Done(Reply::Str { answer }) = answer else {
+        return false;
+    };
+    answer
+        == Acknowledged::Nak {
+            errno: Errno::EINVAL,
+        }
 }
 
 /// Plays rows, one after another.
-fn play(rt: &impl Abort, alloc: Global, modes: Modes, rows: &[Row]) {
-    let mut tty = Tty::new(rt, alloc, modes);
+fn play_on<M: ModuleOf>(rt: &impl Abort, mut tty: Tty<M>, rows: &[Row]) {
     for (at, row) in rows.iter().enumerate() {
         let is_so = tty.happens(rt, *row);
         assert!(rt; is_so, "row {at}");
     }
+}
+
+/// Plays rows at a terminal over a wire that is full at 16 bytes.
+fn play(rt: &impl Abort, alloc: Global, modes: Modes, rows: &[Row]) {
+    let stream = Stream::new(alloc, Driver::Wire, (16, 8), (16, 8)).expect(rt, "no memory");
+    let instance = module(rt, alloc, b"ldterm");
+    let tty = Tty::new(rt, alloc, modes, stream, Request::Push { instance });
+    play_on(rt, tty, rows);
 }
 
 #[test]

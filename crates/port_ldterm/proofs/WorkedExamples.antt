@@ -1,4 +1,5 @@
--- Keys that are typed at a terminal, computed on the definitions. `lx` and the like are written as their bytes.
+-- Keys that are typed at a terminal, computed on the definitions. `lx` and the like are written as their
+-- bytes.
 use Rattle.std.proofs.Common.{◌≡◌, ℕ, true, false, None, Some, List, [], ◌∷◌, ◌++◌, refl, replicate}
 use Rattle.port_ldterm.specs.declared.modes.Modes.{Modes}
 use Rattle.port_ldterm.specs.declared.echo.Echo.TheVariants.{NewLine, Bell}

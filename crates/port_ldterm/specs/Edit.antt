@@ -38,8 +38,8 @@ is_text key = not (is_end key || is_erase key || is_kill key)
 
 -- ---- what is shown
 
--- a key as it is shown: a control character as ^ and its letter (ECHOCTL), every other key as itself; a tab is
--- shown as ^I, so that each byte takes one column
+-- a key as it is shown: a control character as ^ and its letter (ECHOCTL), every other key as itself; a tab
+-- is shown as ^I, so that each byte takes one column
 abbrev pub shown : ℕ → List ℕ
 shown key =
     if nat_lt key 32 then 94 ∷ (key + 64) ∷ [] else if key == 127 then 94 ∷ 63 ∷ [] else key ∷ []

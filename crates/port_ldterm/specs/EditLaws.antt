@@ -46,8 +46,8 @@ KillTakesBackAll =
     (modes : Modes) (line keys more : List ℕ) (kill : ℕ) → modes.icanon ≡ true → have_no_end modes keys ≡ true →
     is_kill (meant modes kill) ≡ true → ReadsAs (typed modes line (keys ++ kill ∷ more)) (typed modes [] more)
 
--- what is seen is what will be read: a row that shows the line that is being typed still does so after more keys,
--- however they edit the line (a row with only blanks past the cursor shows the empty line)
+-- what is seen is what will be read: a row that shows the line that is being typed still does so after more
+-- keys, however they edit the line (a row with only blanks past the cursor shows the empty line)
 abbrev pub ScreenShowsLine : Type 0
 ScreenShowsLine =
     (modes : Modes) (line keys before : List ℕ) (row : Row) → modes.icanon ≡ true → modes.echo ≡ true →
@@ -71,7 +71,8 @@ PiecesAreOneTyping =
     (modes : Modes) (line piece more : List ℕ) → let first = typed modes line piece in
     typed modes line (piece ++ more) ≡ and_then first (typed modes first.line more)
 
--- a line that goes up has at most `MAX_CANON` keys and an NL; the line that is left has at most `MAX_CANON` keys
+-- a line that goes up has at most `MAX_CANON` keys and an NL; the line that is left has at most `MAX_CANON`
+-- keys
 abbrev pub LinesAreShort : Type 0
 LinesAreShort =
     (modes : Modes) (line keys : List ℕ) → length line ≤ MAX_CANON → let all = typed modes line keys in

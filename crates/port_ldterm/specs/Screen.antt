@@ -13,8 +13,8 @@ abbrev pub moved_left : List ℕ → List ℕ → Row
 moved_left [] past = record { before = []; past = past }
 moved_left (column ∷ before) past = record { before = before; past = column ∷ past }
 
--- a row after one byte: CR moves the cursor to the first column, LF begins a new row, and BEL changes nothing;
--- any other byte is written over the column at the cursor, which moves right
+-- a row after one byte: CR moves the cursor to the first column, LF begins a new row, and BEL changes
+-- nothing; any other byte is written over the column at the cursor, which moves right
 abbrev pub after_byte : Row → ℕ → Row
 after_byte row byte =
     if byte == 8 then moved_left row.before row.past
@@ -31,7 +31,8 @@ after_bytes row (byte ∷ bytes) = after_bytes (after_byte row byte) bytes
 abbrev pub are_blank : List ℕ → Bool
 are_blank columns = list_all (λ column. column == 32) columns
 
--- the row shows a line behind what stood left of it, with the cursor at the line's end and only blanks past it
+-- the row shows a line behind what stood left of it, with the cursor at the line's end and only blanks past
+-- it
 pub record Shows (row : Row) (before line : List ℕ) : Type 0 where
   pub left : row.before ≡ reverse (shown_line line) ++ before
   pub right : are_blank row.past ≡ true

@@ -1,6 +1,6 @@
 -- A line discipline as the owner of a module: what it asks for next, and what it makes of the answer
 -- (ldterm(7M), termio(7)).
-use Rattle.std.specs.Prelude.{◌≡◌, ◌⊎◌, ℕ, ◌==◌, ◌&&◌, Bool, true, false, Option, Some, None, is_none, List, [], if◌then◌else◌, option_map, unwrap_or}
+use Rattle.std.specs.Prelude.{◌≡◌, ◌⊎◌, ℕ, ◌==◌, ◌&&◌, ◌||◌, Bool, true, false, Option, Some, None, is_none, List, [], if◌then◌else◌, option_map, unwrap_or}
 use Rattle.strm_msg.specs.declared.errno.Errno.TheVariants.{EINVAL}
 use Rattle.strm_msg.specs.declared.words.Side.{Side}
 use Rattle.strm_msg.specs.declared.words.Side.TheVariants.{Rd, Wr}
@@ -210,9 +210,17 @@ put_off t Down (Putnext m) = record t { down = Some m; waits = record t.waits { 
 put_off t (Take side) call = side_waits t side
 put_off t asked call = all_waits t
 
--- a message that was taken; where memory runs out for what becomes of it, it is to be put back
+-- whether the outcome of a message takes memory: of keys, of a text, and of an ioctl of the terminal's
+abbrev pub takes_memory : Side → MsgKind → Bool
+takes_memory side MData = true
+takes_memory Wr (MIoctl id cmd) = (cmd == GET_MODES) || (cmd == SET_MODES)
+takes_memory side kind = false
+
+-- a message that was taken; where memory runs out for its outcome, it is to be put back
 abbrev pub TakesIn : TerminalValue → Side → Msg → TerminalValue → Type 0
-TakesIn t side m after = (after ≡ taken t side m) ⊎ (after ≡ all_waits (record t { back = Some (side, m) }))
+TakesIn t side m after =
+    (after ≡ taken t side m)
+    ⊎ ((takes_memory side m.kind ≡ true) × (after ≡ all_waits (record t { back = Some (side, m) })))
 
 -- the terminal hears an answer
 abbrev pub HearsReply : TerminalValue → Asked → Reply → TerminalValue → Type 0

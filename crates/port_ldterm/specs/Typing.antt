@@ -43,8 +43,8 @@ typed_on modes line keys = if modes.icanon then line_typed modes line keys else 
 abbrev pub as_typed : Typed_on → Typed
 as_typed did = record { lines = option_to_list did.up; line = did.line; screen = did.screen }
 
--- with ICANON a message is typed line by line: the keys that are left go on from the line that is being typed, as
--- if all had been typed at once
+-- with ICANON a message is typed line by line: the keys that are left go on from the line that is being
+-- typed, as if all had been typed at once
 abbrev pub MessageIsTyped : Type 0
 MessageIsTyped =
     (modes : Modes) (line keys : List ℕ) → modes.icanon ≡ true → let did = typed_on modes line keys in

@@ -24,8 +24,8 @@ pub enum Echo {
         /// The key. A control character is shown as `^` and its letter (ECHOCTL), a tab too.
         key: u8,
     },
-    /// Columns left of the cursor become blank, and the cursor moves there. They are those of the keys that were
-    /// taken back.
+    /// Columns left of the cursor become blank, and the cursor moves there. They are those of the keys that
+    /// were taken back.
     RubOut {
         /// The number of columns, 1 or more.
         columns: u32,

@@ -120,9 +120,9 @@ impl LineEditor {
         self.line.as_slice()
     }
 
-    /// Types a key (termio(7)). With ICANON an NL or an EOF (^D) ends the line, which goes up. An ERASE (DEL or
-    /// ^H) takes back the last key, and a KILL (^U) all of them. Every other key is text. A line of `MAX_CANON`
-    /// keys takes no more text, and rings the bell.
+    /// Types a key (termio(7)). With ICANON an NL or an EOF (^D) ends the line, which goes up. An ERASE (DEL
+    /// or ^H) takes back the last key, and a KILL (^U) all of them. Every other key is text. A line of
+    /// `MAX_CANON` keys takes no more text, and rings the bell.
     ///
     /// Without ICANON the key goes up by itself. Without ECHO the terminal shows nothing.
     pub fn type_key(&mut self, key: u8) -> Keyed
@@ -206,8 +206,8 @@ impl LineEditor {
         self.line.clear();
     }
 
-    /// Sets the modes. Without ICANON the line that is being typed goes up, unless it is empty. It goes up without
-    /// an NL.
+    /// Sets the modes. Without ICANON the line that is being typed goes up, unless it is empty. It goes up
+    /// without an NL.
     pub fn set_modes(&mut self, modes: Modes) -> Option<ArrayVec<u8, LONGEST_LINE>>
         ensures up { option_map bytes_of result ≡ sent_by modes self.old.line }
         ensures editor { self.new ≡ with_modes modes self.old.line }

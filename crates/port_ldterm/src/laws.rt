@@ -16,8 +16,8 @@ pub fn keys_edit_lines()
     ensures kill { KillTakesBackAll }
 {}
 
-/// States laws, and does nothing: with ECHO the screen shows the line that will be read. Without ECHO it shows
-/// nothing.
+/// States laws, and does nothing: with ECHO the screen shows the line that will be read. Without ECHO it
+/// shows nothing.
 pub fn lines_are_shown()
     ensures row { ScreenShowsLine }
     ensures plain { PlainLineIsShown }

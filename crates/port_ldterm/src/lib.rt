@@ -1,8 +1,8 @@
 //! A terminal's line discipline (termio(7), ldterm(7M)), as the owner of a module that the program serves.
 //!
-//! A [`LineEditor`] takes one key at a time. It says which line the key sends up, and what the terminal shows.
-//! It knows no tab stops, no wide characters and no width of the row. A [`Terminal`] does this with the
-//! messages of a stream, and knows no signals and no stop of the output.
+//! A [`LineEditor`] takes one key at a time. It says which line the key sends up, and what the terminal
+//! shows. It knows no tab stops, no wide characters and no width of the row. A [`Terminal`] does this with
+//! the messages of a stream, and knows no signals and no stop of the output.
 #![tactic(auto)]
 
 mod echo;
@@ -11,8 +11,6 @@ mod laws;
 mod modes;
 mod taking;
 mod terminal;
-#[cfg(test)]
-mod tests;
 mod typing;
 
 pub use echo::Echo;

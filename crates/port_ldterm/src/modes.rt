@@ -12,7 +12,8 @@ pub(crate) const NL: u8 = 10;
 /// The modes of a terminal that decide what a key does (termio(7)).
 #[derive(Clone, Copy, Debug, PartialEq, Eq)]
 pub struct Modes {
-    /// ICANON: keys go up in lines, which can be edited until they end. Without it each key goes up by itself.
+    /// ICANON: keys go up in lines, which can be edited until they end. Without it each key goes up by
+    /// itself.
     pub icanon: bool,
     /// ECHO: keys are shown.
     pub echo: bool,

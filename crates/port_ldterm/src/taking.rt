@@ -1,9 +1,11 @@
 //! What a terminal makes of the messages that it takes.
-ghost use Rattle.std.specs.Prelude.{◌≡◌, ◌≤◌, IfOk, IfErr, OnErr, OnOk, option_map, length, drop};
+ghost use Rattle.std.specs.Prelude.{◌≡◌, ◌≤◌, true, IfOk, IfErr, OnErr, OnOk, option_map, length, drop};
 ghost use Rattle.strm_msg.specs.Message.{data_msg};
+ghost use Rattle.strm_msg.specs.declared.kind.MsgKind.TheVariants.{MIoctl};
+ghost use Rattle.strm_msg.specs.declared.words.Side.TheVariants.{Wr};
 ghost use Rattle.port_ldterm.specs.Edit.{sent_by, with_modes};
 ghost use Rattle.port_ldterm.specs.Terminal as terminal;
-ghost use Rattle.port_ldterm.specs.Terminal.{all_waits, flushes_line, high_taken, unless_empty};
+ghost use Rattle.port_ldterm.specs.Terminal.{all_waits, flushes_line, high_taken, takes_memory, unless_empty};
 ghost use Rattle.port_ldterm.specs.Typing.{typed_on};
 
 use crate::editor::LineEditor;
@@ -189,6 +191,7 @@ impl Terminal {
         ensures ok { OnOk result (self.new ≡ terminal.ioctl_taken self.old m id cmd) }
         ensures err { IfErr result (λ same. same ≡ m) }
         ensures same { OnErr result (self.new ≡ self.old) }
+        ensures memory { OnErr result (takes_memory Wr (MIoctl id cmd) ≡ true) }
     {
         if cmd == GET_MODES {
             return self.tell_modes(m, id);
@@ -210,6 +213,7 @@ impl Terminal {
         ensures ok { OnOk result (self.new ≡ terminal.ordinary_taken self.old side m.kind m) }
         ensures err { IfErr result (λ same. same ≡ m) }
         ensures same { OnErr result (self.new ≡ self.old) }
+        ensures memory { OnErr result (takes_memory side m.kind ≡ true) }
     {
         match (side, m.kind) {
             (Side::Rd, MsgKind::MData) => self.take_keys(m),

@@ -14,7 +14,8 @@ told_of call (Answers.Done reply) = Done reply
 told_of call (Answers.Refused refusal) = Refused refusal call
 told_of call Answers.Broke = Broke
 
--- a call that is not made comes back with the first refusal that holds, and where none does, for want of memory
+-- a call that is not made comes back with the first refusal that holds, and where none does, for want of
+-- memory
 abbrev pub held_back : Option Refusal → ServiceCall → Told
 held_back first call = Refused (unwrap_or first NoMemory) call
 

@@ -1,6 +1,5 @@
 //! An owner that sends up what comes down to its module, on each kind of stream. The outcomes are worked out
 //! by hand from the refusals of service calls.
-use crate::{Owner, Pumped, ServedModule, Told};
 use std::alloc::Global;
 use std::process::Abort;
 use std::sync::Wait;
@@ -8,7 +7,8 @@ use strm_head::{Outcome, Stream};
 use strm_head_calls::{Answer, Name, Refusal, Reply, Request, ServiceCall, Setup, Wanted};
 use strm_module::{BoxedModule, Driver, Instance, Kind, ModuleOf, Plain, Shape};
 use strm_msg::{BoxedMessage, Bytes, End, Side};
-use strm_shared::{AnyCalls, Call, Called, Log, Ring, Seat, Shared};
+use strm_owner::{Owner, Pumped, ServedModule, Told};
+use strm_shared::{AnyCalls, Call, Log, Ring, Seat, Shared};
 
 /// The name of the module.
 const NAME: &[u8] = b"m";

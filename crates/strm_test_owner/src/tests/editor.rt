@@ -1,12 +1,11 @@
-//! Tests of keys that are typed. The lines and the bytes that are shown are worked out by hand from termio(7).
-use crate::{Echo, LineEditor, MAX_CANON, Modes};
+//! Tests of keys that are typed. The lines and the bytes that are shown are worked out by hand from
+//! termio(7).
+use port_ldterm::{Echo, LineEditor, MAX_CANON, Modes};
 use std::alloc::Global;
 use std::process::Abort;
 
-mod terminal;
-
 /// The modes of a terminal after login.
-const USUAL: Modes = Modes {
+pub(super) const USUAL: Modes = Modes {
     icanon: true,
     echo: true,
     icrnl: true,
@@ -30,7 +29,7 @@ const CR_IS_TEXT: Modes = Modes {
 };
 
 /// An editor of the whole screen runs.
-const RAW: Modes = Modes {
+pub(super) const RAW: Modes = Modes {
     icanon: false,
     echo: false,
     icrnl: false,

@@ -1,7 +1,7 @@
 //! A terminal over a wire, whose keys come in and whose output is taken. The outcome of each row is worked
 //! out by hand from termio(7) and streamio(7).
-use super::{RAW, USUAL};
-use crate::{GET_MODES, Modes, SET_MODES, Terminal};
+use super::editor::{RAW, USUAL};
+use port_ldterm::{GET_MODES, Modes, SET_MODES, Terminal};
 use std::alloc::Global;
 use std::process::Abort;
 use strm_head::{Arrived, Outcome, Stream};

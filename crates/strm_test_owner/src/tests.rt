@@ -1,0 +1,3 @@
+mod editor;
+mod owners;
+mod terminal;

@@ -223,8 +223,8 @@ fn is_told_by_data(kind: u32) -> bool
 }
 
 /// States a law, and does nothing: a message that is told in numbers and bytes is made of them again, so what
-/// a getq gives can be sent on as it is. Its numbers are within those of C, and its low mark is below its high
-/// one.
+/// a getq gives can be sent on as it is. Its numbers are within those of C, and its low mark is below its
+/// high one.
 pub fn whole_returns()
     ensures { wholes.WholeReturns }
 {}

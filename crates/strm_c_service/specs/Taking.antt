@@ -1,5 +1,5 @@
--- The calls that take a message whole or not at all: a take and a getq, and a strget, which takes the answer to
--- an ioctl. And what a take would give, before it is made.
+-- The calls that take a message whole or not at all: a take and a getq, and a strget, which takes the answer
+-- to an ioctl. And what a take would give, before it is made.
 use Rattle.std.specs.Prelude.{◌≡◌, ℕ, nat_le, ◌&&◌, not, Bool, true, false, Option, Some, None, is_none, option_map, Result, Ok, Err, List, length, ℤ, pos, if◌then◌else◌}
 use Rattle.strm_msg.specs.Message.{Msg, Part}
 use Rattle.strm_msg.specs.declared.errno.Errno.TheVariants.{ERANGE}
@@ -29,8 +29,8 @@ use Rattle.strm_c_calls.specs.Call.{IsStep, Calls, checked_call}
 use Rattle.strm_c_calls.specs.declared.handle.Handle.{Handle}
 use Rattle.strm_c_service.specs.Written.{whole_after}
 
--- the message that a call would take: the first of the output of a wire, the first of a queue that the program
--- serves, or the answer that is asked for later
+-- the message that a call would take: the first of the output of a wire, the first of a queue that the
+-- program serves, or the answer that is asked for later
 abbrev pub first_of : Image Kind → End → Request (Shape Kind) → Option Msg
 first_of image e Requests.Take = first_output image e
 first_of image e (Requests.Service name side (Getq flag)) = first_served image e name.items side

@@ -19,8 +19,9 @@ abbrev pub is_id : Option ℕ → ℕ → Bool
 is_id None id = false
 is_id (Some p) id = p == id
 
--- the first answer to the ioctl that is awaited is kept, and the first to the one that is asked for later
--- (M_IOCACK, M_IOCNAK)
+-- the record with the answer to an ioctl (M_IOCACK, M_IOCNAK): the head keeps the first answer with the id of
+-- the ioctl that it awaits, and the first with the id of the one whose answer is asked for later. It drops any
+-- other
 abbrev pub kept_answer : Record → ℕ → Msg → Record
 kept_answer r id m =
     if is_id r.pending id && is_none r.kept then record r { kept = Some m }

@@ -213,7 +213,7 @@ pub enum Request<P> {
     /// Sends an ioctl down, and returns its id. Its answer is asked for later by a strget.
     ///
     /// Refused with EINVAL (over `MAX_DATA` bytes of data), ENXIO (hung up) and EAGAIN (an answer is asked
-    /// for already, or the greatest id was given out), in this order.
+    /// for or kept already, or the greatest id was given out), in this order.
     Strput {
         /// The command, as the modules and the driver know it.
         cmd: u32,

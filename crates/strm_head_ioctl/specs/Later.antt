@@ -15,8 +15,8 @@ use Rattle.strm_head_calls.specs.declared.answer.Reply.TheVariants.{Str, Strput}
 use Rattle.strm_head_calls.specs.Reply.{acknowledged}
 use Rattle.strm_head_calls.specs.Effect.{Effect, effect}
 
--- the refusals of a strput: data that are too long, an end that is hung up, and an answer that is asked for or
--- kept already, or no id that is left
+-- the refusals of a strput: data that are too long, an end that is hung up, and an answer that is asked for
+-- or kept already, or no id that is left
 abbrev pub strput_refusals : {K : Type 0} → Image K → End → Part → List (Bool × Refusal)
 strput_refusals image e dat =
     let state = (end_of image e).state in

@@ -15,7 +15,8 @@ use strm_module::ModuleOf;
 use strm_msg::{BoxedMessage, Bytes, End, Message, MsgKind, NoMem};
 
 /// The first of a strput's own refusals that holds: EINVAL for data over its greatest size, ENXIO for an end
-/// that is hung up, and EAGAIN where an answer is asked for or kept already, or the greatest id was given out.
+/// that is hung up, and EAGAIN where an answer is asked for or kept already, or the greatest id was given
+/// out.
 pub fn strput_refusal<M: ModuleOf>(
     chain: &Chain<M>,
     end: End,

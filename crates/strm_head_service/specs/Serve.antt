@@ -83,9 +83,9 @@ must_wait image e None side call = false
 must_wait image e (Some (Module i)) side call = module_waits image e i side call
 must_wait image e (Some Output) side call = output_waits (end_of image e) call
 
--- the refusals of a service call, in the order in which they are looked for. It is made below the head, so it
--- looks at no error and no hangup that came up there. A call on the output of a wire is not refused because
--- the end is closed
+-- the refusals of a service call, each with its condition, in the order in which they are looked for. The call
+-- is made below the head, so no error and no hangup that came up there refuses it. A closed end refuses a call
+-- on a module, but none on the output of a wire
 abbrev pub service_refusals : {K : Type 0} → Image K → End → List ℕ → Side → ServiceCall → List (Bool × Refusal)
 service_refusals image e name side call =
     let found = served_at image e name in

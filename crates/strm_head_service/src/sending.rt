@@ -34,8 +34,8 @@ pub fn putnext_refusal<M: ModuleOf>(
     }
 }
 
-/// The refusal that a putbq of a message would have, as `service_refusal`. It looks at the kind of the message
-/// alone. A qsize shares the refusals that do not depend on it.
+/// The refusal that a putbq of a message would have, as `service_refusal`. It looks at the kind of the
+/// message alone. A qsize shares the refusals that do not depend on it.
 pub fn putbq_refusal<M: ModuleOf>(
     chain: &Chain<M>,
     end: End,

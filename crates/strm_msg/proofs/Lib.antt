@@ -1,1 +1,2 @@
 pub mod RangeLemmas
+pub mod LoopLemmas

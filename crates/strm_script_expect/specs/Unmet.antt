@@ -28,8 +28,8 @@ abbrev pub entry_on : {K : Type 0} → List (List (Entry K)) → List ℕ → �
 entry_on owned streams call None = None
 entry_on owned streams call (Some stream) = slice_get (get_or owned stream []) (number_on stream streams call)
 
--- the entry of a call of a process: the first call of the process on a stream has its first entry there, and so
--- on
+-- the entry of a call of a process: the first call of the process on a stream has its first entry there, and
+-- so on
 abbrev pub entry_at : {K : Type 0} → List (List (Entry K)) → List ℕ → ℕ → Option (Entry K)
 entry_at owned streams call = entry_on owned streams call (slice_get streams call)
 

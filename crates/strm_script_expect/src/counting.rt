@@ -20,8 +20,8 @@ fn count(counts: &mut [usize], at: usize) -> usize
     before
 }
 
-/// The number of each call, as `numbers` has it, by counts of which none is above 0 yet. Fails only when memory
-/// runs out.
+/// The number of each call, as `numbers` has it, by counts of which none is above 0 yet. Fails only when
+/// memory runs out.
 fn counted(alloc: Global, counts: &mut [usize], streams: &[u32]) -> Result<Vec<usize>, NoMem>
     requires { counts.old ≡ replicate (length counts.old) 0 }
     ensures { IfOk result (λ all. AreNumbers streams.now (length counts.old) all.items) }
@@ -33,8 +33,8 @@ fn counted(alloc: Global, counts: &mut [usize], streams: &[u32]) -> Result<Vec<u
     Ok(all)
 }
 
-/// The number of each call among those of its process on the same stream, from 0, by the streams of the calls.
-/// There are `many` streams. Fails only when memory runs out.
+/// The number of each call among those of its process on the same stream, from 0, by the streams of the
+/// calls. There are `many` streams. Fails only when memory runs out.
 pub(crate) fn numbers(alloc: Global, streams: &[u32], many: usize) -> Result<Vec<usize>, NoMem>
     ensures { IfOk result (λ all. AreNumbers streams.now many all.items) }
 {

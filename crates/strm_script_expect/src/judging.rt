@@ -25,8 +25,8 @@ pub struct Missed {
     pub was: Vec<u8>,
 }
 
-/// The reply in an entry, as a transcript has it behind its `:`; no text if there is no entry. Fails only when
-/// memory runs out.
+/// The reply in an entry, as a transcript has it behind its `:`; no text if there is no entry. Fails only
+/// when memory runs out.
 fn said_in<K>(alloc: Global, entry: Option<&Kept<K>>) -> Result<Vec<u8>, NoMem>
     ensures { IfOk result (λ text. text.items ≡ said_in (option_map (λ entry. entry.now) entry.entry)) }
 {
@@ -106,8 +106,8 @@ fn add_unmet_by<K>(
 /// met if it is one of the choices, byte for byte, as a transcript has it. `expected` has those of each
 /// process, in order.
 ///
-/// Only the processes that expect replies cost time: for each, all histories are gone through once. Fails only
-/// when memory runs out.
+/// Only the processes that expect replies cost time: for each, all histories are gone through once. Fails
+/// only when memory runs out.
 pub fn unmet<K>(
     alloc: Global,
     transcript: &Transcript<K>,

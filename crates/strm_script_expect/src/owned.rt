@@ -54,8 +54,8 @@ fn entry_in<'a, K>(owned: &[Vec<&'a Kept<K>>], stream: usize, number: usize) -> 
     owned.get(stream)?.get(number).copied()
 }
 
-/// The entry of a call of a process, by the entries of the process on each stream, the stream of each call and
-/// the number of each call on its stream.
+/// The entry of a call of a process, by the entries of the process on each stream, the stream of each call
+/// and the number of each call on its stream.
 pub(crate) fn entry_at<'a, K>(
     owned: &[Vec<&'a Kept<K>>],
     streams: &[u32],

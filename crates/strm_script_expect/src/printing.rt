@@ -32,8 +32,8 @@ fn put_choices<W: Write>(w: &mut W, choices: &[Vec<u8>]) -> io::Result<()>
     }
 }
 
-/// Writes the text of an expected reply that was not met: `line L: expected REPLY, was REPLY`, with the number
-/// of the script's line. It has no line end.
+/// Writes the text of an expected reply that was not met: `line L: expected REPLY, was REPLY`, with the
+/// number of the script's line. It has no line end.
 ///
 /// Refused if the writer refuses, with its error.
 pub fn put_missed<W: Write>(w: &mut W, missed: &Missed) -> io::Result<()>

@@ -18,8 +18,8 @@ use Rattle.strm_shared_entry.specs.declared.call.Called.TheVariants as Calls
 use Rattle.strm_shared.specs.declared.state.Readiness.{Readiness}
 use Rattle.strm_shared.specs.declared.state.Readiness.TheVariants.{Ready, Waits, NoMem}
 
--- the answer of a call that was made is not that it would have to wait (EAGAIN). The caller's copy agrees with
--- this answer, and so does the entry that the receipt shows. Of a call that comes back nothing is said
+-- the answer of a call that was made is not that it would have to wait (EAGAIN). The caller's copy agrees
+-- with this answer, and so does the entry that the receipt shows. Of a call that comes back nothing is said
 abbrev pub WaitedFor : {P K A : Type 0} → (A → Answer → Type 0) → Called P K A → Type 0
 WaitedFor Agrees (Calls.Done has back receipt) =
     (answer : Answer) × Agrees has answer × (answer ≢ Refused WouldWait) × IfSome receipt (λ r. r.entry.answer ≡ answer)

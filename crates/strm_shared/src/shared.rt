@@ -101,12 +101,12 @@ impl<M: ModuleOf, N: StreamRunName<M::Kind>> Shared<M, N> {
         Ok((shared, all, feeder))
     }
 
-    /// The stream with a bell, in place of the one that it had. It rings the bell whenever it may have changed,
-    /// after its lock was given back.
+    /// The stream with a bell, in place of the one that it had. It rings the bell whenever it may have
+    /// changed, after its lock was given back.
     ///
     /// Each call rings that let in messages of the line. So does each other call, but for two kinds. One was
-    /// refused; the other only looks, as a poll, a peek and an I_NREAD do (streamio(7)). So a caller who tries
-    /// or polls its streams in turn does not ring for itself.
+    /// refused; the other only looks, as a poll, a peek and an I_NREAD do (streamio(7)). So a caller who
+    /// tries or polls its streams in turn does not ring for itself.
     pub fn with_bell(self, bell: Arc<Bell, Global>) -> Shared<M, N>
         ensures { result ≡ self }
     {
@@ -179,10 +179,10 @@ impl<M: ModuleOf, N: StreamRunName<M::Kind>> Shared<M, N> {
         locked.call::<A>(seat, call, room)
     }
 
-    /// Makes one call of a caller, as `enter` makes it, as soon as it need not wait. While it would be refused
-    /// with EAGAIN, the caller sleeps. It looks again when the stream may have changed, or `wake` was called.
-    /// So a getmsg(2) waits for a message, and a putmsg(2) or a write(2) for room. Any other refusal comes at
-    /// once, such as that of an end that was hung up or closed meanwhile.
+    /// Makes one call of a caller, as `enter` makes it, as soon as it need not wait. While it would be
+    /// refused with EAGAIN, the caller sleeps. It looks again when the stream may have changed, or `wake` was
+    /// called. So a getmsg(2) waits for a message, and a putmsg(2) or a write(2) for room. Any other refusal
+    /// comes at once, such as that of an end that was hung up or closed meanwhile.
     ///
     /// Before each look the messages of the line come in that can. No other call comes between the last look
     /// and this one. The call comes back when memory runs out, for its entry or for a message of the line. It
@@ -216,15 +216,15 @@ impl<M: ModuleOf, N: StreamRunName<M::Kind>> Shared<M, N> {
         called
     }
 
-    /// Lets those who sleep on the stream look again, and rings its bell. To be called after a feeder has taken
-    /// a message: a feeder takes no lock and wakes nobody.
+    /// Lets those who sleep on the stream look again, and rings its bell. To be called after a feeder has
+    /// taken a message: a feeder takes no lock and wakes nobody.
     pub fn wake<R: Wait>(&self, rt: &R) {
         let is_awaited = self.locked.lock(rt).take_sleepers();
         self.tell(rt, is_awaited || self.bell.is_some());
     }
 
-    /// Room for the entry of the seat's next call. Fails when memory runs out, and where the seat can count no
-    /// more.
+    /// Room for the entry of the seat's next call. Fails when memory runs out, and where the seat can count
+    /// no more.
     #[inline(always)]
     fn room_for_next(
         &self,
@@ -285,8 +285,8 @@ impl<M: ModuleOf, N: StreamRunName<M::Kind>> Shared<M, N> {
         unreachable!()
     }
 
-    /// Where there is news, wakes those who sleep on the stream, and rings its bell. To be called when the lock
-    /// was given back.
+    /// Where there is news, wakes those who sleep on the stream, and rings its bell. To be called when the
+    /// lock was given back.
     fn tell<R: Wait>(&self, rt: &R, is_news: bool) {
         if is_news {
             self.changed.notify_all();

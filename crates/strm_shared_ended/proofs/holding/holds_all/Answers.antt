@@ -2,7 +2,7 @@ use Rattle.std.proofs.Common.{append_assoc, ◌∷◌}
 use Rattle.std.proofs.lemmas.List.Elements.{All-push}
 use Rattle.strm_shared_ended.specs.declared.holding.Receipts.{Receipts}
 use Rattle.strm_shared_ended.specs.Ended.{AreHeld}
-use Rattle.strm_run_input.proofs.LoopLemmas.{rest_shorter}
+use Rattle.strm_msg.proofs.LoopLemmas.{rest_shorter}
 use Rattle.strm_shared_ended.proofs.holding.holds_all.Goals as goal
 
 pub loop-mine-preserved : goal.loop-mine-preserved

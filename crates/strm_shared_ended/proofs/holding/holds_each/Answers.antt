@@ -1,7 +1,7 @@
 use Rattle.std.proofs.Common.{◌≡◌, ◌+◌, append_assoc, ◌∷◌, suc, Some, length, ap, subst, sym, ◌∙◌, arith}
 use Rattle.std.proofs.lemmas.List.{length_push}
 use Rattle.strm_shared_entry.specs.Own.{entry_at}
-use Rattle.strm_run_input.proofs.LoopLemmas.{rest_shorter}
+use Rattle.strm_msg.proofs.LoopLemmas.{rest_shorter}
 use Rattle.strm_shared_ended.proofs.HoldingLemmas.{first_more}
 use Rattle.strm_shared_ended.proofs.holding.holds_each.Goals as goal
 

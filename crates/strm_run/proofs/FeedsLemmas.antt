@@ -12,7 +12,7 @@ use Rattle.strm_run_input.specs.declared.script.Feed.{Feed}
 use Rattle.strm_run_input.specs.Scripts.{feed_of}
 use Rattle.strm_run_input.specs.Resolve.{line_is_there}
 use Rattle.strm_run_callers.specs.RunName.{RunValue}
-use Rattle.strm_run_callers.specs.Feeding.{IsFeeding}
+use Rattle.strm_run_callers.specs.Feeding.{IsUnfed}
 use Rattle.strm_run_callers.specs.Dealing.{callers_of}
 use Rattle.strm_run.specs.Inside.Opening.{lines_below, AreFeeders, AreFeeds}
 use Rattle.strm_run_callers.proofs.ReachedLemmas.{fails_more, passes_more, reached_is, reached_there}
@@ -104,11 +104,11 @@ module _ {K : Type 0} (run : RunValue K) (feeders before after : List (Option Fe
         ap (λ (f : FeederValue). lines ++ f.feed.number ∷ []) chosen.1 ∙ ap (λ (l : List ℕ). l ++ at ∷ []) was ∙ sym (lines_more run.setups at (line_at run.setups at setup setup_there ∙ chosen.0))
 
     -- with what the line is fed
-    pub feeding_found : (feeds now : List (Vec Msg Global)) (messages : Vec Msg Global) → AreFeeds run.feeds (length run.setups) feeds → ((k : ℕ) (d : Vec Msg Global) → at ≤ k → get_or now k d ≡ get_or feeds k d) → messages ≡ get_or now at messages → IsFeeding run found.feed messages.items
+    pub feeding_found : (feeds now : List (Vec Msg Global)) (messages : Vec Msg Global) → AreFeeds run.feeds (length run.setups) feeds → ((k : ℕ) (d : Vec Msg Global) → at ≤ k → get_or now k d ≡ get_or feeds k d) → messages ≡ get_or now at messages → IsUnfed run found.feed messages.items
     feeding_found feeds now messages fed behind stood =
         let mine : messages.items ≡ feed_of run.feeds at =
         ap (λ (v : Vec Msg Global). v.items) (stood ∙ behind at messages (omega arith)) ∙ fed.each at messages setup_there in
-        subst (λ (f : FeederValue). IsFeeding run f.feed messages.items) (sym chosen.1) (record { there = setup_there; begins = refl; none = refl; feed = mine })
+        subst (λ (f : FeederValue). IsUnfed run f.feed messages.items) (sym chosen.1) (record { there = setup_there; begins = refl; none = refl; feed = mine })
 
   -- the other streams have none
   pub lines_none : (lines : List ℕ) → ((found : FeederValue) → feeder ≡ Some found → ⊥) → lines ≡ lines_below run.setups at → lines ≡ lines_below run.setups (at + 1)

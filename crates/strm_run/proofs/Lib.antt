@@ -4,3 +4,4 @@ pub mod OpeningLemmas
 pub mod RunLemmas
 pub mod TableLemmas
 pub mod ThereLemmas
+pub mod StepLemmas

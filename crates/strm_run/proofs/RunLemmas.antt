@@ -24,3 +24,12 @@ none_such (Err NoSuch) late is = absurd late
 none_such (Err NoMem) late is = absurd cc
 none_such (Err Unfinished) late is = absurd cc
 none_such (Err NoReceipt) late is = absurd cc
+
+-- and not that there are no workers for it
+pub not_workers : {T C : Type 0} (r : Result T RunFault) → IfErr r (λ fault. IsLate fault) → IsErrOf r Workers → C
+not_workers (Ok x) late is = absurd cc
+not_workers (Err Workers) late is = absurd late
+not_workers (Err NoSuch) late is = absurd late
+not_workers (Err NoMem) late is = absurd cc
+not_workers (Err Unfinished) late is = absurd cc
+not_workers (Err NoReceipt) late is = absurd cc

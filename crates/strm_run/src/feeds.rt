@@ -1,5 +1,5 @@
 //! The feeders of a run, each with its feed.
-ghost use Rattle.std.specs.Prelude.{◌≡◌, ◌<◌, true, length, All, AllPairs, IfOk};
+ghost use Rattle.std.specs.Prelude.{◌≡◌, ◌<◌, true, length, map, All, AllPairs, IfOk};
 ghost use Rattle.strm_msg.specs.Kind.{is_from_line};
 ghost use Rattle.strm_run.specs.Inside.Opening.{lines_of, AreFeeders, AreFeeds};
 
@@ -7,7 +7,7 @@ use crate::table::empty_rows;
 use std::alloc::Global;
 use std::mem;
 use strm_msg::{Message, NoMem};
-use strm_run_callers::{Feeding, Of, Offered, RunName};
+use strm_run_callers::{Feeding, Of, Offered, OfferedFeeds, RunName};
 use strm_run_input::Feed;
 use strm_shared::Feeder;
 
@@ -39,7 +39,7 @@ pub(crate) fn feedings<K, N: RunName<K>>(
     requires feeders { AreFeeders N.run feeders.items }
     requires feeds { AreFeeds N.run.feeds (length N.run.setups) feeds.items }
     requires kinds { All (λ messages. All (λ m. is_from_line m.kind ≡ true) messages.items) feeds.items }
-    ensures { IfOk result (λ all. all.items ≡ lines_of N.run.setups) }
+    ensures { IfOk result (λ all. map (λ feeding. feeding.number) all.items ≡ lines_of N.run.setups) }
 {
     let mut all = Vec::new(alloc);
     let mut at: usize = 0;
@@ -51,6 +51,12 @@ pub(crate) fn feedings<K, N: RunName<K>>(
         at += 1;
     }
     Ok(all)
+}
+
+/// Which streams have no message to be offered, in order. Fails only when memory runs out.
+pub(crate) fn unfed(alloc: Global, feeds: &[Vec<Message>]) -> Result<OfferedFeeds, NoMem> {
+    let unfed = feeds.iter().map(|feed| feed.is_empty()).collect(alloc)?;
+    Ok(OfferedFeeds::new(unfed))
 }
 
 /// The feed that each feeder leaves, in order of the streams; nothing for a stream that has none. Fails only

@@ -5,17 +5,19 @@
 //! stream could have given, and has each caller's calls on it, in order.
 #![tactic(auto)]
 
+mod cast;
 mod ending;
 mod feeds;
 mod finished;
 mod opening;
 mod running;
+mod steps;
 mod table;
 mod threads;
 
-pub use running::run;
+pub use running::{run, run_in_order};
 pub use strm_run_callers::Gate;
 pub use strm_run_input::{
-    Feed, MOST_WORKERS, RunFault, Script, ScriptCall, are_from_line, can_open_all,
+    Await, Feed, MOST_WORKERS, Order, RunFault, Script, ScriptCall, are_from_line, can_open_all,
 };
 pub use strm_shared_log::{StreamLog, Transcript};

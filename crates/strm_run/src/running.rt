@@ -8,19 +8,20 @@ ghost use Rattle.strm_run_callers.specs.Run.{CallsFit};
 ghost use Rattle.strm_run_callers.specs.Transcript.{AreLogs, IsFed, IsLegal};
 ghost use Rattle.strm_run_callers.specs.Play.{CallsDoFit};
 ghost use Rattle.strm_run.specs.Inside.Ending.{IsLate};
+ghost use Rattle.strm_run.specs.Inside.Opening.{IsInput};
 
+use crate::cast::{Cast, open_run};
 use crate::ending::finish;
-use crate::feeds::{feedings, feeds_of};
-use crate::opening::{open, rings_of};
-use crate::table::transposed;
+use crate::opening::rings_of;
+use crate::steps::play_in_order;
 use crate::threads::play_out;
 use std::alloc::Global;
 use std::marker::Brand;
 use std::sync::Wait;
 use std::thread::Threads;
 use strm_module::{BoxedModule, ModuleOf};
-use strm_run_callers::{Gate, RunName, Streams, deal, seated};
-use strm_run_input::{Feed, RunFault, Script, is_worker_count, names_resolve};
+use strm_run_callers::{Gate, RunName, deal};
+use strm_run_input::{Feed, Order, RunFault, Script, is_worker_count, names_resolve};
 use strm_shared::Ring;
 use strm_shared_log::{SameKind, Setup, Transcript};
 
@@ -38,28 +39,54 @@ fn run_named<M: ModuleOf, N: RunName<M::Kind> + Send + Sync, R: Threads + Wait +
 where
     M::Kind: SameKind + Send + Sync,
     requires fits { CallsDoFit M.row M.Kind.row M.Kind.Kinds }
-    requires setups { N.run.setups ≡ setups.items }
-    requires scripts { N.run.scripts ≡ scripts.items }
-    requires feeds { N.run.feeds ≡ feeds.items }
-    requires rings { N.rings ≡ rings.items }
-    requires made { map (λ ring. ring.setup) rings.items ≡ setups.items }
-    requires few { (length setups.items < 2 ^ 32) × (length scripts.items < 2 ^ 32) }
-    requires setups_fit { All (λ setup. is_setup setup ≡ true) setups.items }
-    requires kinds { AreFromLine feeds.items }
+    requires input { IsInput N.run N.rings setups.items scripts.items feeds.items rings.items }
     requires crew { is_worker_count workers ≡ true }
-    requires there { NamesResolve setups.items scripts.items feeds.items }
     ensures logs { IfOk result (λ transcript. AreLogs M.Kind.means N.run transcript.streams.items) }
     ensures late { IfErr result (λ fault. IsLate fault) }
 {
     let many = setups.len();
-    let callers = scripts.len();
-    let (all, seats, feeders) = open(alloc, rings, callers as u32)?;
-    let seats = transposed(alloc, seats, callers)?;
-    let feedings = feedings(alloc, feeders, feeds_of(alloc, feeds, many)?)?;
-    let crews = deal(alloc, seated(alloc, scripts, seats)?, workers)?;
-    let streams = Streams::<M, N>::new(all);
+    let Cast {
+        streams,
+        players,
+        feedings,
+    } = open_run::<M, N>(alloc, setups, scripts, feeds, rings)?;
+    let crews = deal(alloc, players, workers)?;
     let (played, offered) = play_out(rt, alloc, &streams, crews, feedings, gate)?;
     finish(rt, alloc, streams, played, offered, many, workers as usize)
+}
+
+/// Plays a run of which all is there, under its name, in an order.
+fn run_named_in_order<
+    M: ModuleOf,
+    N: RunName<M::Kind> + Send + Sync,
+    R: Threads + Wait + Sync,
+    O: Order,
+    G: Gate,
+>(
+    rt: &R,
+    alloc: Global,
+    setups: Vec<Setup>,
+    scripts: Vec<Script<BoxedModule<M>>>,
+    feeds: Vec<Feed>,
+    rings: Vec<Ring>,
+    order: &mut O,
+    gate: &G,
+) -> Result<Transcript<M::Kind>, RunFault>
+where
+    M::Kind: SameKind + Send + Sync,
+    requires fits { CallsDoFit M.row M.Kind.row M.Kind.Kinds }
+    requires input { IsInput N.run N.rings setups.items scripts.items feeds.items rings.items }
+    ensures logs { IfOk result (λ transcript. AreLogs M.Kind.means N.run transcript.streams.items) }
+    ensures late { IfErr result (λ fault. IsLate fault) }
+{
+    let many = setups.len();
+    let Cast {
+        streams,
+        players,
+        feedings,
+    } = open_run::<M, N>(alloc, setups, scripts, feeds, rings)?;
+    let (played, offered) = play_in_order(rt, alloc, &streams, players, feedings, order, gate)?;
+    finish(rt, alloc, streams, played, offered, many, 1)
 }
 
 /// Plays scripts on streams that all callers share, and returns the log of each stream.
@@ -112,4 +139,41 @@ where
     }
     let rings = rings_of(alloc, setups.as_slice())?;
     run_named::<M, Brand, R, G>(rt, alloc, setups, scripts, feeds, rings, workers, gate)
+}
+
+/// Plays scripts as `run` does, but in the calling thread alone, one step after another: a call of a caller,
+/// or the offer of one message of a feed. `order` chooses who makes the next step.
+///
+/// Those that may go next are counted from 0: first the callers that have a call left, in order, and then the
+/// feeds that have a message left, in order of their streams. A caller that awaits a feed is left out until
+/// the feed was offered.
+///
+/// To be called as `run` is. Refused as `run` is, but for `Workers`, which is never the fault.
+pub fn run_in_order<M: ModuleOf, R: Threads + Wait + Sync, O: Order, G: Gate>(
+    rt: &R,
+    alloc: Global,
+    setups: Vec<Setup>,
+    scripts: Vec<Script<BoxedModule<M>>>,
+    feeds: Vec<Feed>,
+    order: &mut O,
+    gate: &G,
+) -> Result<Transcript<M::Kind>, RunFault>
+where
+    M::Kind: SameKind + Send + Sync,
+    requires fits { CallsFit M.row M.Kind.row M.Kind.Kinds }
+    requires few { (length setups.items < 2 ^ 32) × (length scripts.items < 2 ^ 32) }
+    requires setups { All (λ setup. is_setup setup ≡ true) setups.items }
+    requires feeds { AreFromLine feeds.items }
+    ensures workers { IsErrOf result RunFault.Workers → ⊥ }
+    ensures no_such { IsErrOf result RunFault.NoSuch ↔ (NamesResolve setups.items scripts.items feeds.items → ⊥) }
+    ensures many { IfOk result (λ transcript. length transcript.streams.items ≡ length setups.items) }
+    ensures legal { IfOk result (λ transcript. (k : ℕ) (setup : _) (log : _) → k < length setups.items → IsLegal M.Kind.means (get_or setups.items k setup) (get_or transcript.streams.items k log)) }
+    ensures calls { IfOk result (λ transcript. (k caller : ℕ) (log : _) → k < length setups.items → map asked_of (own caller (get_or transcript.streams.items k log).history.items) ≡ calls_on k (script_of scripts.items caller)) }
+    ensures arrivals { IfOk result (λ transcript. (k : ℕ) (log : _) → k < length setups.items → IsFed (feed_of feeds.items k) (get_or transcript.streams.items k log)) }
+{
+    if !names_resolve(setups.as_slice(), scripts.as_slice(), feeds.as_slice()) {
+        return Err(RunFault::NoSuch);
+    }
+    let rings = rings_of(alloc, setups.as_slice())?;
+    run_named_in_order::<M, Brand, R, O, G>(rt, alloc, setups, scripts, feeds, rings, order, gate)
 }

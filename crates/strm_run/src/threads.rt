@@ -6,7 +6,9 @@ use std::sync::Wait;
 use std::thread::Threads;
 use strm_module::ModuleOf;
 use strm_msg::NoMem;
-use strm_run_callers::{Feeding, Gate, Offered, Played, Player, RunName, Streams, play_each};
+use strm_run_callers::{
+    Feeding, Gate, Offered, OfferedFeeds, Played, Player, RunName, Streams, play_each,
+};
 use strm_run_threads::run_alongside;
 
 /// The scripts of the only worker that has some, or those of each that has some, where they are several.
@@ -67,7 +69,7 @@ where
 }
 
 /// Adds the result of a feeder to those of others.
-fn keep<T: Drop>(all: &mut Vec<T>, one: Option<T>) -> Result<(), NoMem> {
+pub(crate) fn keep<T: Drop>(all: &mut Vec<T>, one: Option<T>) -> Result<(), NoMem> {
     if let Some(one) = one {
         all.push(one)?;
     }
@@ -75,15 +77,17 @@ fn keep<T: Drop>(all: &mut Vec<T>, one: Option<T>) -> Result<(), NoMem> {
 }
 
 /// The feeders that have messages, and apart from them the feeds of those that have none.
-fn with_messages<K: Drop, N: RunName<K>>(
+fn with_messages<K: Drop, N: RunName<K>, R: Wait>(
+    rt: &R,
     alloc: Global,
+    feeds: &OfferedFeeds,
     feedings: Vec<Feeding<K, N>>,
 ) -> Result<(Vec<Feeding<K, N>>, Vec<Offered<K, N>>), NoMem> {
     let mut feeders = Vec::new(alloc);
     let mut offered = Vec::new(alloc);
     for feeding in feedings {
         if feeding.is_empty() {
-            keep(&mut offered, feeding.offer())?;
+            keep(&mut offered, feeding.offer(rt, feeds))?;
         } else {
             feeders.push(feeding)?;
         }
@@ -109,12 +113,13 @@ where
     M::Kind: Send + Sync,
     requires { CallsDoFit M.row M.Kind.row M.Kind.Kinds }
 {
-    let (feeders, mut offered) = with_messages(alloc, feedings)?;
+    let feeds = streams.offered();
+    let (feeders, mut offered) = with_messages(rt, alloc, feeds, feedings)?;
     let (left, played) = run_alongside(
         rt,
         alloc,
         feeders,
-        &|feeding: Feeding<M::Kind, N>| feeding.offer(),
+        &|feeding: Feeding<M::Kind, N>| feeding.offer(rt, feeds),
         || -> Result<Vec<Played<M::Kind, N>>, NoMem>
             requires { CallsDoFit M.row M.Kind.row M.Kind.Kinds }
         { play_all(rt, alloc, streams, crews, gate) },

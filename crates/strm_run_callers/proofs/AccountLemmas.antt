@@ -1,8 +1,7 @@
 -- One call more, with its receipt.
-use Rattle.std.proofs.Common.{◌≡◌, ℕ, zero, suc, ◌+◌, ◌++◌, ◌&&◌, true, Some, List, [], ◌∷◌, Option, map, take, slice_get, sym, ◌∙◌, ap, subst, arith}
+use Rattle.std.proofs.Common.{◌≡◌, suc, ◌+◌, ◌++◌, ◌&&◌, true, Some, List, [], ◌∷◌, Option, map, take, slice_get, sym, ◌∙◌, ap, subst, arith}
 use Rattle.std.specs.Prelude.{is_some}
 use Rattle.std.proofs.lemmas.List.{map-append}
-use Rattle.std.proofs.lemmas.Option.{same_Some}
 use Rattle.std.proofs.lemmas.Bool.{and_parts}
 use Rattle.strm_shared.proofs.TurnLemmas.{take_next}
 use Rattle.strm_module.specs.declared.shape.Shape.{Shape}

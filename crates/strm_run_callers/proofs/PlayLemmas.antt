@@ -1,5 +1,5 @@
 -- A player, call by call.
-use Rattle.std.proofs.Common.{◌≡◌, ℕ, zero, suc, ◌+◌, ◌<◌, ◌==◌, Bool, true, false, Some, List, [], ◌∷◌, ◌++◌, append-nil, append_assoc, Vec, Global, All, drop, get_or, length, set, slice_get, if◌then◌else◌, refl, sym, ◌∙◌, ap, subst, arith}
+use Rattle.std.proofs.Common.{◌≡◌, ℕ, zero, suc, ◌+◌, ◌<◌, ◌==◌, Bool, true, false, Some, Result, Ok, Err, OnOk, List, [], ◌∷◌, ◌++◌, append-nil, append_assoc, Vec, Global, All, drop, get_or, length, set, slice_get, if◌then◌else◌, refl, sym, ◌∙◌, ap, subst, arith}
 use Rattle.std.specs.List.{flat_map}
 use Rattle.std.proofs.lemmas.List.{length-set, get_or-set_same, get_or-set_other, nil_from_length}
 use Rattle.std.proofs.lemmas.Bool.{eqb-true, eqb-false, eq-eqb}
@@ -12,6 +12,11 @@ use Rattle.strm_run_input.specs.Scripts.{calls_on, in_blocks, script_of}
 use Rattle.strm_run_callers.specs.RunName.{RunValue}
 use Rattle.strm_run_callers.specs.Account.{AccountValue}
 use Rattle.strm_run_callers.specs.Play.{ArePlayed, AreStreams, IsPlayer, IsSeated}
+
+-- what follows from a fact about a success follows where there is one
+pub on_ok : {T E : Type 0} (P Q : Type 0) (r : Result T E) → (P → Q) → OnOk r P → OnOk r Q
+on_ok P Q (Ok x) follows is = follows is
+on_ok P Q (Err e) follows is = is
 
 -- an element by what is left of the list from it on
 get_from : {A : Type 0} (all : List A) (n : ℕ) (first : A) (rest : List A) → drop n all ≡ first ∷ rest → slice_get all n ≡ Some first

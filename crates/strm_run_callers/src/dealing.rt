@@ -29,7 +29,7 @@ pub fn seated<M: ModuleOf, N: RunName<M::Kind>>(
     for script in scripts {
         let mine = mem::replace(&mut seats[caller as usize], Vec::new(alloc));
         let accounts = accounts_of(alloc, mine)?;
-        all.push(Player::new(caller, script, accounts))?;
+        all.push(Player::new(alloc, caller, script, accounts))?;
         caller += 1;
     }
     Ok(all)

@@ -6,9 +6,11 @@
 #![tactic(auto)]
 
 mod account;
+mod awaits;
 mod dealing;
 mod feeding;
 mod gate;
+mod offered_feeds;
 mod player;
 mod run_name;
 mod streams;
@@ -17,7 +19,8 @@ pub use account::Account;
 pub use dealing::{deal, seated};
 pub use feeding::{Feeding, Offered};
 pub use gate::Gate;
-pub use player::{Played, Player, play_each};
+pub use offered_feeds::OfferedFeeds;
+pub use player::{Played, Player, Stepped, play_each};
 pub use run_name::{Of, RunName};
 pub use streams::Streams;
 pub use strm_shared_ended::{Receipts, holds_all, log_of};

@@ -2,15 +2,18 @@
 ghost use Rattle.std.specs.Prelude.{◌≡◌, ◌<◌, length};
 ghost use Rattle.strm_run_callers.specs.Play.{AreStreams};
 
+use crate::offered_feeds::OfferedFeeds;
 use crate::run_name::{Of, RunName};
 use std::marker::Model;
 use strm_module::ModuleOf;
 use strm_shared::Shared;
 
-/// The streams of a run, in order of their numbers, each shared by all callers.
+/// The streams of a run, in order of their numbers, each shared by all callers, and the feeds that have been
+/// offered to them.
 #[derive(Drop)]
 pub struct Streams<M: ModuleOf, N: RunName<M::Kind>> {
     all: Vec<Shared<M, Of<N>>>,
+    offered: OfferedFeeds,
 }
 
 impl<M: ModuleOf, N: RunName<M::Kind>> Model for Streams<M, N> {
@@ -26,12 +29,17 @@ impl<M: ModuleOf, N: RunName<M::Kind>> Model for Streams<M, N> {
 }
 
 impl<M: ModuleOf, N: RunName<M::Kind>> Streams<M, N> {
-    /// The streams of a run, made in order.
-    pub fn new(all: Vec<Shared<M, Of<N>>>) -> Streams<M, N>
+    /// The streams of a run, made in order, and the feeds that need not be offered to them.
+    pub fn new(all: Vec<Shared<M, Of<N>>>, offered: OfferedFeeds) -> Streams<M, N>
         requires { AreStreams N.run all.items }
         ensures { result ≡ all.items }
     {
-        Streams { all }
+        Streams { all, offered }
+    }
+
+    /// The feeds that have been offered.
+    pub fn offered(&self) -> &OfferedFeeds {
+        &self.offered
     }
 
     /// The stream of this number.
@@ -47,6 +55,8 @@ impl<M: ModuleOf, N: RunName<M::Kind>> Streams<M, N> {
         ensures all { result.items ≡ self }
         ensures streams { AreStreams N.run self }
     {
-        self.all
+        let Streams { all, offered } = self;
+        drop(offered);
+        all
     }
 }

@@ -1,4 +1,3 @@
 pub mod EachLemmas
 pub mod OnceLemmas
-pub mod LoopLemmas
 pub mod BlockLemmas

@@ -1,5 +1,5 @@
 -- Scripts and feeds: the calls and messages that they have for each stream.
-use Rattle.std.specs.Prelude.{ℕ, zero, suc, ◌==◌, List, [], ◌∷◌, ◌++◌, if◌then◌else◌, Vec}
+use Rattle.std.specs.Prelude.{ℕ, zero, suc, ◌==◌, Bool, false, List, [], ◌∷◌, ◌++◌, length, if◌then◌else◌, Vec}
 use Rattle.std.specs.Global.{Global}
 use Rattle.std.specs.List.{flat_map}
 use Rattle.strm_msg.specs.Message.{Msg}
@@ -13,6 +13,11 @@ use Rattle.strm_run_input.specs.declared.script.Feed.{Feed}
 -- the calls of blocks, one block after another, and then others
 abbrev pub in_blocks : {P : Type 0} → List (Vec (ScriptCall P) Global) → List (ScriptCall P) → List (ScriptCall P)
 in_blocks blocks others = flat_map (λ block. block.items) blocks ++ others
+
+-- whether there is a first block, and it has no call
+abbrev pub starts_empty : {P : Type 0} → List (Vec (ScriptCall P) Global) → Bool
+starts_empty [] = false
+starts_empty (block ∷ blocks) = length block.items == 0
 
 -- the calls that a script has for a stream, in order: the end, and the request
 abbrev pub calls_on : {K : Type 0} → ℕ → List (ScriptCall (Shape K)) → List (End × Event (Shape K))

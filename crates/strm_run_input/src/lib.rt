@@ -3,9 +3,11 @@
 #![tactic(auto)]
 
 mod fault;
+mod order;
 mod script;
 mod validation;
 
 pub use fault::RunFault;
-pub use script::{Feed, Script, ScriptCall};
+pub use order::Order;
+pub use script::{Await, Feed, Script, ScriptCall};
 pub use validation::{MOST_WORKERS, are_from_line, can_open_all, is_worker_count, names_resolve};

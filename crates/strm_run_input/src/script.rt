@@ -1,6 +1,6 @@
 //! The scripts that a run plays.
-ghost use Rattle.std.specs.Prelude.{◌≡◌, ◌++◌, ◌∷◌, ◌<◌, ◌^◌, ◌↔◌, [], IsTrue, OnOk, length};
-ghost use Rattle.strm_run_input.specs.Scripts.{in_blocks};
+ghost use Rattle.std.specs.Prelude.{◌≡◌, ◌++◌, ◌∷◌, ◌<◌, ◌^◌, ◌↔◌, [], false, IsTrue, MatchOption, OnOk, length};
+ghost use Rattle.strm_run_input.specs.Scripts.{in_blocks, starts_empty};
 
 use std::alloc::Global;
 use std::marker::Model;
@@ -20,7 +20,17 @@ pub struct ScriptCall<P> {
     pub call: Call<P>,
 }
 
-/// The calls of one caller, in order. A contract sees the list of them.
+/// A feed that a caller awaits: a call is made when all its messages were offered.
+#[derive(Clone, Copy, Debug, PartialEq, Eq, Drop)]
+pub struct Await {
+    /// The number of the call among those of the caller, from 0.
+    pub call: usize,
+    /// The number of the stream that has the feed, from 0.
+    pub stream: u32,
+}
+
+/// The calls of one caller, in order, and the feeds that it awaits before some of them. A contract sees the
+/// list of the calls.
 ///
 /// They are in blocks. So a script that grows is not moved, and calls that were played can be given back
 /// while the rest is played.
@@ -29,6 +39,7 @@ pub struct Script<P> {
     full: Vec<Vec<ScriptCall<P>>>,
     last: Vec<ScriptCall<P>>,
     many: usize,
+    awaits: Vec<Await>,
 }
 
 impl<P> Model for Script<P> {
@@ -59,11 +70,13 @@ impl<P> Script<P> {
             full: Vec::new(alloc),
             many: calls.len(),
             last: calls,
+            awaits: Vec::new(alloc),
         }
     }
 
     /// The calls of blocks, one block after another, and then others: `many` in all. Takes no memory.
     pub fn of_blocks(
+        alloc: Global,
         full: Vec<Vec<ScriptCall<P>>>,
         last: Vec<ScriptCall<P>>,
         many: usize,
@@ -71,7 +84,28 @@ impl<P> Script<P> {
         requires { many ≡ length (in_blocks full.items last.items) }
         ensures { result ≡ in_blocks full.items last.items }
     {
-        Script { full, last, many }
+        Script {
+            full,
+            last,
+            many,
+            awaits: Vec::new(alloc),
+        }
+    }
+
+    /// Has these feeds awaited, in place of those that were. They are in order of their calls. Takes no memory.
+    ///
+    /// Nobody waits for a stream that has no feed, or that is not there.
+    pub fn set_awaits(&mut self, awaits: Vec<Await>)
+        ensures { self.new ≡ self.old }
+    {
+        self.awaits = awaits;
+    }
+
+    /// Gives up the feeds that are awaited, in order of their calls.
+    pub fn take_awaits(&mut self, alloc: Global) -> Vec<Await>
+        ensures { self.new ≡ self.old }
+    {
+        mem::replace(&mut self.awaits, Vec::new(alloc))
     }
 
     /// The number of calls.
@@ -103,9 +137,40 @@ impl<P> Script<P> {
             full,
             last,
             many: _,
+            awaits: _,
         } = self;
         (full, last)
     }
+}
+
+/// Whether there is a first block, and it has no call.
+fn starts_empty<P>(blocks: &[Vec<ScriptCall<P>>]) -> bool
+    ensures { result ≡ starts_empty blocks.now }
+{
+    match blocks {
+        [first, ..] => first.is_empty(),
+        [] => false,
+    }
+}
+
+/// Gives up the blocks in front that have no call.
+fn skip_empty<P: Drop>(blocks: &mut Vec<Vec<ScriptCall<P>>>)
+    ensures same { in_blocks blocks.new.items [] ≡ in_blocks blocks.old.items [] }
+    ensures first { starts_empty blocks.new.items ≡ false }
+{
+    while starts_empty(blocks.as_slice()) {
+        blocks.remove(0);
+    }
+}
+
+/// Gives up the first of these calls, and returns it; `None` if there is none.
+fn pop<P>(calls: &mut Vec<ScriptCall<P>>) -> Option<ScriptCall<P>>
+    ensures { MatchOption result ((calls.old.items ≡ []) × (calls.new.items ≡ [])) (λ first. calls.old.items ≡ first ∷ calls.new.items) }
+{
+    if calls.is_empty() {
+        return None;
+    }
+    Some(calls.remove(0))
 }
 
 impl<P: Drop> Script<P> {
@@ -132,6 +197,20 @@ impl<P: Drop> Script<P> {
         self.last.push(call)?;
         self.many += 1;
         Ok(())
+    }
+
+    /// Gives up the first call, and returns it; `None` if there is none. Takes no memory.
+    pub fn pop_front(&mut self) -> Option<ScriptCall<P>>
+        ensures { MatchOption result ((self.old ≡ []) × (self.new ≡ [])) (λ first. self.old ≡ first ∷ self.new) }
+    {
+        skip_empty(&mut self.full);
+        let first = if self.full.is_empty() {
+            pop(&mut self.last)?
+        } else {
+            pop(&mut self.full[0])?
+        };
+        self.many -= 1;
+        Some(first)
     }
 }
 

@@ -13,7 +13,7 @@ pub use strm_script_parse::{
     PlayFault, PlayModule, ProcessDecl, PushDecl, ReadKind, Replies, RunInput, ScriptFault,
     into_run_input, load, parse, parse_made, parse_parallel, with_modules,
 };
-pub use strm_script_play::{Outcome, play, play_plan};
+pub use strm_script_play::{Outcome, play, play_plan, play_plan_in_order};
 pub use strm_script_print::{
     PrintKind, end_word, print, print_parallel, put_answer, put_end, put_event, put_far_end,
     put_feed, put_heading, put_number, put_part, put_said, put_word,

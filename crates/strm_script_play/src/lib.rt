@@ -4,5 +4,5 @@
 
 mod playing;
 
-pub use playing::{Outcome, play, play_plan};
+pub use playing::{Outcome, play, play_plan, play_plan_in_order};
 pub use strm_script_parse::{PlayFault, PlayModule, RunInput, into_run_input};

@@ -12,7 +12,7 @@ use std::alloc::Global;
 use std::sync::Wait;
 use std::thread::Threads;
 use strm_module::{BoxedModule, Kind, ModuleOf};
-use strm_run::{Gate, RunFault, Transcript, run};
+use strm_run::{Gate, Order, RunFault, Transcript, run, run_in_order};
 use strm_run_input::is_worker_count;
 use strm_script_parse::{
     Names, Plan, PlayFault, PlayModule, ReadKind, Replies, RunInput, into_run_input, parse_parallel,
@@ -65,6 +65,39 @@ where
         expected,
     } = into_run_input(alloc, plan)?;
     let transcript = run(rt, alloc, setups, scripts, feeds, workers, &Open)?;
+    Ok(Outcome {
+        names,
+        transcript,
+        expected,
+    })
+}
+
+/// Plays a plan that was read with `parse` in the calling thread alone, step by step in an order
+/// (`run_in_order`).
+///
+/// Refused as a run is: when memory runs out, with `Unfinished` and with `NoReceipt`; never with `Workers` or
+/// `NoSuch`.
+pub fn play_plan_in_order<M: ModuleOf, R: Threads + Wait + Sync, O: Order>(
+    rt: &R,
+    alloc: Global,
+    plan: Plan<BoxedModule<M>>,
+    order: &mut O,
+) -> Result<Outcome<M::Kind>, RunFault>
+where
+    M::Kind: SameKind + Send + Sync,
+    requires fits { CallsFit M.row M.Kind.row M.Kind.Kinds }
+    requires sound { IsSound (plan_view plan) }
+    ensures played { IfOk result (λ outcome. IsPlayedPlan M.Kind.means plan outcome) }
+    ensures fault { IfErr result (λ fault. may_have 1 fault ≡ true) }
+{
+    let RunInput {
+        names,
+        setups,
+        scripts,
+        feeds,
+        expected,
+    } = into_run_input(alloc, plan)?;
+    let transcript = run_in_order(rt, alloc, setups, scripts, feeds, order, &Open)?;
     Ok(Outcome {
         names,
         transcript,

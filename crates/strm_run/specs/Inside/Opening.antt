@@ -1,17 +1,32 @@
 -- The streams of a run as they are made, with their seats and feeders, and the feed of each line.
-use Rattle.std.specs.Prelude.{◌≡◌, ℕ, ◌<◌, Option, List, filter, get_or, length, slice_get, Vec}
+use Rattle.std.specs.Prelude.{◌≡◌, ℕ, ◌<◌, ◌^◌, true, Option, List, All, filter, get_or, length, map, slice_get, Vec}
 use Rattle.std.specs.Global.{Global}
 use Rattle.strm_msg.specs.Message.{Msg}
+use Rattle.strm_module.specs.declared.shape.Shape.{Shape}
 use Rattle.strm_head_calls.specs.declared.setup.Setup.{Setup}
 use Rattle.strm_shared.specs.Seat.{SeatValue}
-use Rattle.strm_shared_ring.specs.Feed.{fresh_feeder, FeederValue}
+use Rattle.strm_shared_ring.specs.Feed.{fresh_feeder, FeederValue, RingValue}
 use Rattle.strm_shared.specs.Ending.{fresh_seats, SharedValue}
 use Rattle.strm_run_input.specs.declared.script.Feed.{Feed}
+use Rattle.strm_run_input.specs.declared.script.ScriptCall.{ScriptCall}
 use Rattle.strm_run_input.specs.Scripts.{feed_of}
-use Rattle.strm_run_input.specs.Resolve.{line_is_there}
+use Rattle.strm_run_input.specs.Resolve.{is_setup, line_is_there, AreFromLine, NamesResolve}
 use Rattle.strm_run_callers.specs.RunName.{RunValue}
 use Rattle.strm_run_callers.specs.Dealing.{callers_of}
 use Rattle.strm_run_callers.specs.Play.{AreStreams}
+
+-- the input of a run of which all is there, with a ring for each stream
+pub record IsInput {K : Type 0} (run : RunValue K) (named : List RingValue) (setups : List Setup) (scripts : List (List (ScriptCall (Shape K)))) (feeds : List Feed) (rings : List RingValue) : Type 0 where
+  pub setups_are : run.setups ≡ setups
+  pub scripts_are : run.scripts ≡ scripts
+  pub feeds_are : run.feeds ≡ feeds
+  pub rings_are : named ≡ rings
+  pub made : map (λ ring. ring.setup) rings ≡ setups
+  pub few_setups : length setups < 2 ^ 32
+  pub few_scripts : length scripts < 2 ^ 32
+  pub fit : All (λ setup. is_setup setup ≡ true) setups
+  pub kinds : AreFromLine feeds
+  pub there : NamesResolve setups scripts feeds
 
 -- the seats on each stream, in order of the streams: one for each caller, that has made no call
 pub record AreSeatsOn {K : Type 0} (run : RunValue K) (seats : List (Vec SeatValue Global)) : Type 0 where

@@ -26,6 +26,7 @@ mod feeds;
 mod gates;
 mod long;
 mod order;
+mod steps;
 mod streams;
 mod together;
 mod want;

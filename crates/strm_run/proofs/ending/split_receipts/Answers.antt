@@ -1,8 +1,8 @@
-use Rattle.std.proofs.Common.{◌≡◌, append_assoc, append-nil, ◌++◌, ◌∷◌, [], ap, subst, sym, ◌∙◌}
+use Rattle.std.proofs.Common.{◌≡◌, append_assoc, append-nil, ◌++◌, ap, subst, sym, ◌∙◌}
 use Rattle.std.proofs.lemmas.List.{nil_from_length}
 use Rattle.std.specs.Vec.Iter.{into_iter_items}
 use Rattle.strm_run.specs.Inside.Ending.{seats_of, AreOf, AreParted}
-use Rattle.strm_run_input.proofs.LoopLemmas.{rest_shorter}
+use Rattle.strm_msg.proofs.LoopLemmas.{rest_shorter}
 use Rattle.strm_run.proofs.EndingLemmas.{parted_more, seats_more}
 use Rattle.strm_run.proofs.ending.split_receipts.Goals as goal
 

@@ -2,7 +2,7 @@ use Rattle.std.proofs.Common.{◌≡◌, ◌<◌, ◌∷◌, ◌++◌, append_as
 use Rattle.std.specs.Vec.Iter.{into_iter_items}
 use Rattle.strm_run_input.specs.declared.script.Feed.{Feed}
 use Rattle.strm_run_input.proofs.EachLemmas.{of_first, of_others}
-use Rattle.strm_run_input.proofs.LoopLemmas.{rest_shorter}
+use Rattle.strm_msg.proofs.LoopLemmas.{rest_shorter}
 use Rattle.strm_run.proofs.FeedsLemmas.{fed_more, none_before}
 use Rattle.strm_run.proofs.feeds.feeds_of.Goals as goal
 

@@ -4,7 +4,7 @@ use Rattle.std.specs.Vec.Iter.{into_iter_items}
 use Rattle.strm_head_calls.specs.Setup.{is_fit}
 use Rattle.strm_shared_ring.specs.Feed.{RingValue}
 use Rattle.strm_run_callers.specs.RunName.{ring_of}
-use Rattle.strm_run_input.proofs.LoopLemmas.{rest_shorter}
+use Rattle.strm_msg.proofs.LoopLemmas.{rest_shorter}
 use Rattle.strm_run.proofs.OpeningLemmas.{kept_more, opened_all, ring_there, ring_setup, ring_named}
 use Rattle.strm_run.proofs.opening.open.Goals as goal
 

@@ -1,4 +1,4 @@
-use Rattle.std.proofs.Common.{◌∙◌, refl, sym}
+use Rattle.std.proofs.Common.{◌∙◌, refl, rules, sym}
 use Rattle.strm_run_callers.specs.Play.{Fits}
 use Rattle.strm_run.proofs.RunLemmas.{any_setup, if_ok, none_such}
 use Rattle.strm_run.proofs.running.run.Goals as goal
@@ -12,10 +12,11 @@ pub run_named-requires-clause-fits : goal.run_named-requires-clause-fits
 unfolding Fits
 run_named-requires-clause-fits g c κs within = c.requires.fits
 
-pub run_named-requires-clause-there : goal.run_named-requires-clause-there
-run_named-requires-clause-there g c κs within =
+pub run_named-requires-clause-input : goal.run_named-requires-clause-input
+run_named-requires-clause-input g c κs within =
     let are = rw (c.as_slice.ensures.value, c.as_slice-2.ensures.value, c.as_slice-3.ensures.value) at c.names_resolve.ensures in
-    are.0 c.if-not-names_resolve.false
+    let there = are.0 c.if-not-names_resolve.false in
+    search rules
 
 pub returns-clause-no_such : goal.returns-clause-no_such
 returns-clause-no_such g c =

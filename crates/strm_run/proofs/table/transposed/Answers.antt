@@ -1,6 +1,6 @@
 use Rattle.std.proofs.Common.{◌≡◌, append_assoc, length, Vec, Global}
 use Rattle.strm_run_input.proofs.EachLemmas.{of_first, of_others}
-use Rattle.strm_run_input.proofs.LoopLemmas.{rest_shorter}
+use Rattle.strm_msg.proofs.LoopLemmas.{rest_shorter}
 use Rattle.strm_run.proofs.TableLemmas.{transposed_more}
 use Rattle.strm_run.proofs.table.transposed.Goals as goal
 

@@ -1,5 +1,5 @@
 use Rattle.std.proofs.Common.{ℕ, append_assoc}
-use Rattle.strm_run_input.proofs.LoopLemmas.{rest_shorter}
+use Rattle.strm_msg.proofs.LoopLemmas.{rest_shorter}
 use Rattle.strm_run_callers.proofs.DealLemmas.{dealt_more}
 use Rattle.strm_run_callers.proofs.dealing.deal.Goals as goal
 

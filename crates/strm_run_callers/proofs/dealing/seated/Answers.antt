@@ -2,7 +2,7 @@ use Rattle.std.proofs.Common.{◌≡◌, List, ◌+◌, ◌<◌, ◌∷◌, ◌+
 use Rattle.std.proofs.lemmas.List.{length-set, length_push}
 use Rattle.std.specs.Vec.Iter.{into_iter_items}
 use Rattle.strm_run_input.specs.declared.script.ScriptCall.{ScriptCall}
-use Rattle.strm_run_input.proofs.LoopLemmas.{rest_shorter}
+use Rattle.strm_msg.proofs.LoopLemmas.{rest_shorter}
 use Rattle.strm_run_callers.proofs.ReachedLemmas.{behind_more, reached_is, reached_there}
 use Rattle.strm_run_callers.proofs.DealLemmas.{caller_more, none_called, player_before, script_reached}
 use Rattle.strm_run_callers.proofs.dealing.seated.Goals as goal

@@ -8,6 +8,7 @@ use Rattle.strm_run_callers.proofs.player.play_block.Given as goal
 abbrev pub invariant-loop-one : goal.invariant-loop-one
 invariant-loop-one g l = record {
   left : into_iter_len l.one-iterator ≡ length (into_iter_items l.one-iterator);
-  next : HasPrefixCalls g.N.RunName.run l.caller (into_iter_items l.one-iterator) l.accounts.items;
-  others : KeepsLaterCalls g.N.RunName.run l.caller l.fn.block.items l.fn.accounts.items (into_iter_items l.one-iterator) l.accounts.items;
+  number : l.caller.number ≡ l.fn.caller.number;
+  next : HasPrefixCalls g.N.RunName.run l.caller.number (into_iter_items l.one-iterator) l.caller.accounts.items;
+  others : KeepsLaterCalls g.N.RunName.run l.fn.caller.number l.fn.block.items l.fn.caller.accounts.items (into_iter_items l.one-iterator) l.caller.accounts.items;
 }

@@ -8,5 +8,6 @@ use Rattle.strm_run_callers.proofs.player.Player.play.Given as goal
 abbrev pub invariant-loop-block : goal.invariant-loop-block
 invariant-loop-block g l = record {
   left : into_iter_len l.block-iterator ≡ length (into_iter_items l.block-iterator);
-  player : IsPlayer g.N.RunName.run l.caller (in_blocks (into_iter_items l.block-iterator) l.last.items) l.accounts.items;
+  number : l.caller.number ≡ l.fn.self;
+  player : IsPlayer g.N.RunName.run l.caller.number (in_blocks (into_iter_items l.block-iterator) l.last.items) l.caller.accounts.items;
 }

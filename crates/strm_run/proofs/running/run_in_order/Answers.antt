@@ -1,0 +1,39 @@
+use Rattle.std.proofs.Common.{refl, rules}
+use Rattle.strm_run_callers.specs.Play.{Fits}
+use Rattle.strm_run.proofs.RunLemmas.{any_setup, if_ok, none_such, not_workers}
+use Rattle.strm_run.proofs.running.run_in_order.Goals as goal
+
+pub returns-then-not-names_resolve-clause-no_such : goal.returns-then-not-names_resolve-clause-no_such
+returns-then-not-names_resolve-clause-no_such g c =
+    let are = rw (c.as_slice.ensures.value, c.as_slice-2.ensures.value, c.as_slice-3.ensures.value) at c.names_resolve.ensures in
+    ((λ is there. absurd (cc (are.1 there, c.if-not-names_resolve.true))), (λ all. refl))
+
+pub run_named_in_order-requires-clause-fits : goal.run_named_in_order-requires-clause-fits
+unfolding Fits
+run_named_in_order-requires-clause-fits g c κs within = c.requires.fits
+
+pub run_named_in_order-requires-clause-input : goal.run_named_in_order-requires-clause-input
+run_named_in_order-requires-clause-input g c κs within =
+    let are = rw (c.as_slice.ensures.value, c.as_slice-2.ensures.value, c.as_slice-3.ensures.value) at c.names_resolve.ensures in
+    let there = are.0 c.if-not-names_resolve.false in
+    search rules
+
+pub returns-clause-no_such : goal.returns-clause-no_such
+returns-clause-no_such g c =
+    let are = rw (c.as_slice.ensures.value, c.as_slice-2.ensures.value, c.as_slice-3.ensures.value) at c.names_resolve.ensures in
+    ((λ is. none_such c.run_named_in_order.result c.run_named_in_order.ensures.late is), (λ all. absurd (all (are.0 c.if-not-names_resolve.false))))
+
+pub returns-clause-many : goal.returns-clause-many
+returns-clause-many g c = if_ok _ _ c.run_named_in_order.result (λ t logs. logs.many) c.run_named_in_order.ensures.logs
+
+pub returns-clause-legal : goal.returns-clause-legal
+returns-clause-legal g c = if_ok _ _ c.run_named_in_order.result (λ t logs k s d below. (logs.each k s d below).legal) c.run_named_in_order.ensures.logs
+
+pub returns-clause-calls : goal.returns-clause-calls
+returns-clause-calls g c = if_ok _ _ c.run_named_in_order.result (λ t logs k caller d below. (logs.each k any_setup d below).calls caller) c.run_named_in_order.ensures.logs
+
+pub returns-clause-arrivals : goal.returns-clause-arrivals
+returns-clause-arrivals g c = if_ok _ _ c.run_named_in_order.result (λ t logs k d below. (logs.each k any_setup d below).fed) c.run_named_in_order.ensures.logs
+
+pub returns-clause-workers : goal.returns-clause-workers
+returns-clause-workers g c is = not_workers c.run_named_in_order.result c.run_named_in_order.ensures.late is

@@ -1,0 +1,44 @@
+use Rattle.std.proofs.Common.{◌≡◌, true, [], length, get_or, rules, arith, refl, ap, ◌∙◌}
+use Rattle.strm_run_input.specs.Scripts.{calls_on}
+use Rattle.strm_script_play.specs.Played.{may_have}
+use Rattle.strm_script_play.proofs.FaultLemmas.{may_be}
+use Rattle.strm_script_parse.proofs.HandingLemmas.{all_there, setups_meet, feeds_meet, few_setups, few_scripts, script_calls}
+use Rattle.strm_script_play.proofs.playing.play_plan_in_order.Goals as goal
+
+pub run_in_order-requires-clause-few : goal.run_in_order-requires-clause-few
+run_in_order-requires-clause-few g c κs within = (
+  few_setups _ _ c.args.plan.streams.entries c.in_ok-names.ensures.setups c.requires.sound.few_streams (omega arith),
+  few_scripts _ _ c.args.plan.processes.items c.in_ok-names.ensures.scripts c.requires.sound.few_processes (omega arith),
+)
+
+pub run_in_order-requires-clause-setups : goal.run_in_order-requires-clause-setups
+run_in_order-requires-clause-setups g c κs within =
+    rw c.in_ok-names.ensures.setups (setups_meet c.args.plan.streams.entries c.requires.sound.setups)
+
+pub run_in_order-requires-clause-feeds : goal.run_in_order-requires-clause-feeds
+run_in_order-requires-clause-feeds g c κs within =
+    rw c.in_ok-names.ensures.feeds (feeds_meet c.args.plan.feeds.items c.requires.sound.messages)
+
+pub returns-in_err-transcript-clause-fault : goal.returns-in_err-transcript-clause-fault
+returns-in_err-transcript-clause-fault g c =
+    let handed = c.in_ok-names.ensures in
+    let sound = c.requires.sound in
+    let there = all_there c.args.plan.streams.entries _ c.args.plan.processes.items c.args.plan.feeds.items handed.scripts sound.calls sound.lines sound.once in
+    let ran = c.in_err-transcript.ensures in
+    let told : may_have 1 c.in_err-transcript.field-0.0 ≡ true = may_be 1 c.in_err-transcript.field-0.0 _ refl ((λ is. absurd (ran.workers is)), (λ out. absurd cc)) ((λ is. (refl, ran.no_such.0 is)), (λ none. ran.no_such.1 none.1)) (rw (handed.setups, handed.feeds) there) in
+    search rules
+
+pub returns-clause-played : goal.returns-clause-played
+returns-clause-played g c =
+    let handed = c.in_ok-names.ensures in
+    let ran = c.in_ok-transcript.ensures in
+    let as_many = ap (λ l. length l) handed.setups in
+    record {
+      streams = handed.streams;
+      names = handed.names;
+      expected = handed.expected;
+      many = ran.many ∙ as_many;
+      legal = λ k setup log under. rw (← handed.setups) (ran.legal k setup log (rw as_many under));
+      calls = λ k caller log under. ran.calls k caller log (rw as_many under) ∙ ap (λ calls. calls_on k calls) (script_calls _ caller ∙ ap (λ all. get_or all caller []) handed.scripts);
+      arrivals = λ k log under. rw (← handed.feeds) (ran.arrivals k log (rw as_many under));
+    }

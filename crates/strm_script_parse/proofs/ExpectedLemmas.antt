@@ -1,4 +1,5 @@
--- The fields of a call and those of its expected replies, cut at the first `:`; and the choices, field by field.
+-- The fields of a call and those of its expected replies, cut at the first `:`; and the choices, field by
+-- field.
 use denote.Ref.{Bor}
 use Rattle.std.proofs.Common.{◌≡◌, ℕ, suc, ◌+◌, ◌-◌, ◌<◌, ◌≤◌, nat_lt, not, ◌&&◌, Bool, true, false, cond, Option, Some, None, List, [], ◌∷◌, ◌++◌, length, map, position, take, drop, length-drop, refl, sym, ap, ◌∙◌, arith}
 use Rattle.std.specs.List.{position_or_len}

@@ -23,6 +23,7 @@ use Rattle.strm_script_parse.specs.declared.section.Section.{Section}
 use Rattle.strm_script_parse.specs.declared.fault.ScriptFault.{ScriptFault}
 use Rattle.strm_script_parse.proofs.LineLemmas.{one_more, one_fault}
 use Rattle.strm_script_parse.proofs.SoundLemmas.{line_keeps, lines_sound, nothing_kept}
+use Rattle.strm_script_parse.proofs.ThereLemmas.{awaits_stay}
 
 -- ---- streams that are declared one after another
 
@@ -64,7 +65,8 @@ are_going (In_feed feed) calls are = are
 
 place_there : {K : Type 0} (streams : Streams) (d : Partial K) (place : Place K) (calls : List (Call K)) → IsPlaceThere streams d.feeds place → AreCallsThere streams calls → IsPlaceThere streams d.feeds (called place calls)
 place_there streams d Nowhere calls there are = there
-place_there {K} streams d (In_process process) calls there are = All-append (λ (call : Call K). end_is_there (slice_get streams call.stream) call.end ≡ true) process.calls calls there are
+place_there {K} streams d (In_process process) calls there are =
+    (All-append (λ (call : Call K). end_is_there (slice_get streams call.stream) call.end ≡ true) process.calls calls there.0 are, awaits_stay streams process calls process.expected there.1)
 place_there streams d (In_feed feed) calls there are = there
 
 calls_kept : {K : Type 0} (d : Partial K) (calls : List (Call K)) → IsDraft d → AreCallsThere d.streams calls → IsDraft (with_calls d calls)
@@ -74,7 +76,7 @@ calls_kept d calls k are = record {
   few_processes = omega (arith, k.few_processes, going_on d.place calls);
   messages = k.messages;
   going_on = are_going d.place calls k.going_on;
-  there = record { calls = k.there.calls; lines = k.there.lines; once = k.there.once; going_on = place_there d.streams d d.place calls k.there.going_on are };
+  there = record { calls = k.there.calls; awaits = k.there.awaits; lines = k.there.lines; once = k.there.once; going_on = place_there d.streams d d.place calls k.there.going_on are };
 }
 
 -- ---- a line, and those behind it

@@ -21,9 +21,9 @@ use Rattle.strm_script_words.specs.declared.verb.Verb.{Verb}
 use Rattle.strm_script_words.specs.declared.verb.Verb.TheVariants as Verb
 use Rattle.strm_msg.specs.declared.memory.NoMem.{NoMem}
 use Rattle.strm_module.specs.declared.shape.Shape.{Shape}
-use Rattle.strm_script_parse.specs.Plan.{Call, Expect, Streams, Partial, Place, Nowhere, In_process, In_feed, call_view}
+use Rattle.strm_script_parse.specs.Plan.{Call, Expect, Process, Streams, Partial, Place, Nowhere, In_process, In_feed, call_view}
 use Rattle.strm_script_parse.specs.Expected.{call_fields, reply_fields, expected_of}
-use Rattle.strm_script_parse.specs.Reading.{ended, stream_onto, process_onto, feed_onto, call_at, call_onto, with_call, fields_in, fields_onto, word_onto, inner_onto, outside, line_onto, lines_onto, modules_after}
+use Rattle.strm_script_parse.specs.Reading.{ended, stream_onto, process_onto, feed_onto, await_onto, is_await, process_line_onto, call_at, call_onto, with_call, fields_in, fields_onto, word_onto, inner_onto, outside, line_onto, lines_onto, modules_after}
 use Rattle.strm_script_parse.specs.Sound.{end_is_there, AreCallsThere}
 use Rattle.strm_script_parse.specs.Section.{HasRoom, called, with_calls, AddsCalls, Says}
 use Rattle.strm_script_parse.specs.declared.section.Said.{Said}
@@ -86,12 +86,12 @@ lines_cut text k n next there ends =
 
 called_nothing : {K : Type 0} (place : Place K) → called place [] ≡ place
 called_nothing Nowhere = refl
-called_nothing {K} (In_process process) = ap (λ (calls : List (Call K)). In_process (record { name = process.name; calls = calls; expected = process.expected })) (append-nil process.calls)
+called_nothing {K} (In_process process) = ap (λ (calls : List (Call K)). In_process (record process { calls = calls })) (append-nil process.calls)
 called_nothing (In_feed feed) = refl
 
 called_twice : {K : Type 0} (place : Place K) (some more : List (Call K)) → called (called place some) more ≡ called place (some ++ more)
 called_twice Nowhere some more = refl
-called_twice {K} (In_process process) some more = ap (λ (calls : List (Call K)). In_process (record { name = process.name; calls = calls; expected = process.expected })) (append_assoc process.calls some more)
+called_twice {K} (In_process process) some more = ap (λ (calls : List (Call K)). In_process (record process { calls = calls })) (append_assoc process.calls some more)
 called_twice (In_feed feed) some more = refl
 
 room_for_both : {K : Type 0} (place : Place K) (some more : List (Call K)) → HasRoom place (length (some ++ more)) → HasRoom place (length some) × HasRoom (called place some) (length more)
@@ -109,47 +109,54 @@ found_passes : {A : Type 0} (p : A → Bool) (all : List A) (y : A) → find p a
 found_passes p [] y is = absurd cc
 found_passes p (x ∷ all) y is = found_by p x y (p x) (find p all) refl is (λ is. found_passes p all y is)
 
--- no verb is the word of a declaration
+-- no verb is the word of a declaration, or of an await
 abbrev IsNoDeclaration : List ℕ → Type 0
-IsNoDeclaration word = (bytes_eq word (codes "stream") ≡ false) × (bytes_eq word (codes "process") ≡ false) × (bytes_eq word (codes "feed") ≡ false)
+IsNoDeclaration word = (bytes_eq word (codes "stream") ≡ false) × (bytes_eq word (codes "process") ≡ false) × (bytes_eq word (codes "feed") ≡ false) × (is_await word ≡ false)
 
 no_declaration : (verb : Verb) → IsNoDeclaration (word_of verb)
-no_declaration Verb.Putmsg = (refl, refl, refl)
-no_declaration Verb.Putpmsg = (refl, refl, refl)
-no_declaration Verb.Getmsg = (refl, refl, refl)
-no_declaration Verb.Getpmsg = (refl, refl, refl)
-no_declaration Verb.Read = (refl, refl, refl)
-no_declaration Verb.Write = (refl, refl, refl)
-no_declaration Verb.Push = (refl, refl, refl)
-no_declaration Verb.Pop = (refl, refl, refl)
-no_declaration Verb.Look = (refl, refl, refl)
-no_declaration Verb.List = (refl, refl, refl)
-no_declaration Verb.Find = (refl, refl, refl)
-no_declaration Verb.Str = (refl, refl, refl)
-no_declaration Verb.Strput = (refl, refl, refl)
-no_declaration Verb.Strget = (refl, refl, refl)
-no_declaration Verb.Flush = (refl, refl, refl)
-no_declaration Verb.FlushBand = (refl, refl, refl)
-no_declaration Verb.Nread = (refl, refl, refl)
-no_declaration Verb.Peek = (refl, refl, refl)
-no_declaration Verb.SetRead = (refl, refl, refl)
-no_declaration Verb.GetRead = (refl, refl, refl)
-no_declaration Verb.Canput = (refl, refl, refl)
-no_declaration Verb.Ckband = (refl, refl, refl)
-no_declaration Verb.Getband = (refl, refl, refl)
-no_declaration Verb.Close = (refl, refl, refl)
-no_declaration Verb.Take = (refl, refl, refl)
-no_declaration Verb.Getq = (refl, refl, refl)
-no_declaration Verb.Putbq = (refl, refl, refl)
-no_declaration Verb.Putnext = (refl, refl, refl)
-no_declaration Verb.Bcanputnext = (refl, refl, refl)
-no_declaration Verb.Qsize = (refl, refl, refl)
-no_declaration Verb.Poll = (refl, refl, refl)
+no_declaration Verb.Putmsg = (refl, refl, refl, refl)
+no_declaration Verb.Putpmsg = (refl, refl, refl, refl)
+no_declaration Verb.Getmsg = (refl, refl, refl, refl)
+no_declaration Verb.Getpmsg = (refl, refl, refl, refl)
+no_declaration Verb.Read = (refl, refl, refl, refl)
+no_declaration Verb.Write = (refl, refl, refl, refl)
+no_declaration Verb.Push = (refl, refl, refl, refl)
+no_declaration Verb.Pop = (refl, refl, refl, refl)
+no_declaration Verb.Look = (refl, refl, refl, refl)
+no_declaration Verb.List = (refl, refl, refl, refl)
+no_declaration Verb.Find = (refl, refl, refl, refl)
+no_declaration Verb.Str = (refl, refl, refl, refl)
+no_declaration Verb.Strput = (refl, refl, refl, refl)
+no_declaration Verb.Strget = (refl, refl, refl, refl)
+no_declaration Verb.Flush = (refl, refl, refl, refl)
+no_declaration Verb.FlushBand = (refl, refl, refl, refl)
+no_declaration Verb.Nread = (refl, refl, refl, refl)
+no_declaration Verb.Peek = (refl, refl, refl, refl)
+no_declaration Verb.SetRead = (refl, refl, refl, refl)
+no_declaration Verb.GetRead = (refl, refl, refl, refl)
+no_declaration Verb.Canput = (refl, refl, refl, refl)
+no_declaration Verb.Ckband = (refl, refl, refl, refl)
+no_declaration Verb.Getband = (refl, refl, refl, refl)
+no_declaration Verb.Close = (refl, refl, refl, refl)
+no_declaration Verb.Take = (refl, refl, refl, refl)
+no_declaration Verb.Getq = (refl, refl, refl, refl)
+no_declaration Verb.Putbq = (refl, refl, refl, refl)
+no_declaration Verb.Putnext = (refl, refl, refl, refl)
+no_declaration Verb.Bcanputnext = (refl, refl, refl, refl)
+no_declaration Verb.Qsize = (refl, refl, refl, refl)
+no_declaration Verb.Poll = (refl, refl, refl, refl)
 
 verb_declares_nothing : (word : List ℕ) (verb : Verb) → verb_named word ≡ Some verb → IsNoDeclaration word
 verb_declares_nothing word verb is =
     let same : word_of verb ≡ word = (bytes_eq-Decides (word_of verb) word).0 (found_passes (λ one. bytes_eq (word_of one) word) all_verbs verb is) in
     subst (λ (w : List ℕ). IsNoDeclaration w) same (no_declaration verb)
+
+-- so a line of a process that begins with a verb is a call
+pub verb_line : {K : Type 0} (words : KindWords K) (n : ℕ) (d : Partial K) (process : Process K) (word : List ℕ) (texts : List (List ℕ)) (verb : Verb) → verb_named word ≡ Some verb → process_line_onto words n d process word texts ≡ call_onto words n d process verb texts
+verb_line {K} words n d process word texts verb named =
+    let call : Result Verb Cause → Result (Partial K) Cause = λ r. r >>= λ verb. call_onto words n d process verb texts in
+    ap (λ (b : Bool). cond b (await_onto d process texts) (call (or_fault (outside word) (verb_named word)))) (verb_declares_nothing word verb named).3
+    ∙ ap (λ (found : Option Verb). call (or_fault (outside word) found)) named
 
 module _ {K : Type 0} (words : KindWords K) (streams : Streams) where
   -- what is no push is read by itself as it is anywhere
@@ -178,14 +185,13 @@ module _ {K : Type 0} (words : KindWords K) (streams : Streams) where
   unfolding call_onto
   inner_call n d Nowhere word texts verb call named none bare read same room = absurd room
   inner_call n d (In_process process) word texts verb call named none bare read same room =
-      let found : or_fault (outside word) (verb_named word) ≡ Ok verb = ap (or_fault (outside word)) named in
-      let begun : inner_onto words n d (In_process process) word texts ≡ call_onto words n d process verb texts = ap (λ (r : Result Verb Cause). r >>= λ verb. call_onto words n d process verb texts) found in
+      let begun = verb_line words n d process word texts verb named in
       let is_room : nat_lt (length process.calls) MOST_CALLS ≡ true = lt-ltb (length process.calls) MOST_CALLS (omega (arith, room)) in
       let fields = call_fields texts in
       let its : call_at words d.streams (d.modules + 1) verb fields None ≡ Ok call = ap (λ (s : Streams). call_at words s (d.modules + 1) verb fields None) same ∙ call_same (d.modules + 1) 0 verb fields none ∙ read in
       let uncut = ap (λ (replies : Option (List (List ℕ))). call_at words d.streams (d.modules + 1) verb fields replies >>= λ call. with_call d process verb call (expected_of n (length process.calls) replies)) bare in
       let going = ap (λ (r : Result (Call K) Cause). r >>= λ call. with_call d process verb call []) its in
-      let whole = ap (λ (expected : List Expect). Ok (record d { modules = modules_after verb d.modules; place = In_process (record { name = process.name; calls = process.calls ++ call ∷ []; expected = expected }) })) (append-nil process.expected) in
+      let whole = ap (λ (expected : List Expect). Ok (record d { modules = modules_after verb d.modules; place = In_process (record process { calls = process.calls ++ call ∷ []; expected = expected }) })) (append-nil process.expected) in
       let put = ap (λ (b : Bool). cond b (Ok (record d { modules = modules_after verb d.modules; place = called (In_process process) (call ∷ []) })) (Err causes.TooMany)) is_room in
       let modules = ap (λ (b : Bool). Ok (record d { modules = cond b (d.modules + 1) d.modules; place = called (In_process process) (call ∷ []) })) none in
       begun ∙ uncut ∙ going ∙ ap (λ (r : Result (Partial K) Cause). cond (nat_lt (length process.calls) MOST_CALLS) r (Err causes.TooMany)) whole ∙ put ∙ modules

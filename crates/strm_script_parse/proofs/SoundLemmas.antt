@@ -1,5 +1,5 @@
 -- Each line keeps what a run asks of a plan.
-use Rattle.std.proofs.Common.{◌≡◌, ◌≤◌, ℕ, ◌+◌, ◌==◌, nat_lt, ◌&&◌, not, Bool, true, false, cond, List, [], ◌∷◌, ◌++◌, length, slice_get, codes, Some, Result, Ok, Err, refl, sym, ap, subst, ◌∙◌, arith}
+use Rattle.std.proofs.Common.{◌≡◌, ◌≤◌, ℕ, ◌+◌, ◌==◌, nat_lt, ◌&&◌, not, Bool, true, false, cond, List, [], ◌∷◌, ◌++◌, length, get_or, slice_get, codes, Some, Result, Ok, Err, refl, sym, ap, subst, ◌∙◌, arith}
 use Rattle.std.specs.List.{All}
 use Rattle.std.specs.Str.{bytes_eq}
 use Rattle.std.proofs.lemmas.Bool.{ltb-true}
@@ -20,16 +20,16 @@ use Rattle.strm_script_words.specs.declared.fault.Cause.{Cause}
 use Rattle.strm_script_words.specs.declared.fault.Cause.TheVariants as causes
 use Rattle.strm_script_words.specs.declared.verb.Verb.{Verb}
 use Rattle.strm_script_parse.specs.Plan.{Call, Expect, Process, Fed, Streams, Partial, Whole, Place, Nowhere, In_process, In_feed}
-use Rattle.strm_script_parse.specs.Reading.{ended, ended_at, plan_of, fresh_name, driver_at, setup_arity, setup_at, setup_onto, declared_at, has_room, with_stream, stream_onto, process_name, with_process, process_onto, has_feed, with_feed, feed_onto, call_at, with_call, call_onto, with_message, message_onto, inner_onto, outside, word_onto, fields_in, fields_onto, line_onto, modules_after, nothing_yet, FaultAt, lines_onto, then_lines}
+use Rattle.strm_script_parse.specs.Reading.{ended, ended_at, plan_of, fresh_name, driver_at, setup_arity, setup_at, setup_onto, declared_at, has_room, with_stream, stream_onto, process_name, with_process, process_onto, has_feed, with_feed, feed_onto, call_at, with_call, call_onto, await_of, with_await, only_field, await_onto, is_await, process_line_onto, with_message, message_onto, inner_onto, outside, word_onto, fields_in, fields_onto, line_onto, modules_after, nothing_yet, FaultAt, lines_onto, then_lines}
 use Rattle.strm_script_parse.specs.Targets.{stream_names, stream_at}
 use Rattle.strm_script_parse.specs.Expected.{call_fields, reply_fields, expected_of}
-use Rattle.strm_script_parse.specs.Sound.{end_is_there, line_is_there, AreCallsThere, IsSound}
-use Rattle.strm_script_parse.specs.declared.draft.TheConstants.{MOST_STREAMS, MOST_PROCESSES, MOST_CALLS, MOST_MESSAGES}
+use Rattle.strm_script_parse.specs.Sound.{end_is_there, line_is_there, AreCallsThere, AreAwaits, IsSound}
+use Rattle.strm_script_parse.specs.declared.draft.TheConstants.{MOST_STREAMS, MOST_PROCESSES, MOST_CALLS, MOST_AWAITS, MOST_MESSAGES}
 use Rattle.strm_script_parse.specs.Section.{IsMore}
 use Rattle.strm_script_parse.specs.Draft.{IsDraft}
 use Rattle.strm_script_parse.proofs.StepLemmas.{through, passed, either, same, found_in}
 use Rattle.strm_script_parse.proofs.FieldLemmas.{setup_fits, message_from_line}
-use Rattle.strm_script_parse.proofs.ThereLemmas.{call_there, stream_found, line_there, processes_more, lines_more, place_more, unfed, both_of, once_more}
+use Rattle.strm_script_parse.proofs.ThereLemmas.{call_there, stream_found, line_there, processes_more, awaits_more, lines_more, place_more, no_awaits, awaits_stay, await_more, unfed, both_of, once_more}
 
 -- what a line keeps, which declares one module at most
 pub record Keeps {K : Type 0} (d e : Partial K) : Type 0 where
@@ -52,7 +52,8 @@ ended_at_kept {K} d (In_process process) k = record {
   messages = k.messages;
   going_on = tt;
   there = record {
-    calls = All-push (λ (p : Process K). AreCallsThere d.streams p.calls) d.processes process k.there.calls k.there.going_on;
+    calls = All-push (λ (p : Process K). AreCallsThere d.streams p.calls) d.processes process k.there.calls k.there.going_on.0;
+    awaits = All-push (λ (p : Process K). AreAwaits d.streams p) d.processes process k.there.awaits k.there.going_on.1;
     lines = k.there.lines;
     once = k.there.once;
     going_on = tt;
@@ -66,6 +67,7 @@ ended_at_kept {K} d (In_feed feed) k = record {
   going_on = tt;
   there = record {
     calls = k.there.calls;
+    awaits = k.there.awaits;
     lines = All-push (λ (f : Fed). line_is_there (slice_get d.streams f.stream) ≡ true) d.feeds feed k.there.lines k.there.going_on.0;
     once = once_more d.feeds feed k.there.once k.there.going_on.1;
     going_on = tt;
@@ -101,6 +103,7 @@ kept_sound d k =
       few_processes = omega (arith, e.few_processes);
       messages = e.messages;
       calls = e.there.calls;
+      awaits = e.there.awaits;
       lines = e.there.lines;
       once = e.there.once;
     }
@@ -114,6 +117,7 @@ nothing_kept {K} = record {
   going_on = tt;
   there = record {
     calls = All-nil (λ (p : Process K). AreCallsThere [] p.calls);
+    awaits = All-nil (λ (p : Process K). AreAwaits [] p);
     lines = All-nil (λ (f : Fed). line_is_there (slice_get [] f.stream) ≡ true);
     once = λ i j d before within. absurd (omega (arith, within));
     going_on = tt;
@@ -137,6 +141,7 @@ with_stream_keeps d e name setup fits is k =
         going_on = k.going_on;
         there = record {
           calls = processes_more d.streams (named name setup) d.processes k.there.calls;
+          awaits = λ i p within. awaits_more d.streams (named name setup) (get_or d.processes i p) (k.there.awaits i p within);
           lines = lines_more d.streams (named name setup) d.feeds k.there.lines;
           once = k.there.once;
           going_on = place_more d.streams (named name setup) d.feeds d.place k.there.going_on;
@@ -164,7 +169,7 @@ stream_keeps d e (name ∷ driver ∷ texts) is k =
 -- ---- a process
 
 abbrev new_process : {K : Type 0} → List ℕ → Process K
-new_process name = record { name = name; calls = []; expected = [] }
+new_process name = record { name = name; calls = []; expected = []; awaits = [] }
 
 with_process_keeps : {K : Type 0} (d e : Partial K) (name : List ℕ) → with_process d name ≡ Ok e → IsDraft d → Keeps d e
 with_process_keeps {K} d e name is k =
@@ -178,9 +183,10 @@ with_process_keeps {K} d e name is k =
         going_on = tt;
         there = record {
           calls = k.there.calls;
+          awaits = k.there.awaits;
           lines = k.there.lines;
           once = k.there.once;
-          going_on = All-nil (λ (call : Call K). end_is_there (slice_get d.streams call.stream) call.end ≡ true);
+          going_on = (All-nil (λ (call : Call K). end_is_there (slice_get d.streams call.stream) call.end ≡ true), no_awaits d.streams (new_process name) refl);
         };
       };
       modules = omega arith;
@@ -214,6 +220,7 @@ with_feed_keeps d e text found named is k =
         going_on = All-nil (λ (m : Msg). is_from_line m.kind ≡ true);
         there = record {
           calls = k.there.calls;
+          awaits = k.there.awaits;
           lines = k.there.lines;
           once = k.there.once;
           going_on = (line_there d.streams found (stream_found d.streams text found named) line.0, unfed d.feeds found.0 line.1);
@@ -236,7 +243,7 @@ one_module verb modules true = omega arith
 one_module verb modules false = omega arith
 
 abbrev called : {K : Type 0} → Process K → Call K → List Expect → Process K
-called process call expected = record { name = process.name; calls = process.calls ++ call ∷ []; expected = process.expected ++ expected }
+called process call expected = record process { calls = process.calls ++ call ∷ []; expected = process.expected ++ expected }
 
 call_keeps : {K : Type 0} (words : KindWords K) (n : ℕ) (d e : Partial K) (process : Process K) (verb : Verb) (texts : List (List ℕ)) → call_onto words n d process verb texts ≡ Ok e → IsDraft (record d { place = In_process process }) → Keeps d e
 unfolding call_onto
@@ -253,14 +260,50 @@ call_keeps {K} words n d e process verb texts is k =
         going_on = tt;
         there = record {
           calls = k.there.calls;
+          awaits = k.there.awaits;
           lines = k.there.lines;
           once = k.there.once;
-          going_on = All-push (λ (c : Call K). end_is_there (slice_get d.streams c.stream) c.end ≡ true) process.calls call k.there.going_on (call_there words d.streams (d.modules + 1) verb (call_fields texts) (reply_fields texts) call read);
+          going_on = (All-push (λ (c : Call K). end_is_there (slice_get d.streams c.stream) c.end ≡ true) process.calls call k.there.going_on.0 (call_there words d.streams (d.modules + 1) verb (call_fields texts) (reply_fields texts) call read), awaits_stay d.streams process (call ∷ []) (process.expected ++ expected) k.there.going_on.1);
         };
       };
       modules = one_module verb d.modules (is_push verb);
       streams = none_more d.streams;
     })))
+
+-- ---- an await of a process
+
+abbrev awaiting : {K : Type 0} → Process K → ℕ → Process K
+awaiting process stream = record process { awaits = process.awaits ++ await_of process stream ∷ [] }
+
+with_await_keeps : {K : Type 0} (d e : Partial K) (process : Process K) (text : List ℕ) (found : ℕ × Driver) → stream_at d.streams text ≡ Some found → with_await d process found ≡ Ok e → IsDraft (record d { place = In_process process }) → Keeps d e
+with_await_keeps d e process text found named is k =
+    passed (is_line found.1) (cond (nat_lt (length process.awaits) MOST_AWAITS) (Ok (record d { place = In_process (awaiting process found.0) })) (Err causes.TooMany)) e causes.OutOfPlace is (λ line is.
+    passed (nat_lt (length process.awaits) MOST_AWAITS) (Ok (record d { place = In_process (awaiting process found.0) })) e causes.TooMany is (λ _ is.
+    same (Keeps d) (record d { place = In_process (awaiting process found.0) }) e is (record {
+      kept = record {
+        setups = k.setups;
+        few_streams = k.few_streams;
+        few_processes = k.few_processes;
+        messages = k.messages;
+        going_on = tt;
+        there = record {
+          calls = k.there.calls;
+          awaits = k.there.awaits;
+          lines = k.there.lines;
+          once = k.there.once;
+          going_on = (k.there.going_on.0, await_more d.streams process found.0 (line_there d.streams found (stream_found d.streams text found named) line) k.there.going_on.1);
+        };
+      };
+      modules = omega arith;
+      streams = none_more d.streams;
+    })))
+
+await_keeps : {K : Type 0} (d e : Partial K) (process : Process K) (texts : List (List ℕ)) → await_onto d process texts ≡ Ok e → IsDraft (record d { place = In_process process }) → Keeps d e
+unfolding await_onto
+await_keeps d e process texts is k =
+    through (only_field texts) _ e is (λ name _ is.
+    through (or_fault causes.NoSuch (stream_at d.streams name)) (λ found. with_await d process found) e is (λ found named is.
+    with_await_keeps d e process name found (found_in (stream_at d.streams name) causes.NoSuch found named) is k))
 
 -- ---- a message of a feed
 
@@ -279,7 +322,7 @@ message_keeps d e feed word texts is k =
         few_processes = k.few_processes;
         messages = k.messages;
         going_on = All-push (λ (m : Msg). is_from_line m.kind ≡ true) feed.messages m k.going_on (message_from_line word texts m read);
-        there = record { calls = k.there.calls; lines = k.there.lines; once = k.there.once; going_on = k.there.going_on };
+        there = record { calls = k.there.calls; awaits = k.there.awaits; lines = k.there.lines; once = k.there.once; going_on = k.there.going_on };
       };
       modules = omega arith;
       streams = none_more d.streams;
@@ -287,9 +330,14 @@ message_keeps d e feed word texts is k =
 
 -- ---- a line
 
+process_line_keeps : {K : Type 0} (words : KindWords K) (n : ℕ) (d e : Partial K) (process : Process K) (word : List ℕ) (texts : List (List ℕ)) → process_line_onto words n d process word texts ≡ Ok e → IsDraft (record d { place = In_process process }) → Keeps d e
+process_line_keeps words n d e process word texts is k =
+    either (is_await word) (await_onto d process texts) _ e is (λ is. await_keeps d e process texts is k) (λ is.
+    through (or_fault (outside word) (verb_named word)) (λ verb. call_onto words n d process verb texts) e is (λ verb _ is. call_keeps words n d e process verb texts is k))
+
 inner_keeps : {K : Type 0} (words : KindWords K) (n : ℕ) (d e : Partial K) (place : Place K) (word : List ℕ) (texts : List (List ℕ)) → inner_onto words n d place word texts ≡ Ok e → IsDraft (record d { place = place }) → Keeps d e
 inner_keeps words n d e Nowhere word texts is k = absurd cc
-inner_keeps words n d e (In_process process) word texts is k = through (or_fault (outside word) (verb_named word)) (λ verb. call_onto words n d process verb texts) e is (λ verb _ is. call_keeps words n d e process verb texts is k)
+inner_keeps words n d e (In_process process) word texts is k = process_line_keeps words n d e process word texts is k
 inner_keeps words n d e (In_feed feed) word texts is k = through (or_fault (outside word) (message_named word)) (λ m. message_onto d feed m texts) e is (λ m _ is. message_keeps d e feed m texts is k)
 
 -- what a line keeps of what has ended, it keeps

@@ -1,8 +1,9 @@
 -- Each line keeps that all is there which processes and feeds name, and that no line has two feeds.
-use Rattle.std.proofs.Common.{◌≡◌, ℕ, zero, suc, ◌==◌, ◌&&◌, ◌||◌, not, Bool, true, false, List, [], ◌∷◌, ◌++◌, length, position, slice_get, get_or, Option, Some, Ok, refl, ap, ◌∙◌, codes}
+use Rattle.std.proofs.Common.{◌≡◌, ◌≤◌, ℕ, zero, suc, ◌==◌, ◌&&◌, ◌||◌, not, Bool, true, false, List, [], ◌∷◌, ◌++◌, length, position, slice_get, get_or, Option, Some, Ok, refl, ap, ◌∙◌, codes, arith}
 use Rattle.std.specs.Str.{bytes_eq}
 use Rattle.std.proofs.lemmas.Bool.{eqb-false, or_parts}
-use Rattle.std.proofs.lemmas.List.Elements.{All-nil, All-cons}
+use Rattle.std.proofs.lemmas.List.{length-append}
+use Rattle.std.proofs.lemmas.List.Elements.{All-nil, All-cons, All-push}
 use Rattle.std.proofs.lemmas.List.Quantifiers.{all_pairs_push}
 use Rattle.strm_msg.specs.declared.words.End.{End}
 use Rattle.strm_msg.specs.declared.words.End.TheVariants.{A}
@@ -11,18 +12,19 @@ use Rattle.strm_module.specs.declared.driver.Driver.{Driver}
 use Rattle.strm_module.specs.declared.driver.Driver.TheVariants.{Echo, Loop, Line, Wire}
 use Rattle.strm_module.specs.Driver.{has_end, is_line}
 use Rattle.strm_head_calls.specs.declared.setup.Setup.{Setup}
+use Rattle.strm_run_input.specs.declared.script.Await.{Await}
 use Rattle.strm_script_words.specs.Naming.{KindWords}
 use Rattle.strm_script_words.specs.Fault.{or_fault}
 use Rattle.strm_script_words.specs.Table.{arity_at, request_at}
 use Rattle.strm_script_words.specs.declared.fault.Cause.TheVariants as causes
 use Rattle.strm_script_words.specs.declared.verb.Verb.{Verb}
-use Rattle.strm_script_parse.specs.Plan.{Call, Process, Fed, Streams, Place, Nowhere, In_process, In_feed}
+use Rattle.strm_script_parse.specs.Plan.{Call, Expect, Process, Fed, Streams, Place, Nowhere, In_process, In_feed}
 use Rattle.strm_script_parse.specs.Expected.{are_choices}
-use Rattle.strm_script_parse.specs.Reading.{call_at, placed_call, has_feed}
+use Rattle.strm_script_parse.specs.Reading.{await_of, call_at, placed_call, has_feed}
 use Rattle.strm_script_parse.specs.Targets.{stream_names, stream_at, stream_of, target_of, end_of, end_a}
 use Rattle.strm_script_parse.specs.declared.plan.TheConstants.{LONGEST}
 use Rattle.strm_script_parse.specs.Draft.{IsUnfed, IsPlaceThere}
-use Rattle.strm_script_parse.specs.Sound.{end_is_there, line_is_there, AreCallsThere, AreProcessesThere, AreLinesThere, AreOnce}
+use Rattle.strm_script_parse.specs.Sound.{end_is_there, line_is_there, AreCallsThere, AreProcessesThere, AreAwaits, AreLinesThere, AreOnce}
 use Rattle.strm_script_parse.proofs.StepLemmas.{through, passed, on, under, same, same_found, found_in}
 
 -- ---- what a line names is there
@@ -106,6 +108,13 @@ calls_more streams stream calls all = λ k d within. end_more streams stream (ge
 pub processes_more : {K : Type 0} (streams : Streams) (stream : List ℕ × Setup) (processes : List (Process K)) → AreProcessesThere streams processes → AreProcessesThere (streams ++ stream ∷ []) processes
 processes_more streams stream processes all = λ k d within. calls_more streams stream (get_or processes k d).calls (all k d within)
 
+pub awaits_more : {K : Type 0} (streams : Streams) (stream : List ℕ × Setup) (process : Process K) → AreAwaits streams process → AreAwaits (streams ++ stream ∷ []) process
+awaits_more streams stream process are = record {
+  lines = λ k d within. line_more streams stream (get_or process.awaits k d).stream (are.lines k d within);
+  order = are.order;
+  calls = are.calls;
+}
+
 pub lines_more : (streams : Streams) (stream : List ℕ × Setup) (feeds : List Fed) → AreLinesThere streams feeds → AreLinesThere (streams ++ stream ∷ []) feeds
 lines_more streams stream feeds all = λ k d within. line_more streams stream (get_or feeds k d).stream (all k d within)
 
@@ -113,8 +122,38 @@ lines_more streams stream feeds all = λ k d within. line_more streams stream (g
 
 pub place_more : {K : Type 0} (streams : Streams) (stream : List ℕ × Setup) (feeds : List Fed) (place : Place K) → IsPlaceThere streams feeds place → IsPlaceThere (streams ++ stream ∷ []) feeds place
 place_more streams stream feeds Nowhere there = tt
-place_more streams stream feeds (In_process process) there = calls_more streams stream process.calls there
+place_more streams stream feeds (In_process process) there =
+    (calls_more streams stream process.calls there.0, awaits_more streams stream process there.1)
 place_more streams stream feeds (In_feed feed) there = (line_more streams stream feed.stream there.0, there.1)
+
+-- ---- the awaits of a process
+
+pub no_awaits : {K : Type 0} (streams : Streams) (process : Process K) → process.awaits ≡ [] → AreAwaits streams process
+no_awaits streams process none = record {
+  lines = rw none (All-nil (λ (one : Await). line_is_there (slice_get streams one.stream) ≡ true));
+  order = rw none (λ i j d before within. absurd (omega (arith, within)));
+  calls = rw none (All-nil (λ (one : Await). one.call ≤ length process.calls));
+}
+
+-- where there are more calls
+pub awaits_stay : {K : Type 0} (streams : Streams) (process : Process K) (calls : List (Call K)) (expected : List Expect) → AreAwaits streams process → AreAwaits streams (record process { calls = process.calls ++ calls; expected = expected })
+awaits_stay streams process calls expected are = record {
+  lines = are.lines;
+  order = are.order;
+  calls = λ k d within. omega (arith, are.calls k d within, length-append process.calls calls);
+}
+
+-- one await more
+pub await_more : {K : Type 0} (streams : Streams) (process : Process K) (stream : ℕ) → line_is_there (slice_get streams stream) ≡ true → AreAwaits streams process → AreAwaits streams (record process { awaits = process.awaits ++ await_of process stream ∷ [] })
+await_more streams process stream there are =
+    let new = await_of process stream in
+    record {
+      lines = All-push (λ (one : Await). line_is_there (slice_get streams one.stream) ≡ true) process.awaits new are.lines there;
+      order = all_pairs_push (λ (one other : Await). one.call ≤ other.call) process.awaits new are.order are.calls;
+      calls = All-push (λ (one : Await). one.call ≤ length process.calls) process.awaits new are.calls (omega arith);
+    }
+
+-- ---- the feed of a line
 
 -- a line that has no feed
 pub unfed : (feeds : List Fed) (number : ℕ) → has_feed feeds number ≡ false → IsUnfed feeds number

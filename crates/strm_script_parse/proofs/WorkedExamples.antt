@@ -26,7 +26,7 @@ use Rattle.strm_script_words.specs.declared.verb.Verb.{Verb}
 use Rattle.strm_script_words.specs.declared.verb.Verb.TheVariants as verbs
 use Rattle.strm_script_parse.specs.Plan.{Call, Fed, Partial, Process, Streams}
 use Rattle.strm_script_parse.specs.Expected.{are_choices, call_fields, expected_of, reply_fields}
-use Rattle.strm_script_parse.specs.Reading.{fields_in, fresh_name, has_room, lines_onto, nothing_yet, spelt, with_call, with_message, with_process}
+use Rattle.strm_script_parse.specs.Reading.{fields_in, fresh_name, has_room, lines_onto, nothing_yet, spelt, with_await, with_call, with_message, with_process}
 use Rattle.strm_script_parse.specs.declared.loading.TheConstants.{MOST_READ}
 use Rattle.std.specs.Str.Lines.{lines}
 
@@ -159,7 +159,7 @@ nothing = nothing_yet
 
 -- so many processes have ended
 abbrev ended : ℕ → Partial Kind
-ended many = record nothing { processes = replicate many (record { name = 112 ∷ []; calls = []; expected = [] }) }
+ended many = record nothing { processes = replicate many (record { name = 112 ∷ []; calls = []; expected = []; awaits = [] }) }
 
 process_256 : is_ok (with_process (ended 255) (113 ∷ [])) ≡ true
 process_256 = refl
@@ -172,6 +172,13 @@ call_65536 d process verb call many = rw many refl
 
 call_65537 : (d : Partial Kind) (process : Process Kind) (verb : Verb) (call : Call Kind) → length process.calls ≡ 65536 → with_call d process verb call [] ≡ Err causes.TooMany
 call_65537 d process verb call many = rw many refl
+
+-- of a line
+await_65536 : (d : Partial Kind) (process : Process Kind) → length process.awaits ≡ 65535 → is_ok (with_await d process (0, Line)) ≡ true
+await_65536 d process many = rw many refl
+
+await_65537 : (d : Partial Kind) (process : Process Kind) → length process.awaits ≡ 65536 → with_await d process (0, Line) ≡ Err causes.TooMany
+await_65537 d process many = rw many refl
 
 message_65536 : (d : Partial Kind) (feed : Fed) → length feed.messages ≡ 65535 → is_ok (with_message d feed (data_msg 0 [])) ≡ true
 message_65536 d feed many = rw many refl

@@ -2,7 +2,7 @@
 use Rattle.std.specs.Prelude.{◌≡◌, ◌≤◌, ℕ, ◌+◌, true, List, length, All, slice_get}
 use Rattle.strm_msg.specs.Kind.{is_from_line}
 use Rattle.strm_script_parse.specs.Plan.{Fed, Streams, Partial, Place, Nowhere, In_process, In_feed}
-use Rattle.strm_script_parse.specs.Sound.{AreSetups, AreFromLine, line_is_there, AreCallsThere, AreProcessesThere, AreLinesThere, AreOnce}
+use Rattle.strm_script_parse.specs.Sound.{AreSetups, AreFromLine, line_is_there, AreCallsThere, AreProcessesThere, AreAwaits, AreLinesThere, AreOnce}
 use Rattle.strm_script_parse.specs.declared.draft.TheConstants.{MOST_STREAMS, MOST_PROCESSES}
 
 -- no feed is for this stream
@@ -13,7 +13,7 @@ IsUnfed feeds number = All (λ other. other.stream ≡ number → ⊥) feeds
 -- wire
 abbrev pub IsPlaceThere : {K : Type 0} → Streams → List Fed → Place K → Type 0
 IsPlaceThere streams feeds Nowhere = Unit {0}
-IsPlaceThere streams feeds (In_process process) = AreCallsThere streams process.calls
+IsPlaceThere streams feeds (In_process process) = AreCallsThere streams process.calls × AreAwaits streams process
 IsPlaceThere streams feeds (In_feed feed) = (line_is_there (slice_get streams feed.stream) ≡ true) × IsUnfed feeds feed.stream
 
 -- the number of processes that go on
@@ -31,6 +31,7 @@ AreGoing (In_feed feed) = All (λ m. is_from_line m.kind ≡ true) feed.messages
 -- everything that the plan names so far is there, and no stream has two feeds
 pub record AreThere {K : Type 0} (d : Partial K) : Type 0 where
   pub calls : AreProcessesThere d.streams d.processes
+  pub awaits : All (λ process. AreAwaits d.streams process) d.processes
   pub lines : AreLinesThere d.streams d.feeds
   pub once : AreOnce d.feeds
   pub going_on : IsPlaceThere d.streams d.feeds d.place

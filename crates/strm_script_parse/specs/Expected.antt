@@ -1,4 +1,5 @@
--- The replies that a script expects of a call: `: REPLY` behind the fields of the call, with `|` between choices.
+-- The replies that a script expects of a call: `: REPLY` behind the fields of the call, with `|` between
+-- choices.
 use Rattle.std.specs.Prelude.{ℕ, ◌+◌, ◌&&◌, Bool, true, false, Option, Some, None, List, [], ◌∷◌, ◌++◌, position, take, drop, codes, if◌then◌else◌}
 use Rattle.std.specs.List.{position_or_len}
 use Rattle.std.specs.Option.{option_map}

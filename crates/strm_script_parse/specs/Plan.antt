@@ -8,6 +8,7 @@ use Rattle.strm_script_text.specs.Text.{name_texts}
 use Rattle.strm_script_words.specs.Table.{Asked, asked_of}
 use Rattle.strm_run_input.specs.declared.script.ScriptCall.{ScriptCall}
 use Rattle.strm_run_input.specs.declared.script.Feed.{Feed}
+use Rattle.strm_run_input.specs.declared.script.Await.{Await}
 pub use Rattle.strm_script_parse.specs.Streams.{Streams, streams_view, streams_of}
 use Rattle.strm_script_parse.specs.declared.plan.Expected.{Expected}
 use Rattle.strm_script_parse.specs.declared.plan.ProcessDecl.{ProcessDecl}
@@ -29,11 +30,13 @@ pub record Expect : Type 0 where
   pub line : ℕ
   pub choices : List (List ℕ)
 
--- a process: its name, its calls in order, and the replies that are expected of some of them
+-- a process: its name, its calls in order, the replies that are expected of some of them, and the feeds that
+-- it awaits before some of them
 pub record Process (K : Type 0) : Type 0 where
   pub name : List ℕ
   pub calls : List (Call K)
   pub expected : List Expect
+  pub awaits : List Await
 
 -- the messages that are offered to a line or a wire
 pub record Fed : Type 0 where
@@ -84,7 +87,12 @@ expected_view expected =
 -- a process; its calls are without their layout in memory
 abbrev pub process_view : {K : Type 0} → ProcessDecl (Shape K) → Process K
 process_view process =
-    record { name = process.name.items; calls = map call_view process.calls; expected = map expected_view process.expected.items }
+    record {
+      name = process.name.items;
+      calls = map call_view process.calls;
+      expected = map expected_view process.expected.items;
+      awaits = process.awaits.items;
+    }
 
 -- the messages of a feed, and the stream that it is for
 abbrev pub feed_view : Feed → Fed

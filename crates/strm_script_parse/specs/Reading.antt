@@ -11,6 +11,7 @@ use Rattle.strm_module.specs.declared.driver.Driver.TheVariants.{Echo, Loop, Lin
 use Rattle.strm_module.specs.Driver.{is_line}
 use Rattle.strm_head_calls.specs.declared.setup.Setup.{Setup}
 use Rattle.strm_head_calls.specs.declared.setup.TheConstants.{MOST_RING}
+use Rattle.strm_run_input.specs.declared.script.Await.{Await}
 use Rattle.strm_script_words.specs.Fault.{◌>>=◌, or_fault}
 use Rattle.strm_script_words.specs.Field.{number_at, marks_at}
 use Rattle.strm_script_words.specs.Naming.{KindWords}
@@ -24,7 +25,7 @@ use Rattle.strm_script_parse.specs.Expected.{call_fields, reply_fields, are_choi
 use Rattle.strm_script_parse.specs.Plan.{Call, Expect, Process, Fed, Streams, Whole, Place, Nowhere, In_process, In_feed, Partial}
 use Rattle.strm_script_parse.specs.Targets.{stream_names, stream_at, target_of}
 use Rattle.strm_script_parse.specs.declared.plan.TheConstants.{LONGEST}
-use Rattle.strm_script_parse.specs.declared.draft.TheConstants.{MOST_STREAMS, MOST_PROCESSES, MOST_CALLS, MOST_MESSAGES, LONGEST_LINE}
+use Rattle.strm_script_parse.specs.declared.draft.TheConstants.{MOST_STREAMS, MOST_PROCESSES, MOST_CALLS, MOST_AWAITS, MOST_MESSAGES, LONGEST_LINE}
 use Rattle.strm_script_parse.specs.declared.parsing.TheConstants.{LONGEST_SCRIPT}
 
 -- a name that none of these is
@@ -125,7 +126,7 @@ process_name processes text = do
 -- the plan with a new process of this name, which goes on
 abbrev pub with_process : {K : Type 0} → Partial K → List ℕ → Result (Partial K) Cause
 with_process d chosen =
-    if nat_lt (length d.processes) MOST_PROCESSES then Ok (record d { place = In_process (record { name = chosen; calls = []; expected = [] }) }) else Err causes.TooMany
+    if nat_lt (length d.processes) MOST_PROCESSES then Ok (record d { place = In_process (record { name = chosen; calls = []; expected = []; awaits = [] }) }) else Err causes.TooMany
 
 -- the plan behind a process line
 unfoldable pub process_onto : {K : Type 0} → Partial K → List (List ℕ) → Result (Partial K) Cause
@@ -162,8 +163,8 @@ placed_call words streams serial verb target texts = do
   asked ← request_at words serial verb texts
   Ok (record { stream = place.0; end = place.1; asked = asked })
 
--- a call, by its fields and those of the expected replies; first it is checked that there are as many fields as
--- there have to be, and for a push the word of its kind before that
+-- a call, by its fields and those of the expected replies; first it is checked that there are as many fields
+-- as there have to be, and for a push the word of its kind before that
 unfoldable pub call_at : {K : Type 0} → KindWords K → Streams → ℕ → Verb → List (List ℕ) → Option (List (List ℕ)) → Result (Call K) Cause
 call_at words streams serial verb [] replies = Err causes.Fields
 call_at words streams serial verb (target ∷ texts) replies =
@@ -172,13 +173,37 @@ call_at words streams serial verb (target ∷ texts) replies =
 -- the plan with one more call of the process that goes on, and the replies that are expected of it
 abbrev pub with_call : {K : Type 0} → Partial K → Process K → Verb → Call K → List Expect → Result (Partial K) Cause
 with_call d process verb call expected =
-    if nat_lt (length process.calls) MOST_CALLS then Ok (record d { modules = modules_after verb d.modules; place = In_process (record { name = process.name; calls = process.calls ++ call ∷ []; expected = process.expected ++ expected }) })
+    if nat_lt (length process.calls) MOST_CALLS then Ok (record d { modules = modules_after verb d.modules; place = In_process (record process { calls = process.calls ++ call ∷ []; expected = process.expected ++ expected }) })
     else Err causes.TooMany
 
 -- the plan behind a call line of this number; a push declares the next module
 unfoldable pub call_onto : {K : Type 0} → KindWords K → ℕ → Partial K → Process K → Verb → List (List ℕ) → Result (Partial K) Cause
 call_onto words n d process verb texts =
     call_at words d.streams (d.modules + 1) verb (call_fields texts) (reply_fields texts) >>= λ call. with_call d process verb call (expected_of n (length process.calls) (reply_fields texts))
+
+-- ---- await NAME
+
+-- the next call of a process awaits the feed of this stream
+abbrev pub await_of : {K : Type 0} → Process K → ℕ → Await
+await_of process stream = record { call = length process.calls; stream = stream }
+
+-- the plan with one more await of the process that goes on, of a line or a wire
+abbrev pub with_await : {K : Type 0} → Partial K → Process K → ℕ × Driver → Result (Partial K) Cause
+with_await d process found =
+    if is_line found.1 then (if nat_lt (length process.awaits) MOST_AWAITS then Ok (record d { place = In_process (record process { awaits = process.awaits ++ await_of process found.0 ∷ [] }) }) else Err causes.TooMany)
+    else Err causes.OutOfPlace
+
+-- the only field of a line
+abbrev pub only_field : List (List ℕ) → Result (List ℕ) Cause
+only_field (text ∷ []) = Ok text
+only_field texts = Err causes.Fields
+
+-- the plan behind an await line; the stream need not have a feed
+unfoldable pub await_onto : {K : Type 0} → Partial K → Process K → List (List ℕ) → Result (Partial K) Cause
+await_onto d process texts = do
+  name ← only_field texts
+  found ← or_fault causes.NoSuch (stream_at d.streams name)
+  with_await d process found
 
 -- ---- a message of a feed
 
@@ -194,19 +219,29 @@ message_onto d feed word texts = message_at word texts >>= λ m. with_message d 
 
 -- ---- a line
 
+-- the word of an await
+abbrev pub is_await : List ℕ → Bool
+is_await word = bytes_eq word (codes "await")
+
 -- the cause of the fault of a word that cannot be here: out of place if it could be elsewhere
 abbrev pub outside : List ℕ → Cause
-outside word = if is_some (verb_named word) || is_some (message_named word) then causes.OutOfPlace else causes.UnknownWord
+outside word = if is_some (verb_named word) || is_some (message_named word) || is_await word then causes.OutOfPlace else causes.UnknownWord
+
+-- the plan behind the line of a process that begins with this word
+abbrev pub process_line_onto : {K : Type 0} → KindWords K → ℕ → Partial K → Process K → List ℕ → List (List ℕ) → Result (Partial K) Cause
+process_line_onto words n d process word texts =
+    if is_await word then await_onto d process texts
+    else or_fault (outside word) (verb_named word) >>= λ verb. call_onto words n d process verb texts
 
 -- the plan behind the line of a feed that begins with this word
 abbrev pub fed_onto : {K : Type 0} → Partial K → Fed → List ℕ → List (List ℕ) → Result (Partial K) Cause
 fed_onto d feed word texts = or_fault (outside word) (message_named word) >>= λ m. message_onto d feed m texts
 
--- the plan behind a call of the process that goes on, or a message of the feed that goes on; `flush` is a
--- message in a feed, and a call elsewhere
+-- the plan behind a call or an await of the process that goes on, or a message of the feed that goes on;
+-- `flush` is a message in a feed, and a call elsewhere
 abbrev pub inner_onto : {K : Type 0} → KindWords K → ℕ → Partial K → Place K → List ℕ → List (List ℕ) → Result (Partial K) Cause
 inner_onto words n d Nowhere word texts = Err (outside word)
-inner_onto words n d (In_process process) word texts = or_fault (outside word) (verb_named word) >>= λ verb. call_onto words n d process verb texts
+inner_onto words n d (In_process process) word texts = process_line_onto words n d process word texts
 inner_onto words n d (In_feed feed) word texts = fed_onto d feed word texts
 
 -- the plan behind the line of this number that begins with this word

@@ -34,7 +34,7 @@ HasRoom (In_feed feed) many = ⊥
 -- the process that goes on, with these calls more
 abbrev pub called : {K : Type 0} → Place K → List (Call K) → Place K
 called Nowhere calls = Nowhere
-called (In_process process) calls = In_process (record { name = process.name; calls = process.calls ++ calls; expected = process.expected })
+called (In_process process) calls = In_process (record process { calls = process.calls ++ calls })
 called (In_feed feed) calls = In_feed feed
 
 abbrev pub with_calls : {K : Type 0} → Partial K → List (Call K) → Partial K
@@ -51,8 +51,8 @@ whole_lines sections = flat_map (λ section. lines section.text.now) sections
 abbrev pub IsMore : Streams → Streams → Type 0
 IsMore streams all = (more : Streams) × (all ≡ streams ++ more)
 
--- on these streams the reading of a line, whichever number it has, adds these calls to the process that goes on,
--- and changes nothing else
+-- on these streams the reading of a line, whichever number it has, adds these calls to the process that goes
+-- on, and changes nothing else
 pub record AddsCalls {K : Type 0} (streams : Streams) (read : ℕ → Partial K → Result (Partial K) Cause) (calls : List (Call K)) : Type 0 where
   pub onto : (n : ℕ) (d : Partial K) → d.streams ≡ streams → HasRoom d.place (length calls) → read n d ≡ Ok (with_calls d calls)
   pub there : AreCallsThere streams calls

@@ -35,6 +35,13 @@ AreCallsThere streams calls = All (λ call. end_is_there (slice_get streams call
 abbrev pub AreProcessesThere : {K : Type 0} → Streams → List (Process K) → Type 0
 AreProcessesThere streams processes = All (λ process. AreCallsThere streams process.calls) processes
 
+-- each await of a process is of a line or a wire; they are in order of their calls, and none is of a call past
+-- the next one
+pub record AreAwaits {K : Type 0} (streams : Streams) (process : Process K) : Type 0 where
+  pub lines : All (λ one. line_is_there (slice_get streams one.stream) ≡ true) process.awaits
+  pub order : AllPairs (λ one other. one.call ≤ other.call) process.awaits
+  pub calls : All (λ one. one.call ≤ length process.calls) process.awaits
+
 -- each feed is for a line or a wire
 abbrev pub AreLinesThere : Streams → List Fed → Type 0
 AreLinesThere streams feeds = All (λ feed. line_is_there (slice_get streams feed.stream) ≡ true) feeds
@@ -50,5 +57,6 @@ pub record IsSound {K : Type 0} (plan : Whole K) : Type 0 where
   pub few_processes : length plan.processes ≤ MOST_PROCESSES
   pub messages : AreFromLine plan.feeds
   pub calls : AreProcessesThere plan.streams plan.processes
+  pub awaits : All (λ process. AreAwaits plan.streams process) plan.processes
   pub lines : AreLinesThere plan.streams plan.feeds
   pub once : AreOnce plan.feeds

@@ -58,8 +58,8 @@ where
     Ok(ScriptCall { stream, call })
 }
 
-/// The call of this verb, by its fields: NAME:END and those behind it, and those of the expected replies. Takes
-/// memory as `placed_call` does.
+/// The call of this verb, by its fields: NAME:END and those behind it, and those of the expected replies.
+/// Takes memory as `placed_call` does.
 #[tactic(auto, unfolding(crate::specs::Reading::call_at))]
 #[inline(always)]
 pub(crate) fn call_at<M: PlayModule>(

@@ -1,11 +1,12 @@
 //! A plan while it is read, line by line.
 ghost use Rattle.std.specs.Prelude.{◌≡◌, ◌≤◌, ◌<◌, ◌^◌, true, Ok, length, map, IsErrOf};
 ghost use Rattle.strm_script_parse.specs.Plan.{call_view, draft_view, feed_view};
-ghost use Rattle.strm_script_parse.specs.Plan.{plan_view, process_place, process_view, streams_of};
+ghost use Rattle.strm_script_parse.specs.Plan.{plan_view, process_view, streams_of};
 ghost use Rattle.strm_script_parse.specs.Reading as reading;
-ghost use Rattle.strm_script_parse.specs.Reading.{IsTooLong, call_onto, fed_onto, feed_onto, fields_onto};
-ghost use Rattle.strm_script_parse.specs.Reading.{inner_onto, line_onto, message_onto, process_onto};
-ghost use Rattle.strm_script_parse.specs.Reading.{setup_onto, stream_onto, word_onto};
+ghost use Rattle.strm_script_parse.specs.Reading.{IsTooLong, await_onto, call_onto, fed_onto, feed_onto};
+ghost use Rattle.strm_script_parse.specs.Reading.{fields_onto, inner_onto, line_onto, message_onto};
+ghost use Rattle.strm_script_parse.specs.Reading.{process_line_onto, process_onto, setup_onto, stream_onto};
+ghost use Rattle.strm_script_parse.specs.Reading.{word_onto};
 ghost use Rattle.strm_script_parse.specs.Reads.{Becomes, Reads, TakesMemoryLast};
 ghost use Rattle.strm_script_parse.specs.Section.{takes, with_calls};
 ghost use Rattle.strm_script_text.specs.Text.{texts_of};
@@ -23,7 +24,7 @@ use std::alloc::Global;
 use std::mem;
 use strm_head_calls::Setup;
 use strm_module::{BoxedModule, Driver};
-use strm_run_input::{Feed, Script};
+use strm_run_input::{Await, Feed, Script};
 use strm_script_text::cut_fields;
 use strm_script_words::{
     Cause, MessageWord, PlayModule, ReadError, ReadKind, Verb, from_keyword, message_at,
@@ -37,6 +38,9 @@ const MOST_PROCESSES: usize = 256;
 
 /// The most calls of a process.
 const MOST_CALLS: usize = 65_536;
+
+/// The most awaits of a process.
+const MOST_AWAITS: usize = 65_536;
 
 /// The most messages of a feed.
 const MOST_MESSAGES: usize = 65_536;
@@ -104,11 +108,21 @@ pub(crate) fn fields_in<'a>(line: &'a [u8], texts: &mut Vec<&'a [u8]>) -> Result
     Ok(())
 }
 
+/// Whether this is the word of an await.
+fn is_await(word: &[u8]) -> bool
+    ensures { result ≡ reading.is_await word.now }
+{
+    word == b"await".as_slice()
+}
+
 /// The cause of the fault of a word that cannot be at its place.
 fn outside(word: &[u8]) -> Cause
     ensures { result ≡ reading.outside word.now }
 {
-    if from_keyword::<Verb>(word).is_some() || from_keyword::<MessageWord>(word).is_some() {
+    if from_keyword::<Verb>(word).is_some()
+        || from_keyword::<MessageWord>(word).is_some()
+        || is_await(word)
+    {
         Cause::OutOfPlace
     } else {
         Cause::UnknownWord
@@ -194,6 +208,7 @@ where
             name,
             calls: Script::new(alloc),
             expected: Vec::new(alloc),
+            awaits: Vec::new(alloc),
         };
         match Box::new(alloc, process) {
             Ok(process) => self.current = Current::Process(process),
@@ -252,6 +267,38 @@ where
         Ok(())
     }
 
+    /// Reads the NAME of a line or a wire, whose feed the next call of the process that goes on awaits. Takes
+    /// memory only if nothing is wrong.
+    #[tactic(auto, unfolding(crate::specs::Reading::await_onto))]
+    fn await_line(
+        &mut self,
+        mut process: Box<ProcessDecl<BoxedModule<M>>>,
+        texts: &[&[u8]],
+    ) -> Result<(), ReadError>
+        requires { length self.old.streams.map.entries ≤ MOST_STREAMS }
+        ensures line { Reads (λ d. await_onto d (process_view process.value))
+            texts.now self.old self.new result }
+        ensures memory { TakesMemoryLast (λ d. await_onto d (process_view process.value))
+            texts.now self.old result }
+    {
+        let [name] = texts else {
+            return Err(ReadError::Fault(Cause::Fields));
+        };
+        let Some((stream, driver)) = stream_at(&self.streams.map, &mut None, name) else {
+            return Err(ReadError::Fault(Cause::NoSuch));
+        };
+        if !driver.is_line() {
+            return Err(ReadError::Fault(Cause::OutOfPlace));
+        }
+        if process.awaits.len() >= MOST_AWAITS {
+            return Err(ReadError::Fault(Cause::TooMany));
+        }
+        let call = process.calls.len();
+        process.awaits.push(Await { call, stream })?;
+        self.current = Current::Process(process);
+        Ok(())
+    }
+
     /// Reads a message of the feed that goes on.
     #[tactic(auto, unfolding(crate::specs::Reading::message_onto))]
     fn message_line(
@@ -283,11 +330,12 @@ where
     ) -> Result<(), ReadError>
         requires few { length self.old.streams.map.entries ≤ MOST_STREAMS }
         requires modules { self.old.modules < 2 ^ 63 }
-        ensures { Reads (λ d. inner_onto M.Kind.words number d (process_place process.value) word.now)
+        ensures { Reads (λ d. process_line_onto M.Kind.words number d (process_view process.value) word.now)
             texts.now self.old self.new result }
     {
         match from_keyword(word) {
             Some(verb) => self.call_line(alloc, number, process, verb, texts),
+            None if is_await(word) => self.await_line(process, texts),
             None => Err(ReadError::Fault(outside(word))),
         }
     }
@@ -309,7 +357,7 @@ where
     }
 
     /// Reads a line of the process or feed that goes on, by its word.
-    #[tactic(auto, unfolding(crate::specs::Reading::call_onto, crate::specs::Reading::message_onto))]
+    #[tactic(auto, unfolding(crate::specs::Reading::await_onto, crate::specs::Reading::call_onto, crate::specs::Reading::message_onto))]
     fn inner_line(
         &mut self,
         alloc: Global,
@@ -369,8 +417,8 @@ where
         }
     }
 
-    /// Reads the line of this number, from 1. The list is for its fields, so that not each line takes memory for
-    /// them.
+    /// Reads the line of this number, from 1. The list is for its fields, so that not each line takes memory
+    /// for them.
     #[tactic(auto, unfolding(crate::specs::Reading::line_onto))]
     pub(crate) fn line<'a>(
         &mut self,

@@ -25,8 +25,8 @@ fn colon_at(texts: &[&[u8]]) -> Option<usize>
     texts.iter().position(|text| *text == b":".as_slice())
 }
 
-/// The fields of a call, and those of its expected replies, if a field `:` is between them. The first field is
-/// NAME:END, whatever it is.
+/// The fields of a call, and those of its expected replies, if a field `:` is between them. The first field
+/// is NAME:END, whatever it is.
 pub(crate) fn cut_replies<'a, 't>(texts: &'t [&'a [u8]]) -> (&'t [&'a [u8]], Option<&'t [&'a [u8]]>)
     ensures call { texts_of result.0.now ≡ call_fields (texts_of texts.now) }
     ensures replies { option_map (λ fields. texts_of fields.now) result.1 ≡ reply_fields (texts_of texts.now) }

@@ -82,7 +82,7 @@ fn script<M: ModuleOf, F: Fn(&Shape<M::Kind>) -> Result<M, NoMem>>(
     let (mut full, mut last) = declared.into_blocks();
     make_blocks(alloc, full.as_mut_slice(), make)?;
     make_calls(alloc, last.as_mut_slice(), make)?;
-    Ok(Script::of_blocks(full, last, many))
+    Ok(Script::of_blocks(alloc, full, last, many))
 }
 
 /// The processes, in order, with their modules made. Fails only when memory runs out.
@@ -100,12 +100,14 @@ fn processes<M: ModuleOf, F: Fn(&Shape<M::Kind>) -> Result<M, NoMem>>(
             name,
             calls,
             expected,
+            awaits,
         } = process;
         let calls = script(alloc, calls, make)?;
         made.push(ProcessDecl {
             name,
             calls,
             expected,
+            awaits,
         })?;
     }
     Ok(made)

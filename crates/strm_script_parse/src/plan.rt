@@ -3,7 +3,7 @@ use crate::push_decl::PushDecl;
 use arrayvec::ArrayVec;
 use indexmap::IndexMap;
 use strm_head_calls::Setup;
-use strm_run_input::{Feed, Script};
+use strm_run_input::{Await, Feed, Script};
 
 /// The longest name of a stream or a process, in bytes.
 pub const LONGEST: usize = 16;
@@ -31,6 +31,8 @@ pub struct ProcessDecl<P = PushDecl> {
     pub calls: Script<P>,
     /// The replies that are expected of some of its calls, in order.
     pub expected: Vec<Expected>,
+    /// The feeds that it awaits before some of its calls, in order.
+    pub awaits: Vec<Await>,
 }
 
 /// A plan that a script spells. Its pushes carry `P`: the declaration of a module, or the module itself, of

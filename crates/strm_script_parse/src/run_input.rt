@@ -26,7 +26,7 @@ pub struct RunInput<P> {
     pub names: Names,
     /// The setup of each stream, in order of declaration.
     pub setups: Vec<Setup>,
-    /// The calls of each process, in order, as the plan had them.
+    /// The calls of each process, in order, as the plan had them, and the feeds that it awaits.
     pub scripts: Vec<Script<P>>,
     /// The feeds, as the plan had them.
     pub feeds: Vec<Feed>,
@@ -99,10 +99,12 @@ fn parts_of<P: Drop>(alloc: Global, processes: Vec<ProcessDecl<P>>) -> Result<Pa
     for process in processes {
         let ProcessDecl {
             name,
-            calls,
+            mut calls,
             expected,
+            awaits,
         } = process;
         let streams = streams_if(alloc, expected.as_slice(), &calls)?;
+        calls.set_awaits(awaits);
         names.push(name)?;
         scripts.push(calls)?;
         all.push(Replies { streams, expected })?;

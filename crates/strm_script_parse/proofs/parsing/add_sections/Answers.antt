@@ -2,7 +2,7 @@ use Rattle.std.proofs.Common.{◌≡◌, All, append_assoc, arith, sym, ap, subs
 use Rattle.std.proofs.lemmas.List.{length-append, length-map, nil_from_length}
 use Rattle.std.proofs.lemmas.List.Elements.{All-head, All-tail}
 use Rattle.std.specs.Vec.Iter.{into_iter_items}
-use Rattle.strm_run_input.proofs.LoopLemmas.{rest_shorter}
+use Rattle.strm_msg.proofs.LoopLemmas.{rest_shorter}
 use Rattle.strm_script_parse.specs.Plan.{draft_view}
 use Rattle.strm_script_parse.specs.Reading.{lines_onto}
 use Rattle.strm_script_parse.specs.Section.{IsSection, whole_lines, whole_text}

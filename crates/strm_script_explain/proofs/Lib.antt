@@ -1,0 +1,3 @@
+pub mod FieldLemmas
+pub mod LineLemmas
+mod WorkedExamples

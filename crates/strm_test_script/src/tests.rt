@@ -5,10 +5,12 @@ use std::process::Abort;
 use strm_module::{BoxedModule, Plain};
 use strm_script_parse::{Names, RunInput, into_run_input, parse_made};
 
+mod awaiting;
 mod charting;
 mod declaring;
 mod expecting;
 mod loading;
+mod orders;
 mod printing;
 
 /// The input of a run of this script.

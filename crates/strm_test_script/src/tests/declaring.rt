@@ -33,6 +33,7 @@ fn calls_of<P: Drop>(rt: &impl Abort, plan: Plan<P>) -> (Call<P>, Call<P>) {
         name: _,
         calls,
         expected: _,
+        awaits: _,
     } = processes.pop().expect(rt, "a process");
     let (_, mut calls) = calls.into_blocks();
     let ScriptCall { stream: _, call } = calls.pop().expect(rt, "a call");

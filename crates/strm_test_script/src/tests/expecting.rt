@@ -1,5 +1,5 @@
-//! Expected replies, beside histories that no script is sure to give: calls of two processes in turn, a message
-//! that came in between, and a call without an entry.
+//! Expected replies, beside histories that no script is sure to give: calls of two processes in turn, a
+//! message that came in between, and a call without an entry.
 use super::handed;
 use super::printing::{Say, answer, came, log, step};
 use std::alloc::Global;

@@ -1,0 +1,11 @@
+pub mod Drawn
+pub mod Tally
+pub mod Parts
+pub mod Difference
+pub mod Telling
+pub mod Lanes
+pub mod Choices
+pub mod Inside
+pub mod Counting
+pub mod Spelt
+pub mod Fault

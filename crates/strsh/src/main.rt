@@ -1,4 +1,5 @@
-//! `strsh` plays a script of calls on streams, and prints the outcome of each stream.
+//! `strsh` plays a script of calls on streams, and prints the outcome of each stream. Where a script has a
+//! fault, standard error shows its line, with a mark under the field and what was wanted there.
 //!
 //! It exits with one of these statuses:
 //!
@@ -8,7 +9,10 @@
 //! - 3 if the transcript was printed, and a reply that the script expects was not met.
 #![tactic(auto)]
 
+mod lanes;
+mod orders;
 mod playing;
+mod refusal;
 
 use playing::serve;
 use std::env;
@@ -22,7 +26,7 @@ fn words<R: Env + AllocGlobal>(rt: &R) -> Result<Vec<String>, Fault> {
 }
 
 fn main(rt: HostRuntime) -> ExitCode {
-    let status = match words(&rt).and_then(|words| serve(&rt, words.as_slice())) {
+    let status = match words(&rt).and_then(|words| serve(&rt, &rt.stderr(), words.as_slice())) {
         Ok(status) => status,
         Err(fault) => {
             let _ = print!(rt; "{fault}");

@@ -8,13 +8,13 @@ ghost use Rattle.std.specs.declared.io.ErrorKind.TheVariants.{OutOfMemory};
 ghost use Rattle.strm_run_input.specs.declared.fault.RunFault.TheVariants as RunFaults;
 ghost use Rattle.strm_script_parse.specs.Plan.{names_view, plan_view};
 ghost use Rattle.strm_script_parse.specs.Sound.{IsSound};
-ghost use Rattle.strm_script_print.specs.Fields.{builtin_spelling};
-ghost use Rattle.strm_script_print.specs.Lines.{transcript_text};
 ghost use Rattle.strm_script_parse.specs.RunInput.{replies_view};
-ghost use Rattle.strm_script_chart.specs.Chart.{chart_text};
 ghost use Rattle.strm_script_expect.specs.Unmet.{missed_text, missed_view, unmet_of};
 ghost use Rattle.strsh_options.specs.Fault.{line};
+ghost use Rattle.strsh.specs.Outcome.{outcome_text};
 
+use crate::orders::play_orders;
+use crate::refusal::Refusal;
 use std::alloc::Global;
 use std::io::{self, BufWriter, ErrorKind, Write};
 use std::rt::Files;
@@ -22,23 +22,38 @@ use std::sync::Wait;
 use std::thread::Threads;
 use std::{fs, mem};
 use strm_module::{BoxedModule, Plain};
+use strm_run_input::RunFault;
 use strm_script::{
-    LoadFault, Missed, Outcome, Plan, chart, load, parse_parallel, play_plan, print_parallel,
-    put_missed, unmet,
+    LoadFault, Missed, Outcome, Plan, chart, load, parse_parallel, play_plan, play_plan_in_order,
+    print_parallel, put_missed, unmet,
 };
-use strsh_options::{Fault, Options};
+use strm_script_orders::DrawnOrder;
+use strsh_options::{Fault, Options, Output, Playing};
 
 /// The number of bytes that are written at once.
-const BUFFER: usize = 65_536;
+pub(crate) const BUFFER: usize = 65_536;
 
 /// The status if an expected reply was not met.
-const UNMET: u8 = 3;
+pub(crate) const UNMET: u8 = 3;
 
 /// The path that stands for standard input.
 const STANDARD_INPUT: &str = "-";
 
+/// The name of the script at a path, as it is shown.
+pub(crate) fn shown_name(path: &str) -> &str {
+    if path == STANDARD_INPUT {
+        "standard input"
+    } else {
+        path
+    }
+}
+
 /// The bytes of the script at a path, or of standard input.
-fn script<R: Files + Input>(rt: &R, alloc: Global, path: &str) -> Result<Vec<u8>, LoadFault> {
+pub(crate) fn script<R: Files + Input>(
+    rt: &R,
+    alloc: Global,
+    path: &str,
+) -> Result<Vec<u8>, LoadFault> {
     if path == STANDARD_INPUT {
         return load(alloc, rt.reader());
     }
@@ -46,44 +61,46 @@ fn script<R: Files + Input>(rt: &R, alloc: Global, path: &str) -> Result<Vec<u8>
 }
 
 /// The plan of the script at a path, read in at most that many threads. The text is dropped before the plan
-/// is played.
+/// is played. The fault of a script is explained.
 fn plan_at<R: Files + Input + Threads + Sync>(
     rt: &R,
     alloc: Global,
     path: &str,
     threads: usize,
-) -> Result<Plan<BoxedModule<Plain>>, Fault>
+) -> Result<Plan<BoxedModule<Plain>>, Refusal>
     requires { 0 < threads }
     ensures { IfOk result (λ plan. IsSound (plan_view plan)) }
 {
-    let bytes = script(rt, alloc, path)?;
-    Ok(parse_parallel::<Plain, R>(rt, alloc, bytes.as_slice(), threads)?)
+    let bytes = script(rt, alloc, path).map_err(Fault::from)?;
+    match parse_parallel::<Plain, R>(rt, alloc, bytes.as_slice(), threads) {
+        Ok(plan) => Ok(plan),
+        Err(fault) => Err(Refusal::of_script(alloc, shown_name(path), bytes.as_slice(), fault)),
+    }
 }
 
-/// Writes the outcome of a script that was played: as a chart if one is asked for, else as a transcript,
-/// whose lines are made in at most `threads` threads.
+/// Writes the outcome of a script that was played: as a transcript, whose lines are made in at most `threads`
+/// threads, or as a chart, or not at all.
 fn put_text<R: Threads + Sync, W: Write>(
     rt: &R,
     alloc: Global,
     outcome: &mut Outcome,
-    as_chart: bool,
+    output: Output,
     threads: usize,
     w: &mut W,
 ) -> io::Result<()>
     requires { 0 < threads }
     ensures { OnOk result (Appends (W.contents w.old) (W.contents w.new)
-        (if as_chart then chart_text builtin_spelling (names_view outcome.old.names) outcome.old.transcript.streams.items
-        else transcript_text builtin_spelling (names_view outcome.old.names) outcome.old.transcript.streams.items)) }
+        (outcome_text output (names_view outcome.old.names) outcome.old.transcript.streams.items)) }
 {
     let Outcome {
         names,
         transcript,
         expected: _,
     } = outcome;
-    if as_chart {
-        chart(transcript, names, w)
-    } else {
-        print_parallel(rt, alloc, transcript, names, threads, w)
+    match output {
+        Output::Transcript => print_parallel(rt, alloc, transcript, names, threads, w),
+        Output::Chart => chart(transcript, names, w),
+        Output::Quiet => Ok(()),
     }
 }
 
@@ -107,8 +124,8 @@ fn put_lines<W: Write>(missed: &[Missed], w: &mut W) -> io::Result<()>
     Ok(())
 }
 
-/// Writes the outcome of a script that was played, as a chart or as a transcript, and then a line for each
-/// expected reply that was not met, to the last byte.
+/// Writes the outcome of a script that was played, as it is asked for, and then a line for each expected reply
+/// that was not met, to the last byte.
 ///
 /// Fails when memory runs out, with an error of kind `OutOfMemory`, and if the writer fails, with its error.
 pub fn put<R: Threads + Sync, W: Write>(
@@ -116,23 +133,22 @@ pub fn put<R: Threads + Sync, W: Write>(
     alloc: Global,
     outcome: &mut Outcome,
     missed: &[Missed],
-    as_chart: bool,
+    output: Output,
     threads: usize,
     w: &mut W,
 ) -> io::Result<()>
     requires threads { 0 < threads }
     ensures text { OnOk result (Appends (W.contents w.old) (W.contents w.new)
-        ((if as_chart then chart_text builtin_spelling (names_view outcome.old.names) outcome.old.transcript.streams.items
-        else transcript_text builtin_spelling (names_view outcome.old.names) outcome.old.transcript.streams.items)
+        (outcome_text output (names_view outcome.old.names) outcome.old.transcript.streams.items
         ++ flat_map (λ one. line (missed_text (missed_view one))) missed.now)) }
 {
-    put_text(rt, alloc, outcome, as_chart, threads, w)?;
+    put_text(rt, alloc, outcome, output, threads, w)?;
     put_lines(missed, w)?;
     w.flush()
 }
 
 /// The fault of an outcome that could not be printed.
-fn not_put(error: io::Error) -> Fault
+pub(crate) fn not_put(error: io::Error) -> Fault
     ensures memory { error_kind error ≡ OutOfMemory → result ≡ Fault.Run RunFaults.NoMem }
     ensures write { error_kind error ≢ OutOfMemory → result ≡ Fault.Write }
 {
@@ -144,7 +160,7 @@ fn not_put(error: io::Error) -> Fault
 }
 
 /// The expected replies of a script that was played that were not met. The outcome has none from then on.
-fn missed(alloc: Global, outcome: &mut Outcome) -> Result<Vec<Missed>, Fault>
+pub(crate) fn missed(alloc: Global, outcome: &mut Outcome) -> Result<Vec<Missed>, Fault>
     ensures missed { IfOk result (λ all. map missed_view all.items
         ≡ unmet_of outcome.old.transcript.streams.items (map replies_view outcome.old.expected.items)) }
     ensures names { outcome.new.names ≡ outcome.old.names }
@@ -182,29 +198,128 @@ fn put_out<R: Print + Threads + Sync>(
         alloc,
         outcome,
         missed,
-        options.chart,
+        options.output,
         options.workers as usize,
         &mut out,
     )
     .map_err(not_put)
 }
 
-/// Plays the script that a command line names, and prints its transcript, or its chart if that is asked for,
-/// and the expected replies that were not met. Returns the exit status: 3 if there are some, else 0.
-///
-/// Refused, in this order, if the command line has a fault, if the script cannot be read, if it is no script,
-/// if it does not run, or if the outcome cannot be printed.
-pub fn serve<R: Files + Input + Print + Threads + Wait + AllocGlobal + Sync>(
+/// Plays a plan in threads, or in one order that is drawn.
+fn play<R: Threads + Wait + Sync>(
     rt: &R,
+    alloc: Global,
+    plan: Plan<BoxedModule<Plain>>,
+    seed: Option<u64>,
+    workers: u32,
+) -> Result<Outcome, RunFault>
+    requires { IsSound (plan_view plan) }
+{
+    match seed {
+        Some(seed) => {
+            let mut order = DrawnOrder::new(seed);
+            play_plan_in_order::<Plain, R, DrawnOrder>(rt, alloc, plan, &mut order)
+        }
+        None => play_plan::<Plain, R>(rt, alloc, plan, workers),
+    }
+}
+
+/// Plays a plan once, and prints its outcome, and the expected replies that were not met. Returns the exit
+/// status: 3 if there are some, else 0.
+fn play_plan_once<R: Print + Threads + Wait + Sync>(
+    rt: &R,
+    alloc: Global,
+    plan: Plan<BoxedModule<Plain>>,
+    seed: Option<u64>,
+    options: &Options,
+) -> Result<u8, Fault>
+    requires sound { IsSound (plan_view plan) }
+    requires workers { 0 < options.now.workers }
+{
+    let mut outcome = play(rt, alloc, plan, seed, options.workers)?;
+    let missed = missed(alloc, &mut outcome)?;
+    put_out(rt, alloc, &mut outcome, missed.as_slice(), options)?;
+    if options.paths.len() == 1 {
+        // The program ends here. Dropping the outcome, entry by entry, would take up to a tenth of its time.
+        mem::forget(outcome);
+    }
+    Ok(status(missed.as_slice()))
+}
+
+/// Plays the script at a path once, and prints its outcome, and the expected replies that were not met.
+/// Returns the exit status: 3 if there are some, else 0.
+fn play_once<R: Files + Input + Print + Threads + Wait + Sync>(
+    rt: &R,
+    alloc: Global,
+    path: &str,
+    seed: Option<u64>,
+    options: &Options,
+) -> Result<u8, Refusal>
+    requires { 0 < options.now.workers }
+{
+    let plan = plan_at(rt, alloc, path, options.workers as usize)?;
+    Ok(play_plan_once(rt, alloc, plan, seed, options)?)
+}
+
+/// Plays the script at a path as the command line asks for it, and prints the outcome. Returns the exit
+/// status.
+fn play_file<R: Files + Input + Print + Threads + Wait + Sync>(
+    rt: &R,
+    alloc: Global,
+    path: &str,
+    options: &Options,
+) -> Result<u8, Refusal>
+    requires { 0 < options.now.workers }
+{
+    match options.playing {
+        Playing::Threads => play_once(rt, alloc, path, None, options),
+        Playing::InOrder(seed) => play_once(rt, alloc, path, Some(seed), options),
+        Playing::Each(orders) => play_orders(rt, alloc, path, orders),
+    }
+}
+
+/// Plays the script at a path, and prints the outcome, or the fault for which there is none. A fault of the
+/// script is explained on standard error. Returns the exit status.
+fn serve_file<R: Files + Input + Print + Threads + Wait + Sync, E: Print>(
+    rt: &R,
+    errors: &E,
+    alloc: Global,
+    path: &str,
+    options: &Options,
+) -> u8
+    requires { 0 < options.now.workers }
+{
+    match play_file(rt, alloc, path, options) {
+        Ok(status) => status,
+        Err(Refusal { fault, explanation }) => {
+            let _ = print!(rt; "{fault}");
+            if let Some(text) = explanation {
+                let _ = errors.write_all(text.as_slice());
+            }
+            fault.status()
+        }
+    }
+}
+
+/// Plays the scripts that a command line names, one after another, and prints the outcome of each. Where there
+/// are several, a line `file PATH` is in front of each outcome. Returns the greatest exit status.
+///
+/// A script that cannot be read, that is no script or that does not run keeps none of the others from being
+/// played. Its fault is explained on `errors`. Refused if the command line has a fault, or if a line `file PATH`
+/// cannot be printed.
+pub fn serve<R: Files + Input + Print + Threads + Wait + AllocGlobal + Sync, E: Print>(
+    rt: &R,
+    errors: &E,
     words: &[String],
 ) -> Result<u8, Fault> {
     let alloc = rt.alloc();
     let options = Options::read(alloc, words)?;
-    let plan = plan_at(rt, alloc, options.path, options.workers as usize)?;
-    let mut outcome = play_plan::<Plain, R>(rt, alloc, plan, options.workers)?;
-    let missed = missed(alloc, &mut outcome)?;
-    put_out(rt, alloc, &mut outcome, missed.as_slice(), &options)?;
-    // The program ends here. Dropping the outcome, entry by entry, would take up to a tenth of its time.
-    mem::forget(outcome);
-    Ok(status(missed.as_slice()))
+    let mut status = 0;
+    for path in &options.paths {
+        if options.paths.len() > 1 && print!(rt; "file {path}\n").is_err() {
+            return Err(Fault::Write);
+        }
+        status = status.max(serve_file(rt, errors, alloc, path, &options));
+    }
+    Ok(status)
 }

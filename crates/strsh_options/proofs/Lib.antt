@@ -1,3 +1,5 @@
+pub mod LineLemmas
+pub mod ValueLemmas
 pub mod ReadLemmas
-pub mod CrewLemmas
+pub mod RowLemmas
 mod WorkedExamples

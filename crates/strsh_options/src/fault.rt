@@ -36,8 +36,8 @@ impl Fault {
     }
 
     /// The exit status of the program: 0 if help or the version was asked for, 2 for the command line and the
-    /// script, and 1 for the run and the writing. Status 3 is that of no fault: of a transcript that was printed,
-    /// with a reply that is not the expected one.
+    /// script, and 1 for the run and the writing. Status 3 is that of no fault: of a transcript that was
+    /// printed, with a reply that is not the expected one.
     pub fn status(&self) -> u8
         ensures { EndsWith self.now result }
     {

@@ -2,7 +2,8 @@
 #![tactic(auto)]
 
 mod fault;
+mod line;
 mod options;
 
 pub use fault::Fault;
-pub use options::Options;
+pub use options::{MOST_ORDERS, Options, Orders, Output, Playing};

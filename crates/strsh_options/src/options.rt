@@ -1,127 +1,200 @@
-//! The command line.
-ghost use Rattle.std.specs.Prelude.{◌≡◌, ◌≤◌, IfOk, IfErr};
-ghost use Rattle.clap.specs.Words.{FailsBy, app_of, fault_of, kind_of};
-ghost use Rattle.clap.specs.declared.error.kind.ErrorKind.TheVariants.{OutOfMemory};
+//! The options that a command line asks for.
+ghost use Rattle.std.specs.Prelude.{◌≡◌, ◌≤◌, IfOk, IfSome, Some, is_some, map, option_map};
+ghost use Rattle.clap.specs.Words.{FailsBy, found_of, rows_of};
 ghost use Rattle.strm_run_input.specs.declared.validation.TheConstants.{MOST_WORKERS};
-ghost use Rattle.strsh_options.specs.CommandLine.{AsksFor, AsksForChart, HasThree, IsArg, IsBare};
-ghost use Rattle.strsh_options.specs.CommandLine.{chart_rule, chart_word, command_line, file_rule};
-ghost use Rattle.strsh_options.specs.CommandLine.{file_text, word_texts, workers_rule, workers_text};
+ghost use Rattle.strsh_options.specs.CommandLine.{found, has_conflict, is_given};
+ghost use Rattle.strsh_options.specs.Options.{AreInRange, PlaysInRange, conflict_kinds, orders_of};
+ghost use Rattle.strsh_options.specs.Options.{output_of, paths_of, playing_by, playing_kinds, playing_of};
+ghost use Rattle.strsh_options.specs.Options.{refusals, workers_of};
 
-use clap::{Arg, ArgAction, Command, Error, value_parser};
-use std::alloc::Global;
+use crate::line::{command, refusal};
+use clap::error::ErrorKind;
+use clap::parser::ValueSource;
+use clap::{ArgMatches, Error};
+use std::alloc::{AllocError, Global};
 use strm_run_input::MOST_WORKERS;
+use strm_script_text::number;
 
 /// The number of worker threads, if the command line asks for none.
 const DEFAULT_WORKERS: u32 = 4;
 
-/// The version of the program, which is that of the library.
-const VERSION: &str = "1";
+/// The most orders that can be asked for by their number.
+pub const MOST_ORDERS: u32 = 1_000_000;
 
-/// The description of the program.
-const ABOUT: &str = "Plays a script of calls on STREAMS, and prints a transcript of each stream.";
+/// The orders in which a script is played.
+#[derive(Clone, Copy, Debug, PartialEq, Eq)]
+pub enum Orders {
+    /// That many, 1 to `MOST_ORDERS`.
+    First(u32),
+    /// Each order once.
+    All,
+}
 
-/// A script that can be played.
-const EXAMPLE: &str = "\
-A script declares streams, and then processes, each with its calls. This one sends a message
-down an echo stream and takes it at the head:
+/// Who makes the calls of a script, and in which order.
+#[derive(Clone, Copy, Debug, PartialEq, Eq)]
+pub enum Playing {
+    /// The worker threads.
+    Threads,
+    /// One thread, in the order that this seed draws.
+    InOrder(u64),
+    /// One thread, once in each of these orders.
+    Each(Orders),
+}
 
-  stream s echo 16/4 16/4
-  process p
-  putmsg s:a =c =hello norm
-  getmsg s:a 64 64 any
-
-Behind a call, `: REPLY` expects that reply, byte for byte as a transcript spells it.";
+/// What is printed of a script that was played, beside the expected replies that were not met.
+#[derive(Clone, Copy, Debug, PartialEq, Eq)]
+pub enum Output {
+    /// The transcript.
+    Transcript,
+    /// The chart.
+    Chart,
+    /// Nothing.
+    Quiet,
+}
 
 /// The options of a command line.
 #[derive(Debug, Drop)]
 pub struct Options<'a> {
-    /// The number of worker threads that make the calls, 1 to `MOST_WORKERS`.
+    /// The number of worker threads, 1 to `MOST_WORKERS`.
     pub workers: u32,
-    /// Whether the outcome is drawn as a chart, and not printed as a transcript.
-    pub chart: bool,
-    /// The path of the script; `-` is standard input.
-    pub path: &'a str,
+    /// Who makes the calls, and in which order.
+    pub playing: Playing,
+    /// What is printed.
+    pub output: Output,
+    /// The paths of the scripts, in their order; `-` is standard input.
+    pub paths: Vec<&'a str>,
 }
 
-/// The option `--workers N`.
-fn workers<'a>(alloc: Global) -> Arg<'a>
-    ensures { IsArg workers_rule result }
+/// Whether an option is among the words. Its default does not count.
+fn given(matches: &ArgMatches, id: &str) -> bool
+    ensures { result ≡ is_given id.now (rows_of (found_of matches.now)) }
 {
-    Arg::new(alloc, "workers")
-        .long("workers")
-        .value_name("N")
-        .value_parser(value_parser!(u32).range(1..=i64::from(MOST_WORKERS)))
-        .default_value("4")
-        .help("How many worker threads make the calls, 1 to 64")
+    matches.value_source(id) == Some(ValueSource::CommandLine)
 }
 
-/// The option `--chart`.
-fn chart<'a>(alloc: Global) -> Arg<'a>
-    ensures { IsArg chart_rule result }
+/// The first two options among the words that exclude each other, as an error spells them.
+fn excluded(matches: &ArgMatches) -> Option<(&'static str, &'static str)>
+    ensures { is_some result ≡ has_conflict (rows_of (found_of matches.now)) }
 {
-    Arg::new(alloc, "chart")
-        .long("chart")
-        .action(ArgAction::SetTrue)
-        .help("Draws a sequence chart of each stream, in place of a transcript")
+    let workers = given(matches, "workers");
+    let order = given(matches, "order");
+    let orders = given(matches, "orders");
+    let chart = given(matches, "chart");
+    let quiet = given(matches, "quiet");
+    if workers && order {
+        Some(("--workers <N>", "--order <SEED>"))
+    } else if workers && orders {
+        Some(("--workers <N>", "--orders <N>"))
+    } else if order && orders {
+        Some(("--order <SEED>", "--orders <N>"))
+    } else if orders && chart {
+        Some(("--orders <N>", "--chart"))
+    } else if orders && quiet {
+        Some(("--orders <N>", "--quiet"))
+    } else if chart && quiet {
+        Some(("--chart", "--quiet"))
+    } else {
+        None
+    }
 }
 
-/// The argument `FILE`.
-fn file<'a>(alloc: Global) -> Arg<'a>
-    ensures { IsArg file_rule result }
+/// Refuses options that exclude each other. Fails otherwise only when memory runs out.
+fn check_excluded(alloc: Global, matches: &ArgMatches) -> Result<(), Error>
+    ensures { FailsBy (conflict_kinds (rows_of (found_of matches.now))) result }
 {
-    Arg::new(alloc, "FILE")
-        .required(true)
-        .help("The script; - is standard input")
+    let Some((one, other)) = excluded(matches) else {
+        return Ok(());
+    };
+    let message = format!(in alloc; "the argument '{one}' cannot be used with '{other}'")?;
+    Err(refusal(alloc, ErrorKind::ArgumentConflict, message.as_str())?)
 }
 
-/// A command without arguments, with the program's version. Fails only when memory runs out.
-fn bare_command<'a>(alloc: Global) -> Result<Command<'a>, Error>
-    ensures bare { IfOk result IsBare }
-    ensures memory { IfErr result (λ error. kind_of error ≡ OutOfMemory) }
+/// The orders that a text asks for: `all`, or a number of them. Nothing if the text is neither.
+fn orders_asked(text: &str) -> Option<Orders>
+    ensures orders { result ≡ orders_of text.now }
+    ensures range { IfSome result AreInRange }
 {
-    Ok(
-        Command::new(alloc, "strsh")
-            .bin_name("strsh")?
-            .version(VERSION)
-            .about(ABOUT)
-            .after_help(EXAMPLE),
-    )
+    if text == "all" {
+        return Some(Orders::All);
+    }
+    match number(text.as_bytes(), u64::from(MOST_ORDERS))? {
+        0 => None,
+        many => Some(Orders::First(many as u32)),
+    }
 }
 
-/// The accepted command line: `strsh [--workers N] [--chart] FILE`. Fails only when memory runs out.
-fn command<'a>(alloc: Global) -> Result<Command<'a>, Error>
-    ensures line { IfOk result (λ command. app_of command ≡ command_line) }
-    ensures three { IfOk result HasThree }
-    ensures memory { IfErr result (λ error. kind_of error ≡ OutOfMemory) }
+/// Who makes the calls, by the seed of `--order` and the text of `--orders`. Refused if that text is neither
+/// `all` nor a number from 1 to `MOST_ORDERS`, and when memory runs out.
+fn playing_asked(alloc: Global, seed: Option<u64>, text: Option<&str>) -> Result<Playing, Error>
+    ensures playing { IfOk result
+        (λ playing. Some playing ≡ playing_by seed (option_map (λ asked. asked.now) text.entry)) }
+    ensures range { IfOk result PlaysInRange }
+    ensures kinds { FailsBy
+        (playing_kinds (playing_by seed (option_map (λ asked. asked.now) text.entry))) result }
 {
-    Ok(
-        bare_command(alloc)?
-            .arg(workers(alloc))?
-            .arg(chart(alloc))?
-            .arg(file(alloc))?,
-    )
+    if let Some(seed) = seed {
+        return Ok(Playing::InOrder(seed));
+    }
+    let Some(text) = text else {
+        return Ok(Playing::Threads);
+    };
+    if let Some(orders) = orders_asked(text) {
+        return Ok(Playing::Each(orders));
+    }
+    let message = format!(in alloc;
+        "invalid value '{text}' for '--orders <N>': neither in 1..={MOST_ORDERS} nor all"
+    )?;
+    Err(refusal(alloc, ErrorKind::ValueValidation, message.as_str())?)
+}
+
+/// What is printed.
+fn output_asked(matches: &ArgMatches) -> Output
+    ensures { result ≡ output_of (rows_of (found_of matches.now)) }
+{
+    if given(matches, "chart") {
+        Output::Chart
+    } else if given(matches, "quiet") {
+        Output::Quiet
+    } else {
+        Output::Transcript
+    }
+}
+
+/// The paths of the scripts, in their order. Fails only when memory runs out.
+fn paths_asked<'a>(alloc: Global, matches: &ArgMatches<'a>) -> Result<Vec<&'a str>, AllocError>
+    ensures { IfOk result
+        (λ paths. map (λ path. path.now) paths.items ≡ paths_of (rows_of (found_of matches.now))) }
+{
+    match matches.get_strs("FILE") {
+        Some(paths) => Vec::from_slice(alloc, paths),
+        None => Ok(Vec::new(alloc)),
+    }
 }
 
 impl<'a> Options<'a> {
     /// Reads the words of a command line. The first is the program's name.
     ///
-    /// Refused, with the text to print, if they are no such command line, or ask for help or the version; and
-    /// when memory runs out.
+    /// Refused, with the text to print, in this order: if the words are no such command line, or ask for help
+    /// or the version; if two options exclude each other; and if the text of `--orders` is neither `all` nor
+    /// a number from 1 to `MOST_ORDERS`. Refused also when memory runs out.
     pub fn read(alloc: Global, words: &'a [String]) -> Result<Options<'a>, Error>
-        ensures path { IfOk result (λ options. options.path.now ≡ file_text (word_texts words.entry.now)) }
-        ensures workers { IfOk result
-            (λ options. AsksFor (workers_text (word_texts words.entry.now)) options.workers) }
+        ensures workers { IfOk result (λ options. options.workers ≡ workers_of (found words.entry.now)) }
         ensures range { IfOk result (λ options. (1 ≤ options.workers) × (options.workers ≤ MOST_WORKERS)) }
-        ensures chart { IfOk result
-            (λ options. AsksForChart (chart_word (word_texts words.entry.now)) options.chart) }
-        ensures kinds { FailsBy (fault_of command_line (word_texts words.entry.now)) result }
+        ensures playing { IfOk result (λ options. Some options.playing ≡ playing_of (found words.entry.now)) }
+        ensures orders { IfOk result (λ options. PlaysInRange options.playing) }
+        ensures output { IfOk result (λ options. options.output ≡ output_of (found words.entry.now)) }
+        ensures paths { IfOk result
+            (λ options. map (λ path. path.now) options.paths.items ≡ paths_of (found words.entry.now)) }
+        ensures kinds { FailsBy (refusals words.entry.now) result }
     {
         let matches = command(alloc)?.try_get_matches_from(words)?;
-        let workers = matches.get_one::<u32>("workers");
+        check_excluded(alloc, &matches)?;
+        let seed = matches.get_one::<u64>("order");
         Ok(Options {
-            workers: workers.unwrap_or(DEFAULT_WORKERS),
-            chart: matches.get_flag("chart"),
-            path: matches.get_str("FILE").unwrap_or_default(),
+            workers: matches.get_one::<u32>("workers").unwrap_or(DEFAULT_WORKERS),
+            playing: playing_asked(alloc, seed, matches.get_str("orders"))?,
+            output: output_asked(&matches),
+            paths: paths_asked(alloc, &matches)?,
         })
     }
 }

@@ -1,0 +1,2 @@
+# A carriage return before the line feed is no part of the line.
+printf 'process p\r\nread s:a\r\n'

@@ -1,6 +1,11 @@
--- Orders and tallies, computed: who goes next of three that take one step each, and what three runs gave.
-use Rattle.std.proofs.Common.{◌≡◌, ℕ, ◌%◌, Bool, true, false, List, [], ◌∷◌, Some, codes, refl}
+-- Orders and tallies, computed: who goes next of three that take one step each, the orders of a process that
+-- awaits a feed, and what four runs gave.
+use Rattle.std.proofs.Common.{◌≡◌, ℕ, ◌%◌, Bool, true, false, List, [], ◌∷◌, Some, None, codes, refl}
 use Rattle.rand_pcg.specs.Pcg.{pcg32}
+use Rattle.strm_script_orders.specs.declared.listed.Choice.{Choice}
+use Rattle.strm_script_orders.specs.Choices.{successor}
+use Rattle.strm_script_orders.specs.Counting.{orders_of}
+use Rattle.strm_script_orders.specs.Lanes.{LaneValue, goers, order_text, steps_left}
 use Rattle.strm_script_orders.specs.Drawn.{generator_of}
 use Rattle.strm_script_orders.specs.Tally.{GivenValue, Run, tally_of}
 use Rattle.strm_script_orders.specs.Difference.{difference, lines_of}
@@ -23,6 +28,31 @@ first_then_third = refl
 
 third_then_first : choices 3 ≡ 2 ∷ 0 ∷ []
 third_then_first = refl
+
+-- the next choices in lexicographic order
+abbrev choice : ℕ → ℕ → Choice
+choice one many = record { one = one; many = many }
+
+the_second_goes_first : successor (choice 0 2 ∷ choice 1 2 ∷ choice 0 1 ∷ []) ≡ Some (choice 1 2 ∷ [])
+the_second_goes_first = refl
+
+nobody_else_goes : successor (choice 1 2 ∷ choice 0 1 ∷ []) ≡ None
+nobody_else_goes = refl
+
+-- a process that awaits the messages of a feed before its second call, and that feed
+abbrev lanes : List LaneValue
+lanes =
+    record { name = codes "p"; feeds = None; steps = 2; taken = 0; awaits = record { call = 1; stream = 3 } ∷ [] }
+    ∷ record { name = codes "n"; feeds = Some 3; steps = 1; taken = 0; awaits = [] }
+    ∷ []
+
+two_orders : orders_of lanes ≡ 2
+unfolding orders_of steps_left goers
+two_orders = refl
+
+their_spelling : order_text lanes (0 ∷ 0 ∷ 0 ∷ []) ≡ codes "p,feed:n,p"
+unfolding goers
+their_spelling = refl
 
 -- ---- tallies
 

@@ -7,5 +7,6 @@ pub mod Lanes
 pub mod Choices
 pub mod Inside
 pub mod Counting
+pub mod Free
 pub mod Spelt
 pub mod Fault

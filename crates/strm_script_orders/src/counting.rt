@@ -28,7 +28,8 @@ fn play_out(lanes: &mut Lanes, order: &mut ListedOrder)
 }
 
 /// The number of orders that there are, or one more than the limit if there are more than the limit, which is
-/// below 2^63. All orders are walked through for it, so it takes the time of as many plays.
+/// below 2^63. It is a product, unless a process awaits a feed; then orders are walked through one after
+/// another, which takes the time of as many plays.
 ///
 /// Fails only when memory runs out. Some have taken steps then, or all.
 pub fn count(alloc: Global, lanes: &mut Lanes, limit: u64) -> Result<u64, NoMem>
@@ -37,6 +38,9 @@ pub fn count(alloc: Global, lanes: &mut Lanes, limit: u64) -> Result<u64, NoMem>
     ensures same { at_start lanes.new ≡ at_start lanes.old }
 {
     lanes.start_again();
+    if let Some(count) = lanes.free_count() {
+        return Ok(count.min(limit + 1));
+    }
     let mut order = ListedOrder::new(alloc, lanes.steps_left())?;
     let mut count = 0;
     while count <= limit {

@@ -1,13 +1,16 @@
 //! Who may go next in a script: its processes, call by call, and its feeds, message by message.
 ghost use Rattle.std.specs.Prelude.{◌≡◌, ◌++◌, ◌+◌, ◌-◌, ◌<◌, ◌&&◌, ◌^◌, [], None, OnOk, OnSome, Some};
-ghost use Rattle.std.specs.Prelude.{IfOk, IfSome, length, map, min, slice_get};
+ghost use Rattle.std.specs.Prelude.{IfOk, IfSome, IsSome, length, map, min, nat_eq, slice_get, true};
 ghost use Rattle.std.specs.Str.{bytes_eq};
+ghost use Rattle.strm_script_orders.specs.Counting.{orders_of};
+ghost use Rattle.strm_script_orders.specs.Free.{is_free};
 ghost use Rattle.strm_script_orders.specs.Lanes as says;
 ghost use Rattle.strm_script_orders.specs.Lanes.{as_before, at_start, goers, order_text, steps_left};
 ghost use Rattle.strm_script_orders.specs.Lanes.{stepped, stepped_by, with_step, word_of};
 ghost use Rattle.strm_script_orders.specs.Spelt.{choice_by, named, rank_of, stuck_cause};
 
 use crate::fault::OrderCause;
+use crate::free::{are_free, free_orders};
 use crate::listed::Choice;
 use std::alloc::Global;
 use std::marker::Model;
@@ -83,10 +86,17 @@ impl Lane {
     }
 
     /// The number of steps that it has left.
-    fn left(&self) -> usize
+    pub(crate) fn left(&self) -> usize
         ensures { result ≡ says.left_of self.now }
     {
         self.steps.saturating_sub(self.taken)
+    }
+
+    /// Whether it awaits no feed.
+    pub(crate) fn awaits_nobody(&self) -> bool
+        ensures { result ≡ nat_eq (length self.now.awaits) 0 }
+    {
+        self.awaits.is_empty()
     }
 
     /// Whether it is a feed of this stream that has a message left.
@@ -336,6 +346,18 @@ impl Lanes {
             steps = steps.saturating_add(lane.left());
         }
         steps
+    }
+
+    /// The number of orders of the steps that are left, or 2^64 - 1 if there are more; nothing if a process
+    /// awaits a feed, or 2^64 - 1 steps are left. It is a product, and no order is walked through for it.
+    pub fn free_count(&self) -> Option<u64>
+        ensures count { IfSome result (λ count. count ≡ min (orders_of self.now) (2 ^ 64 - 1)) }
+        ensures free { is_free self.now ≡ true → steps_left self.now < 2 ^ 64 - 1 → IsSome result }
+    {
+        if self.steps_left() == usize::MAX || !are_free(self.lanes.as_slice()) {
+            return None;
+        }
+        Some(free_orders(self.lanes.as_slice()))
     }
 
     /// Takes all steps back.

@@ -4,6 +4,7 @@
 mod counting;
 mod drawn;
 mod fault;
+mod free;
 mod lanes;
 mod lines;
 mod listed;

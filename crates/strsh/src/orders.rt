@@ -1,4 +1,6 @@
 //! The playing of a script in many orders.
+ghost use Rattle.std.specs.Prelude.{◌<◌, ◌^◌};
+
 use crate::lanes::lanes_of;
 use crate::playing::{BUFFER, UNMET, missed, not_put, script, shown_name};
 use crate::refusal::Refusal;
@@ -11,7 +13,7 @@ use strm_module::{BoxedModule, Plain};
 use strm_msg::NoMem;
 use strm_run_input::Order;
 use strm_script::{Plan, parse_made, play_plan_in_order, print};
-use strm_script_orders::{DrawnOrder, ListedOrder, Tally, count};
+use strm_script_orders::{DrawnOrder, Lanes, ListedOrder, Tally, count};
 use strsh_options::{Fault, Orders};
 
 /// The most orders that are played where each order is asked for.
@@ -57,19 +59,16 @@ fn tally_drawn<R: Threads + Wait + Sync>(
     Ok(tally)
 }
 
-/// Plays a script in each order once; nothing if there are more than `MOST_LISTED`.
+/// Plays a script in each of its orders once: `many` of them, which these lanes take.
 fn tally_listed<R: Threads + Wait + Sync>(
     rt: &R,
     alloc: Global,
     bytes: &[u8],
-    plan: Plan<BoxedModule<Plain>>,
-) -> Result<Option<Tally>, Fault> {
-    let mut lanes = lanes_of(alloc, plan).map_err(no_memory)?;
-    let many = count(alloc, &mut lanes, MOST_LISTED).map_err(no_memory)?;
-    if many > MOST_LISTED {
-        return Ok(None);
-    }
-    lanes.start_again();
+    lanes: &mut Lanes,
+    many: u64,
+) -> Result<Tally, Fault>
+    requires { many < 2 ^ 63 }
+{
     let mut order = ListedOrder::new(alloc, lanes.steps_left()).map_err(no_memory)?;
     let mut tally = Tally::new(alloc);
     for _ in 0..many {
@@ -78,16 +77,63 @@ fn tally_listed<R: Threads + Wait + Sync>(
         tally.add(alloc, label, text, is_unmet).map_err(no_memory)?;
         let _ = order.advance();
     }
-    Ok(Some(tally))
+    Ok(tally)
 }
 
-/// Prints a tally, to the last byte.
-fn put_tally<R: Print>(rt: &R, alloc: Global, tally: &Tally) -> Result<(), Fault> {
+/// Prints a tally, to the last byte, and returns the exit status: 3 if an order had an expected reply that was
+/// not met, else 0.
+fn put_tally<R: Print>(rt: &R, alloc: Global, tally: &Tally) -> Result<u8, Fault> {
     let Ok(mut out) = BufWriter::with_capacity(alloc, BUFFER, io::writer(rt)) else {
         return Err(Fault::no_memory());
     };
     tally.put(&mut out).map_err(not_put)?;
-    out.flush().map_err(not_put)
+    out.flush().map_err(not_put)?;
+    Ok(if tally.unmet() == 0 { 0 } else { UNMET })
+}
+
+/// Prints that there are more orders than are played, and how many there are, if that is known and below
+/// 2^64 - 1. Returns the exit status 1.
+fn put_too_many<R: Print>(rt: &R, number: Option<u64>) -> Result<u8, Fault> {
+    let put = match number {
+        Some(number) if number < u64::MAX => {
+            print!(rt; "strsh: {number} orders, more than {MOST_LISTED}\n")
+        }
+        _ => print!(rt; "strsh: more than {MOST_LISTED} orders\n"),
+    };
+    match put {
+        Ok(()) => Ok(TOO_MANY),
+        Err(_) => Err(Fault::Write),
+    }
+}
+
+/// Plays a script, whose plan this is, in each order once, and prints which transcripts they gave. None is
+/// played where there are more than `MOST_LISTED`. Returns the exit status.
+fn play_all<R: Print + Threads + Wait + Sync>(
+    rt: &R,
+    alloc: Global,
+    bytes: &[u8],
+    plan: Plan<BoxedModule<Plain>>,
+) -> Result<u8, Fault> {
+    let mut lanes = lanes_of(alloc, plan).map_err(no_memory)?;
+    let many = count(alloc, &mut lanes, MOST_LISTED).map_err(no_memory)?;
+    lanes.start_again();
+    if many > MOST_LISTED {
+        return put_too_many(rt, lanes.free_count());
+    }
+    let tally = tally_listed(rt, alloc, bytes, &mut lanes, many)?;
+    put_tally(rt, alloc, &tally)
+}
+
+/// Plays a script in the first orders that are drawn, and prints which transcripts they gave. Returns the exit
+/// status.
+fn play_drawn<R: Print + Threads + Wait + Sync>(
+    rt: &R,
+    alloc: Global,
+    bytes: &[u8],
+    many: u32,
+) -> Result<u8, Fault> {
+    let tally = tally_drawn(rt, alloc, bytes, many)?;
+    put_tally(rt, alloc, &tally)
 }
 
 /// Plays a script, whose plan this is, in many orders, and prints which transcripts they gave. Returns the
@@ -100,21 +146,13 @@ fn play_each<R: Print + Threads + Wait + Sync>(
     plan: Plan<BoxedModule<Plain>>,
     orders: Orders,
 ) -> Result<u8, Fault> {
-    let tally = match orders {
+    match orders {
         Orders::First(many) => {
             drop(plan);
-            Some(tally_drawn(rt, alloc, bytes, many)?)
+            play_drawn(rt, alloc, bytes, many)
         }
-        Orders::All => tally_listed(rt, alloc, bytes, plan)?,
-    };
-    let Some(tally) = tally else {
-        return match print!(rt; "strsh: more than {MOST_LISTED} orders\n") {
-            Ok(()) => Ok(TOO_MANY),
-            Err(_) => Err(Fault::Write),
-        };
-    };
-    put_tally(rt, alloc, &tally)?;
-    Ok(if tally.unmet() == 0 { 0 } else { UNMET })
+        Orders::All => play_all(rt, alloc, bytes, plan),
+    }
 }
 
 /// Plays the script at a path in many orders, and prints which transcripts they gave. Returns the exit status.

@@ -58,6 +58,18 @@ const OF_WAITING: &[u8] = b"p,q,feed:n,feed:n,p\n\
     feed:n,feed:n,p,p,q\nfeed:n,feed:n,p,q,p\n\
     feed:n,feed:n,q,p,p\n";
 
+/// The calls of processes, and the number of their orders: the last is more than 2^64.
+const COUNTED: [(&[usize], u64); 8] = [
+    (&[], 1),
+    (&[9], 1),
+    (&[0, 0, 0], 1),
+    (&[1, 1, 1], 6),
+    (&[3, 3, 3], 1_680),
+    (&[1, 1_000_000], 1_000_001),
+    (&[30, 30], 118_264_581_564_861_424),
+    (&[40, 40], u64::MAX),
+];
+
 /// Orders of these that are wrong, with the step and the cause.
 const WRONG: [(&[u8], u64, OrderCause); 9] = [
     (b"", 1, OrderCause::Ended),
@@ -76,17 +88,18 @@ fn bytes(rt: &impl Abort, alloc: Global, text: &[u8]) -> Vec<u8> {
     Vec::from_slice(alloc, text).expect(rt, "no memory")
 }
 
-/// A process of this name, with so many calls.
-fn process(rt: &impl Abort, alloc: Global, name: u8, calls: usize) -> Lane {
-    Lane::of_process(bytes(rt, alloc, &[name]), calls, Vec::new(alloc))
+/// A process of this name, with so many calls, that awaits these feeds.
+fn process(rt: &impl Abort, alloc: Global, name: u8, calls: usize, awaits: &[Await]) -> Lane {
+    let awaits = Vec::from_slice(alloc, awaits).expect(rt, "no memory");
+    Lane::of_process(bytes(rt, alloc, &[name]), calls, awaits)
 }
 
-/// Three processes of so many calls each.
-fn three(rt: &impl Abort, alloc: Global, calls: usize) -> Lanes {
+/// Processes of so many calls each, that await these feeds.
+fn processes(rt: &impl Abort, alloc: Global, calls: &[usize], awaits: &[Await]) -> Lanes {
     let mut lanes = Vec::new(alloc);
-    for name in [b'p', b'q', b'r'] {
+    for (calls, name) in calls.iter().zip([b'p', b'q', b'r']) {
         lanes
-            .push(process(rt, alloc, name, calls))
+            .push(process(rt, alloc, name, *calls, awaits))
             .ok()
             .expect(rt, "no memory");
     }
@@ -97,10 +110,10 @@ fn three(rt: &impl Abort, alloc: Global, calls: usize) -> Lanes {
 /// the feed. It also awaits a stream without a feed, which nobody waits for.
 fn waiting(rt: &impl Abort, alloc: Global) -> Lanes {
     let awaits = [Await { call: 0, stream: 7 }, Await { call: 1, stream: 3 }];
-    let awaits = Vec::from_slice(alloc, &awaits).expect(rt, "no memory");
-    let p = Lane::of_process(bytes(rt, alloc, b"p"), 2, awaits);
+    let p = process(rt, alloc, b'p', 2, &awaits);
+    let q = process(rt, alloc, b'q', 1, &[]);
     let feed = Lane::of_feed(alloc, bytes(rt, alloc, b"n"), 3, 2);
-    let lanes = vec![in alloc; p, process(rt, alloc, b'q', 1), feed].expect(rt, "no memory");
+    let lanes = vec![in alloc; p, q, feed].expect(rt, "no memory");
     Lanes::of(lanes)
 }
 
@@ -173,7 +186,7 @@ fn a_seed_draws_its_order(rt: HostRuntime) {
 #[test]
 fn each_order_is_listed_once(rt: HostRuntime) {
     let alloc: Global = rt.alloc();
-    let mut lanes = three(&rt, alloc, 1);
+    let mut lanes = processes(&rt, alloc, &[1, 1, 1], &[]);
     assert!(rt; listed(&rt, alloc, &mut lanes).as_slice() == OF_THREE);
     let mut lanes = waiting(&rt, alloc);
     assert!(rt; listed(&rt, alloc, &mut lanes).as_slice() == OF_WAITING);
@@ -214,24 +227,25 @@ fn a_wrong_order_has_a_step_and_a_cause(rt: HostRuntime) {
 }
 
 #[test]
-fn orders_are_counted_up_to_a_limit(rt: HostRuntime) {
+fn orders_are_counted(rt: HostRuntime) {
     let alloc: Global = rt.alloc();
-    for (calls, limit, many) in [(0, 9, 1), (1, 6, 6), (2, 100_000, 90), (3, 1_000, 1_001)] {
-        let mut lanes = three(&rt, alloc, calls);
-        assert_eq!(rt;
-            count(alloc, &mut lanes, limit).ok(),
-            Some(many),
-            "{calls} calls"
-        );
+    for (calls, many) in COUNTED {
+        let lanes = processes(&rt, alloc, calls, &[]);
+        assert_eq!(rt; lanes.free_count(), Some(many), "{calls:?}");
     }
+    assert!(rt; waiting(&rt, alloc).free_count().is_none());
     assert!(rt; count(alloc, &mut waiting(&rt, alloc), 100).ok() == Some(15));
 }
 
 #[test]
-fn three_processes_of_three_calls_have_1680_orders(rt: HostRuntime) {
+fn orders_are_walked_through_up_to_a_limit(rt: HostRuntime) {
     let alloc: Global = rt.alloc();
-    let mut lanes = three(&rt, alloc, 3);
-    assert!(rt; count(alloc, &mut lanes, 100_000).ok() == Some(1_680));
+    for (limit, many) in [(100_000, 1_680), (1_680, 1_680), (1_000, 1_001), (0, 1)] {
+        for awaits in [[].as_slice(), &[Await { call: 0, stream: 0 }]] {
+            let mut lanes = processes(&rt, alloc, &[3, 3, 3], awaits);
+            assert_eq!(rt; count(alloc, &mut lanes, limit).ok(), Some(many), "{limit}");
+        }
+    }
 }
 
 #[test]

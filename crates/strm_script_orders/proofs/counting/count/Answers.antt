@@ -50,3 +50,6 @@ returns-then-not-advance-clause-same c = c.play_out.ensures.same ∙ ap at_start
 
 pub returns-clause-same : goal.returns-clause-same
 returns-clause-same c = ap at_start c.loop-count.invariant.start ∙ started_twice c.args.lanes.now
+
+pub returns-in-Some-clause-same : goal.returns-in-Some-clause-same
+returns-in-Some-clause-same c = ap at_start c.start_again.ensures ∙ started_twice c.args.lanes.now

@@ -16,6 +16,8 @@ pub use Rattle.strm_chain.specs.Service
 pub use Rattle.strm_head.specs.Effects
 pub use Rattle.strm_head.specs.Step
 pub use Rattle.strm_head_calls.specs.Setup
+pub use Rattle.strm_link.specs.Rule
+pub use Rattle.strm_link.specs.Link
 pub use Rattle.strm_run_input.specs.Scripts
 pub use Rattle.strm_run_input.specs.Resolve
 pub use Rattle.strm_shared_log.specs.Opened

@@ -28,7 +28,7 @@ use Rattle.strm_shared_entry.specs.declared.transcript.StreamLog.{StreamLog}
 use Rattle.strm_run_input.specs.Scripts.{calls_on, script_of, feed_of}
 use Rattle.strm_run_callers.specs.RunName.{RunValue}
 use Rattle.strm_run_callers.specs.Transcript.{AreLogs, IsFed, IsLog}
-use Rattle.strm_run_callers.specs.Feeding.{IsSubsequence}
+use Rattle.strm_link.specs.Subsequence.{IsSubsequence}
 use Rattle.strm_run_callers.specs.Account.{AccountValue}
 use Rattle.strm_run_callers.specs.Play.{ArePlayed, AreStreams, HasPlayed}
 use Rattle.strm_run.specs.Inside.Table.{IsTransposed}

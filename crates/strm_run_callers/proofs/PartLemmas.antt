@@ -1,7 +1,7 @@
 -- Parts of a list of messages, one message on.
 use Rattle.std.proofs.Common.{List, [], ◌∷◌, ◌++◌, refl, ap, inl, inr}
 use Rattle.strm_msg.specs.Message.{Msg}
-use Rattle.strm_run_callers.specs.Feeding.{IsSubsequence}
+use Rattle.strm_link.specs.Subsequence.{IsSubsequence}
 
 pub nothing_part : IsSubsequence [] []
 nothing_part = refl

@@ -1,15 +1,11 @@
 -- The feeders of a run, while it goes on.
-use Rattle.std.specs.Prelude.{◌≡◌, ℕ, ◌+◌, ◌<◌, ◌⊎◌, ◌^◌, true, List, [], ◌∷◌, ◌++◌, length, All}
+use Rattle.std.specs.Prelude.{◌≡◌, ℕ, ◌+◌, ◌<◌, ◌^◌, true, List, [], ◌∷◌, ◌++◌, length, All}
 use Rattle.strm_msg.specs.Message.{Msg}
 use Rattle.strm_msg.specs.Kind.{is_from_line}
 use Rattle.strm_shared_ring.specs.Feed.{FeedValue}
 use Rattle.strm_run_input.specs.Scripts.{feed_of}
 use Rattle.strm_run_callers.specs.RunName.{RunValue}
-
--- whether the first are a subsequence of the others: these, but for some that were left out
-abbrev pub IsSubsequence : List Msg → List Msg → Type 0
-IsSubsequence part [] = part ≡ []
-IsSubsequence part (m ∷ rest) = IsSubsequence part rest ⊎ ((others : List Msg) × (part ≡ m ∷ others) × IsSubsequence others rest)
+use Rattle.strm_link.specs.Subsequence.{IsSubsequence}
 
 -- a feeder, by the number of its stream and the messages that it is still to offer
 pub record FeedingValue : Type 0 where

@@ -13,7 +13,7 @@ use Rattle.strm_shared_entry.specs.declared.transcript.StreamLog.{StreamLog}
 use Rattle.strm_shared_log.specs.Opened.{opened}
 use Rattle.strm_run_input.specs.Scripts.{calls_on, script_of, feed_of}
 use Rattle.strm_shared_ended.specs.Left.{names_at}
-use Rattle.strm_run_callers.specs.Feeding.{IsSubsequence}
+use Rattle.strm_link.specs.Subsequence.{IsSubsequence}
 use Rattle.strm_run_callers.specs.RunName.{RunValue}
 
 -- the messages that came in are the beginning of those that were accepted, which are a part of the feed; the

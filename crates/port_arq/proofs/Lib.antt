@@ -1,0 +1,4 @@
+pub mod WorkedExamples
+pub mod LinkLemmas
+pub mod ArrivalLemmas
+pub mod FrameLemmas

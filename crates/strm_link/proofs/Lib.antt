@@ -1,0 +1,3 @@
+pub mod RuleLemmas
+pub mod LinkLemmas
+pub mod WorkedExamples

@@ -1,0 +1,6 @@
+pub mod Fault
+pub mod Rule
+pub mod Source
+pub mod Link
+pub mod Subsequence
+pub mod Laws

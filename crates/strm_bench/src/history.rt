@@ -23,6 +23,14 @@ fn request(alloc: Global, before: u64) -> Result<Request<BoxedModule<Plain>>, No
     Ok(Request::Write { dat })
 }
 
+/// An echo.
+const ECHO: Setup = Setup {
+    driver: Driver::Echo,
+    head: (16, 4),
+    drv: (16, 4),
+    ring: 1,
+};
+
 /// Makes the calls whose numbers are at least `from` and below `to`.
 fn make(alloc: Global, log: &mut Log<Plain>, from: u64, to: u64) -> Result<(), NoMem> {
     for before in from..to {
@@ -37,13 +45,7 @@ fn make(alloc: Global, log: &mut Log<Plain>, from: u64, to: u64) -> Result<(), N
 /// If they are timed, also prints the time of a write and a read.
 pub fn measure<R: Print + Clock + AllocGlobal>(rt: &R, is_timed: bool) -> anyhow::Result<()> {
     let alloc: Global = rt.alloc();
-    let setup = Setup {
-        driver: Driver::Echo,
-        head: (16, 4),
-        drv: (16, 4),
-        ring: 1,
-    };
-    let mut log: Log<Plain> = Log::new(alloc, setup)?;
+    let mut log: Log<Plain> = Log::new(alloc, ECHO)?;
     let mut made = 0;
     for before in MADE {
         make(alloc, &mut log, made, before)?;
@@ -57,5 +59,25 @@ pub fn measure<R: Print + Clock + AllocGlobal>(rt: &R, is_timed: bool) -> anyhow
         }
         println!(rt; "")?;
     }
+    Ok(())
+}
+
+/// Makes so many calls, so many times, and takes the history behind each time. Prints how many pieces came
+/// and how many entries they had.
+pub fn drain<R: Print + AllocGlobal>(rt: &R, times: u64, calls: u64) -> anyhow::Result<()> {
+    let alloc: Global = rt.alloc();
+    let (mut log, mut drain) = Log::<Plain>::with_drain(alloc, ECHO, 1)?;
+    let mut pieces: u64 = 0;
+    let mut entries: u64 = 0;
+    for time in 0..times {
+        let from = time.saturating_mul(calls);
+        make(alloc, &mut log, from, from.saturating_add(calls))?;
+        log.hand_out();
+        if let Some(piece) = drain.take()? {
+            pieces = pieces.saturating_add(1);
+            entries = entries.saturating_add(piece.entries().len() as u64);
+        }
+    }
+    println!(rt; "{times} times {calls} calls: {entries} entries in {pieces} pieces")?;
     Ok(())
 }

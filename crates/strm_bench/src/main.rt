@@ -4,7 +4,8 @@
 //! and with `--time` also the time that this takes. `script FILE WORKERS` prints the time that the script of
 //! a file takes. `moves FILE` prints the number of queues that moved after each of its calls, and of places
 //! at which service looked. `retry FILE OFFERS` makes its calls one after another, and repeats those for
-//! which memory ran out. `echo` plays a discipline that answers data that is typed.
+//! which memory ran out. `echo` plays a discipline that answers data that is typed. `drain TIMES CALLS`
+//! makes CALLS calls on a stream, TIMES times, and takes its history behind each time.
 #![tactic(auto)]
 
 mod echo;
@@ -22,7 +23,7 @@ use std::thread::Threads;
 
 /// The usage of the program.
 const USAGE: &str =
-    "strm_bench [--time | script FILE WORKERS | moves FILE | retry FILE OFFERS | echo]";
+    "strm_bench [--time | script FILE WORKERS | moves FILE | retry FILE OFFERS | echo | drain TIMES CALLS]";
 
 /// A word of the command line.
 fn word(words: &[String], i: usize) -> &str {
@@ -51,6 +52,10 @@ fn measure<R: Files + Print + Clock + Threads + Wait + AllocGlobal + Sync>(
     }
     if first == "echo" && many == 2 {
         return echo::play(rt);
+    }
+    if first == "drain" && many == 4 {
+        let times = word(words, 2).parse::<u64>()?;
+        return history::drain(rt, times, word(words, 3).parse::<u64>()?);
     }
     if is_timed || many == 1 {
         queue::measure(rt, is_timed)?;

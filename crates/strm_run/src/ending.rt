@@ -61,7 +61,9 @@ where
         }
         Err(EndFault::NoReceipt) => Err(RunFault::NoReceipt),
         Err(EndFault::NoMem) => Err(RunFault::NoMem),
-        Err(EndFault::Seats | EndFault::Unfinished) => Err(RunFault::Unfinished),
+        Err(EndFault::Seats | EndFault::Unfinished | EndFault::Drained) => {
+            Err(RunFault::Unfinished)
+        }
     }
 }
 

@@ -18,7 +18,7 @@ use Rattle.strm_shared_entry.specs.declared.call.Called.TheVariants.{Done, NoRoo
 use Rattle.strm_shared_entry.specs.Entry.{came_in}
 use Rattle.strm_shared_entry.specs.Called.{is_done}
 use Rattle.strm_shared_entry.specs.Own.{arrivals}
-use Rattle.strm_shared_log.specs.Log.{LogValue, HasLanded, CallsBy, IsSameLog}
+use Rattle.strm_shared_log.specs.Log.{LogValue, HandsOutIf, HasLanded, CallsBy, IsSameLog}
 use Rattle.strm_shared_log.proofs.LogLemmas.{landed_same, same_log, same_logs}
 use Rattle.strm_shared_ring.specs.Inlet.{InletValue}
 use Rattle.strm_shared_ring.specs.StreamRunName.{IsNextOf}
@@ -142,6 +142,16 @@ same_locked calls number old new turns inlet same was = record {
   of = was.of;
   fed = rw same.setup was.fed;
 }
+
+-- so does handing out
+pub handed_locked : {K : Type 0} (calls : ℕ → ℕ → Option (List (End × Event (Shape K)))) (number : ℕ) (old new : LogValue K) (b : Bool) (turns : CallCountsValue) (inlet : InletValue) → HandsOutIf b old new → IsSharedState (calls number) number old turns inlet → IsSharedState (calls number) number new turns inlet
+handed_locked calls number old new true turns inlet handed was = record {
+  in_turn = rw handed.history was.in_turn;
+  came_in = rw handed.history was.came_in;
+  of = was.of;
+  fed = rw handed.setup was.fed;
+}
+handed_locked calls number old new false turns inlet same was = same_locked calls number old new turns inlet same was
 
 -- a message that was handed back is held
 pub held_is : (m same : Msg) (inlet taken after : InletValue) → same ≡ m → taken ≡ record inlet { came = inlet.came ++ m ∷ []; held = None } → ((before : List Msg) → taken.came ≡ before ++ same ∷ [] → after ≡ record taken { came = before; held = Some same }) → after.held ≡ Some m

@@ -102,22 +102,22 @@ module _ {K : Type 0} (means : Meaning K) where
   legal_then image [] second between after is legal = subst (λ (i : Image K). Legal means i second after) is legal
   legal_then image (entry ∷ rest) second between after is legal = (is.0, is.1, legal_then is.0 rest second between after is.2 legal)
 
-  -- steps were made, which the history has behind those that it had
+  -- steps were made, which are kept behind those that were
   record Grows (old new : LogValue K) : Type 0 where
     steps : List (Entry K)
-    history : new.history ≡ old.history ++ steps
+    kept : new.kept ≡ old.kept ++ steps
     legal : Legal means old.image steps new.image
 
   grows_same : (old new : LogValue K) → IsSameLog old new → Grows old new
-  grows_same old new same = record { steps = []; history = same.history ∙ sym (append-nil old.history); legal = same.image }
+  grows_same old new same = record { steps = []; kept = same.kept ∙ sym (append-nil old.kept); legal = same.image }
 
   grows_enters : (old new : LogValue K) (maker : Who) (at_end : End) (happened : Event (Shape K)) (answered : Answer) → Enters means old maker at_end happened answered new → Grows old new
-  grows_enters old new maker at_end happened answered enters = record { steps = enters.entry ∷ []; history = enters.history; legal = (new.image, enters.step, refl) }
+  grows_enters old new maker at_end happened answered enters = record { steps = enters.entry ∷ []; kept = enters.kept; legal = (new.image, enters.step, refl) }
 
   grows_then : (old between new : LogValue K) → Grows old between → Grows between new → Grows old new
   grows_then old between new first second = record {
     steps = first.steps ++ second.steps;
-    history = second.history ∙ ap (λ (l : List (Entry K)). l ++ second.steps) first.history ∙ append_assoc old.history first.steps second.steps;
+    kept = second.kept ∙ ap (λ (l : List (Entry K)). l ++ second.steps) first.kept ∙ append_assoc old.kept first.steps second.steps;
     legal = legal_then old.image first.steps second.steps between.image new.image first.legal second.legal;
   }
 
@@ -138,13 +138,13 @@ module _ {K : Type 0} (means : Meaning K) where
   grows_found old (Done has back receipt) before held all = grows_takes old before all.comes.came all.comes.takes
   grows_found old (NoRoom same) before held back = grows_back old before held back
 
-  quiet_grows : (old new : LogValue K) → Grows old new → (HasNews (length old.history) new.history → ⊥) → new.image ≡ old.image
+  quiet_grows : (old new : LogValue K) → Grows old new → (HasNews (length old.kept) new.kept → ⊥) → new.image ≡ old.image
   quiet_grows old new grows none =
-      let is : drop (length old.history) new.history ≡ grows.steps = ap (λ (l : List (Entry K)). drop (length old.history) l) grows.history ∙ drop-append_seam old.history grows.steps in
+      let is : drop (length old.kept) new.kept ≡ grows.steps = ap (λ (l : List (Entry K)). drop (length old.kept) l) grows.kept ∙ drop-append_seam old.kept grows.steps in
       let quiet : list_any may_change grows.steps ≡ false = none_false _ (λ some. none (subst (λ (l : List (Entry K)). Any (λ e. may_change e ≡ true) l) (sym is) (Any-from_list_any may_change grows.steps some))) in
       quiet_legal old.image grows.steps new.image grows.legal quiet
 
   -- a call after messages that came in
-  pub quiet_after : {A : Type 0} (Agrees : A → Answer → Type 0) (old : LogValue K) (caller number : ℕ) (call : Call (Shape K)) (result : Called (Shape K) K A) (new : LogValue K) (held : Option Msg) → CallsAfter means Agrees old caller number call result new held → (HasNews (length old.history) new.history → ⊥) → new.image ≡ old.image
+  pub quiet_after : {A : Type 0} (Agrees : A → Answer → Type 0) (old : LogValue K) (caller number : ℕ) (call : Call (Shape K)) (result : Called (Shape K) K A) (new : LogValue K) (held : Option Msg) → CallsAfter means Agrees old caller number call result new held → (HasNews (length old.kept) new.kept → ⊥) → new.image ≡ old.image
   quiet_after Agrees old caller number call result new held after none =
       quiet_grows old new (grows_then old after.before new (grows_found old result after.before held after.finds) (grows_call Agrees after.before caller number call result new after.calls)) none

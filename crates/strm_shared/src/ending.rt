@@ -72,9 +72,11 @@ pub(crate) fn have_ended<M: ModuleOf, N: StreamRunName<M::Kind>>(
     ensures fed { OnOk result (is_fed number setup feed.now ≡ true) }
     ensures seated { OnOk result (AreSeats number callers seats.now) }
     ensures shown { OnOk result (AreShown seats.now) }
+    ensures whole { OnOk result (locked.now.log.kept ≡ locked.now.log.history) }
     ensures seats { IsErrOf result EndFault.Seats ↔ (AreSeats number callers seats.now → ⊥) }
     ensures unfinished { IsErrOf result EndFault.Unfinished → IsUnfinished number setup callers locked.now seats.now feed.now }
     ensures no_receipt { IsErrOf result EndFault.NoReceipt → IsUnshown number setup callers locked.now seats.now feed.now }
+    ensures drained { IsErrOf result EndFault.Drained → AreShown seats.now }
     ensures memory { IsErrOf result EndFault.NoMem → ⊥ }
 {
     if !are_seats(number, callers, seats) {
@@ -89,10 +91,13 @@ pub(crate) fn have_ended<M: ModuleOf, N: StreamRunName<M::Kind>>(
     if !are_shown(seats) {
         return Err(EndFault::NoReceipt);
     }
+    if !locked.is_whole() {
+        return Err(EndFault::Drained);
+    }
     Ok(())
 }
 
-/// The end of a shared stream that has ended. Fails only when memory runs out.
+/// The end of a shared stream that has ended, with its whole history. Fails only when memory runs out.
 pub(crate) fn left_of<M: ModuleOf, N: StreamRunName<M::Kind>>(
     alloc: Global,
     callers: u32,
@@ -102,6 +107,7 @@ pub(crate) fn left_of<M: ModuleOf, N: StreamRunName<M::Kind>>(
     requires in_turn { locked.turns.in_turn ≡ true }
     requires counts { length locked.turns.counts ≡ callers }
     requires fed { is_fed locked.number locked.log.setup feed ≡ true }
+    requires whole { locked.log.kept ≡ locked.log.history }
     ensures legal { IfOk result (λ ended. IsLegalEnd M.Kind.means locked.log.setup ended) }
     ensures in_turn { IfOk result (λ ended. AreInTurn (N.calls locked.number) locked.turns.counts ended.history) }
     ensures arrived { IfOk result (λ ended. HasAccepted ended feed) }

@@ -19,11 +19,14 @@ pub enum EndFault {
     /// A call that was made has no receipt: its entry has no second holder, which no test has met. Looked at
     /// third.
     NoReceipt,
+    /// A part of the history was handed out to the drain, so that what is kept is no whole history. Looked
+    /// at fourth.
+    Drained,
 }
 
 impl EndFault {
     /// The number of the fault: 1 for seats, 2 for unfinished, 3 for out of memory, 4 for a call without a
-    /// receipt.
+    /// receipt, 5 for drained.
     pub fn number(self) -> u8
         ensures { result ≡ end_number self }
     {
@@ -32,6 +35,7 @@ impl EndFault {
             EndFault::Unfinished => 2,
             EndFault::NoMem => 3,
             EndFault::NoReceipt => 4,
+            EndFault::Drained => 5,
         }
     }
 
@@ -44,6 +48,7 @@ impl EndFault {
             EndFault::Unfinished => "a caller or the feeder has not ended",
             EndFault::NoMem => "no memory",
             EndFault::NoReceipt => "a call has no receipt",
+            EndFault::Drained => "a part of the history was handed out",
         }
     }
 }

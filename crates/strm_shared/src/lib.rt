@@ -19,7 +19,7 @@ pub use seat::Seat;
 pub use shared::Shared;
 pub use strm_shared_ended::Ended;
 pub use strm_shared_log::{
-    Call, Called, Entry, Kept, Landed, Log, MOST_RING, Receipt, SameKind, Setup, StreamLog,
-    Transcript, Who,
+    Call, Called, Drain, Entry, Kept, Landed, Log, MOST_RING, Piece, Receipt, SameKind, Setup,
+    StreamLog, Transcript, Who,
 };
 pub use strm_shared_ring::{AnyCalls, FeedEnd, Feeder, Inlet, Ring, RingFault, StreamRunName};

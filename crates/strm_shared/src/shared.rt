@@ -1,8 +1,9 @@
 //! A stream that several callers share.
-ghost use Rattle.std.specs.Prelude.{◌≡◌, ◌↔◌, ◌+◌, ◌<◌, ◌^◌, true, IfOk, OnOk, IsErrOf};
+ghost use Rattle.std.specs.Prelude.{◌≡◌, ◌↔◌, ◌+◌, ◌<◌, ◌^◌, true, IfOk, IfSome, IfNone, OnOk, OnErr, IsErrOf};
 ghost use Rattle.std.specs.Sync.Mutex.{mutex_guard_value};
 ghost use Rattle.strm_head_calls.specs.Setup.{is_fit};
-ghost use Rattle.strm_shared_log.specs.Log.{Equals};
+ghost use Rattle.strm_shared_log.specs.Log.{fresh_log, Equals};
+ghost use Rattle.strm_shared_log.specs.Piece.{fresh_drain, TakesNext};
 ghost use Rattle.strm_shared_log.specs.Serials.{AreAccounted};
 ghost use Rattle.strm_shared_log.specs.Opened.{opened};
 ghost use Rattle.strm_shared_ring.specs.Feed.{fresh_feeder};
@@ -23,7 +24,7 @@ use strm_head_calls::{ReplyAndCopy, ReplyForm};
 use strm_module::{BoxedModule, ModuleOf};
 use strm_msg::NoMem;
 use strm_shared_ended::Ended;
-use strm_shared_log::{Call, Called, EntryRoom, Setup, room_for};
+use strm_shared_log::{Call, Called, Drain, EntryRoom, Log, Piece, Setup, room_for};
 use strm_shared_ring::{AnyCalls, FeedEnd, Feeder, Ring, StreamRunName};
 
 /// A stream that several callers share.
@@ -77,14 +78,70 @@ impl<M: ModuleOf, N: StreamRunName<M::Kind>> Shared<M, N> {
         ensures seats { IfOk result (λ all. all.1.items ≡ fresh_seats number seats) }
         ensures feeder { IfOk result (λ all. all.2 ≡ fresh_feeder number ring.setup) }
     {
+        let Ok(log) = Log::new(alloc, ring.setup()) else {
+            drop(ring);
+            return Err(NoMem);
+        };
+        Shared::of_log(alloc, number, seats, ring, log)
+    }
+
+    /// Makes a stream as `new` does, with a drain by which its history is taken while it goes on (`drain`).
+    /// The drain counts the calls of each caller. Fails only when memory runs out.
+    pub fn with_drain(
+        alloc: Global,
+        number: u32,
+        seats: u32,
+        ring: Ring,
+    ) -> Result<
+        (
+            Shared<M, N>,
+            Vec<Seat>,
+            Option<Feeder<M::Kind, N>>,
+            Drain<M::Kind>,
+        ),
+        NoMem,
+    >
+        requires marks { is_fit ring.setup ≡ true }
+        requires name { ring.name ≡ N.ring number }
+        ensures shared { IfOk result (λ all. all.0 ≡ record { number = number; setup = ring.setup; seats = seats }) }
+        ensures seats { IfOk result (λ all. all.1.items ≡ fresh_seats number seats) }
+        ensures feeder { IfOk result (λ all. all.2 ≡ fresh_feeder number ring.setup) }
+        ensures drain { IfOk result (λ all. all.3 ≡ fresh_drain seats) }
+    {
+        let Ok((log, drain)) = Log::with_drain(alloc, ring.setup(), seats) else {
+            drop(ring);
+            return Err(NoMem);
+        };
+        let Ok((shared, all, feeder)) = Shared::of_log(alloc, number, seats, ring, log) else {
+            drop(drain);
+            return Err(NoMem);
+        };
+        Ok((shared, all, feeder, drain))
+    }
+
+    /// Makes a stream of a log that was just made by the setup of a ring.
+    fn of_log(
+        alloc: Global,
+        number: u32,
+        seats: u32,
+        ring: Ring,
+        log: Log<M>,
+    ) -> Result<(Shared<M, N>, Vec<Seat>, Option<Feeder<M::Kind, N>>), NoMem>
+        requires log { log ≡ fresh_log ring.setup }
+        requires name { ring.name ≡ N.ring number }
+        ensures shared { IfOk result (λ all. all.0 ≡ record { number = number; setup = ring.setup; seats = seats }) }
+        ensures seats { IfOk result (λ all. all.1.items ≡ fresh_seats number seats) }
+        ensures feeder { IfOk result (λ all. all.2 ≡ fresh_feeder number ring.setup) }
+    {
         let setup = ring.setup();
         let (inlet, feeder) = ring.into_ends(number);
         let Ok(all) = seats_of(alloc, number, seats) else {
+            drop(log);
             drop(inlet);
             drop(feeder);
             return Err(NoMem);
         };
-        let Ok(locked) = SharedState::new(alloc, number, setup, seats, inlet) else {
+        let Ok(locked) = SharedState::new(alloc, number, seats, inlet, log) else {
             drop(all);
             drop(feeder);
             return Err(NoMem);
@@ -223,6 +280,27 @@ impl<M: ModuleOf, N: StreamRunName<M::Kind>> Shared<M, N> {
         self.tell(rt, is_awaited || self.bell.is_some());
     }
 
+    /// Hands out the history so far to the stream's drain, in order, and takes it there as one piece; the
+    /// stream goes on. `None` where nothing was entered since the last piece. The stream then keeps nothing of
+    /// its history, so a stream that is drained now and then can go on for days.
+    ///
+    /// Whatever calls come in between, the pieces, one behind another, are one legal history. A call whose
+    /// entry is in a piece has a receipt that this piece holds, and no other does (`Piece::holds`). Where memory
+    /// runs out, the piece stays to be taken by the next call, and nothing is lost. To be called with the drain
+    /// that came with the stream: that of another stream takes what that stream has handed out.
+    pub fn drain<R: Wait>(
+        &self,
+        rt: &R,
+        drain: &mut Drain<M::Kind>,
+    ) -> Result<Option<Piece<M::Kind>>, NoMem>
+        ensures next { IfOk result (λ found. IfSome found (λ piece. TakesNext M.Kind.means drain.old piece drain.new)) }
+        ensures none { IfOk result (λ found. IfNone found (drain.new ≡ drain.old)) }
+        ensures err { OnErr result (drain.new ≡ drain.old) }
+    {
+        let _ = self.locked.lock(rt).hand_out();
+        drain.take()
+    }
+
     /// Room for the entry of the seat's next call. Fails when memory runs out, and where the seat can count
     /// no more.
     #[inline(always)]
@@ -303,8 +381,9 @@ impl<M: ModuleOf, N: StreamRunName<M::Kind>> Shared<M, N> {
     /// each caller, in any order. With `Unfinished` where a line's feeder is not shown to have ended, or the
     /// state under the lock does not agree: it has another number or setup, calls of a seat that is not of
     /// this stream, or another number of calls than a seat counts. With `NoReceipt` where a call that was
-    /// made has no receipt. And with `NoMem` when memory runs out for the end of the stream. Then all is
-    /// dropped.
+    /// made has no receipt. With `Drained` where a part of the history was handed out; such a stream is drained
+    /// until nothing comes, and dropped. And with `NoMem` when memory runs out for the end of the stream. Then
+    /// all is dropped.
     pub fn end(
         self,
         seats: Vec<Seat>,
@@ -321,6 +400,7 @@ impl<M: ModuleOf, N: StreamRunName<M::Kind>> Shared<M, N> {
         ensures shown { OnOk result (AreShown seats.items) }
         ensures seats { IsErrOf result EndFault.Seats ↔ (AreSeats self.number self.seats seats.items → ⊥) }
         ensures no_receipt { IsErrOf result EndFault.NoReceipt → LacksReceipt self seats.items feed }
+        ensures drained { IsErrOf result EndFault.Drained → AreShown seats.items }
         ensures memory { IsErrOf result EndFault.NoMem → AreShown seats.items }
     {
         let Shared {

@@ -1,10 +1,9 @@
 //! The state under the lock of a shared stream.
 ghost use Rattle.std.specs.Prelude.{◌≡◌, ◌↔◌, ◌+◌, ◌<◌, ◌^◌, true, false, IfOk, length};
 ghost use Rattle.strm_module.specs.Driver.{is_line};
-ghost use Rattle.strm_head_calls.specs.Setup.{is_fit};
 ghost use Rattle.strm_shared_entry.specs.Own.{arrivals};
 ghost use Rattle.strm_shared_entry.specs.Called.{is_done};
-ghost use Rattle.strm_shared_log.specs.Log.{fresh_log, LeavesRoom};
+ghost use Rattle.strm_shared_log.specs.Log.{fresh_log, HandsOutIf, LeavesRoom};
 ghost use Rattle.strm_shared_ring.specs.Inlet.{fresh_inlet};
 ghost use Rattle.strm_shared.specs.Ending.{room_of, Counted};
 ghost use Rattle.strm_shared.specs.CallCounts.{fresh_counts, turned, IsNextCall, KeepsTurns, SeatsAgree};
@@ -77,20 +76,17 @@ impl<M: ModuleOf, N: StreamRunName<M::Kind>> SharedState<M, N> {
     pub(crate) fn new(
         alloc: Global,
         number: u32,
-        setup: Setup,
         callers: u32,
         inlet: Inlet<M::Kind, N>,
+        log: Log<M>,
     ) -> Result<SharedState<M, N>, NoMem>
-        requires marks { is_fit setup ≡ true }
-        requires inlet { inlet ≡ fresh_inlet number (is_line setup.driver) }
+        requires log { log ≡ fresh_log log.setup }
+        requires inlet { inlet ≡ fresh_inlet number (is_line log.setup.driver) }
         ensures number { IfOk result (λ all. all.number ≡ number) }
-        ensures log { IfOk result (λ all. all.log ≡ fresh_log setup) }
+        ensures log { IfOk result (λ all. all.log ≡ log) }
         ensures turns { IfOk result (λ all. all.turns ≡ fresh_counts callers) }
     {
         let turns = CallCounts::new(alloc, callers)?;
-        let Ok(log) = Log::new(alloc, setup) else {
-            return Err(NoMem);
-        };
         Ok(SharedState {
             number,
             log,
@@ -105,6 +101,13 @@ impl<M: ModuleOf, N: StreamRunName<M::Kind>> SharedState<M, N> {
         ensures { result ≡ true ↔ (self.now.number ≡ number) × (self.now.log.setup ≡ setup) }
     {
         self.number == number && self.log.setup() == setup
+    }
+
+    /// Whether all of the history is kept.
+    pub(crate) fn is_whole(&self) -> bool
+        ensures { result ≡ true → self.now.log.kept ≡ self.now.log.history }
+    {
+        self.log.is_whole()
     }
 
     /// Whether the calls are in turn, those of as many callers, and each seat counts as many as its caller
@@ -309,24 +312,34 @@ impl<M: ModuleOf, N: StreamRunName<M::Kind>> SharedState<M, N> {
         (called, is_news)
     }
 
+    /// Hands out the history as it is kept, as `Log::hand_out` does.
+    pub(crate) fn hand_out(&mut self) -> bool
+        ensures number { self.new.number ≡ self.old.number }
+        ensures log { HandsOutIf result self.old.log self.new.log }
+        ensures turns { self.new.turns ≡ self.old.turns }
+        ensures inlet { self.new.inlet ≡ self.old.inlet }
+    {
+        self.log.hand_out()
+    }
+
     /// Whether somebody sleeps until the stream changes.
     pub(crate) fn is_awaited(&self) -> bool {
         self.is_awaited
     }
 
-    /// The number of entries of the history.
+    /// The number of entries of the history as it is kept.
     pub(crate) fn count_entries(&self) -> usize
-        ensures { result ≡ length self.now.log.history }
+        ensures { result ≡ length self.now.log.kept }
     {
         self.log.history().len()
     }
 
     /// Whether those who sleep until the stream changes, or who hear its bell, are to look again: the stream
-    /// may have changed since its history had this many entries. Where nobody sleeps and there is no bell,
+    /// may have changed since this many entries were kept. Where nobody sleeps and there is no bell,
     /// nobody is told. Who is told is not taken for a sleeper any longer.
     pub(crate) fn take_news(&mut self, before: usize, has_bell: bool) -> bool
         ensures same { self.new ≡ self.old }
-        ensures news { has_bell ≡ true → (result ≡ true ↔ HasNews before self.old.log.history) }
+        ensures news { has_bell ≡ true → (result ≡ true ↔ HasNews before self.old.log.kept) }
     {
         if !self.is_awaited && !has_bell {
             return false;

@@ -1,3 +1,4 @@
 pub mod EntryLemmas
 pub mod SerialLemmas
 pub mod LogLemmas
+pub mod PieceLemmas

@@ -28,13 +28,14 @@ use Rattle.strm_shared_log.proofs.EntryLemmas.{call_back, landed_step}
 
 -- the same log, whatever room it has
 pub same_log : {K : Type 0} (log : LogValue K) → IsSameLog log log
-same_log log = record { setup = refl; image = refl; history = refl }
+same_log log = record { setup = refl; image = refl; history = refl; kept = refl }
 
 pub same_logs : {K : Type 0} (old between new : LogValue K) → IsSameLog old between → IsSameLog between new → IsSameLog old new
 same_logs old between new before after = record {
   setup = after.setup ∙ before.setup;
   image = after.image ∙ before.image;
   history = after.history ∙ before.history;
+  kept = after.kept ∙ before.kept;
 }
 
 -- for kinds of any meaning
@@ -49,6 +50,7 @@ module _ {K : Type 0} (means : Meaning K) where
     answers = enters.answers;
     step = rw same.image at enters.step;
     history = rw same.history at enters.history;
+    kept = rw same.kept at enters.kept;
     setup = enters.setup ∙ same.setup;
   }
 
@@ -73,8 +75,8 @@ module _ {K : Type 0} (means : Meaning K) where
   calls_same Agrees old between new caller number call (NoRoom again) same by = (by.0, same_logs old between new same by.1)
 
   -- a message that came in stands in the history
-  pub landed : (old new : LogValue K) (m copy : Msg) (answer : Answer) (moves : List Place) (looks : ℕ) (entry : Entry K) → copy ≡ m → entry ≡ arrival_entry copy answer moves looks → Lands means old.image A m answer moves [] new.image → IsLooked answer moves looks → (IsCalm means → IsBounded (arrived_of means old.image A m) answer moves looks new.image) → new.history ≡ old.history ++ entry ∷ [] → new.setup ≡ old.setup → HasLanded means old m new
-  landed old new m copy answer moves looks entry same is lands looked bound history setup = record {
+  pub landed : (old new : LogValue K) (m copy : Msg) (answer : Answer) (moves : List Place) (looks : ℕ) (entry : Entry K) → copy ≡ m → entry ≡ arrival_entry copy answer moves looks → Lands means old.image A m answer moves [] new.image → IsLooked answer moves looks → (IsCalm means → IsBounded (arrived_of means old.image A m) answer moves looks new.image) → new.history ≡ old.history ++ entry ∷ [] → new.kept ≡ old.kept ++ entry ∷ [] → new.setup ≡ old.setup → HasLanded means old m new
+  landed old new m copy answer moves looks entry same is lands looked bound history kept setup = record {
     answer = answer;
     enters = record {
       entry = entry;
@@ -84,13 +86,14 @@ module _ {K : Type 0} (means : Meaning K) where
       answers = rw is refl;
       step = landed_step means old.image new.image m copy answer moves looks entry same is lands looked bound;
       history = history;
+      kept = kept;
       setup = setup;
     };
   }
 
   -- a call that was made stands in the history, as its receipt shows
-  pub called : (old new : LogValue K) (room : EntryRoomValue K) (call : Call (Shape K)) (made : StepValue) (answer twin : Answer) (moves : List Place) (looks : ℕ) (out : List ℕ) (back : List (Option (Shape K))) (receipt : Option (ReceiptValue K)) → room.end ≡ call.end → room.event ≡ Asked call.request → answer ≡ made.answer → twin ≡ made.answer → out ≡ out_in made.answer back → back ≡ back_of means old.image call.end call.request made.answer → IsStep means old.image (filled room twin moves looks out) new.image → new.history ≡ old.history ++ filled room twin moves looks out ∷ [] → new.setup ≡ old.setup → IfSome receipt (λ r. r ≡ record { caller = room.caller; number = room.number; entry = filled room twin moves looks out }) → IsCalled means old room.caller room.number call answer back receipt new
-  called old new room call made answer twin moves looks out back receipt at same a equal o b step history setup shown = record {
+  pub called : (old new : LogValue K) (room : EntryRoomValue K) (call : Call (Shape K)) (made : StepValue) (answer twin : Answer) (moves : List Place) (looks : ℕ) (out : List ℕ) (back : List (Option (Shape K))) (receipt : Option (ReceiptValue K)) → room.end ≡ call.end → room.event ≡ Asked call.request → answer ≡ made.answer → twin ≡ made.answer → out ≡ out_in made.answer back → back ≡ back_of means old.image call.end call.request made.answer → IsStep means old.image (filled room twin moves looks out) new.image → new.history ≡ old.history ++ filled room twin moves looks out ∷ [] → new.kept ≡ old.kept ++ filled room twin moves looks out ∷ [] → new.setup ≡ old.setup → IfSome receipt (λ r. r ≡ record { caller = room.caller; number = room.number; entry = filled room twin moves looks out }) → IsCalled means old room.caller room.number call answer back receipt new
+  called old new room call made answer twin moves looks out back receipt at same a equal o b step history kept setup shown = record {
     enters = record {
       entry = filled room twin moves looks out;
       by = refl;
@@ -99,6 +102,7 @@ module _ {K : Type 0} (means : Meaning K) where
       answers = equal ∙ sym a;
       step = step;
       history = history;
+      kept = kept;
       setup = setup;
     };
     comes_back = rw a b;

@@ -1,5 +1,5 @@
 -- The effect of a call and of an arrival on a stream that keeps its history.
-use Rattle.std.specs.Prelude.{◌≡◌, ◌<◌, ℕ, true, false, List, [], ◌∷◌, ◌++◌, Option, IfSome, flat_map}
+use Rattle.std.specs.Prelude.{◌≡◌, ◌<◌, ℕ, true, false, List, [], ◌∷◌, ◌++◌, Bool, Option, IfSome, flat_map}
 use Rattle.strm_msg.specs.Message.{Msg}
 use Rattle.strm_msg.specs.declared.words.End.{End}
 use Rattle.strm_msg.specs.declared.words.End.TheVariants.{A}
@@ -25,23 +25,37 @@ use Rattle.strm_shared_entry.specs.Receipt.{ReceiptValue}
 use Rattle.strm_shared_log.specs.Opened.{opened}
 use Rattle.strm_shared_log.specs.Steps.{due_back, IsStep}
 
--- a stream with its history: its setup, its image, its history, and the number of further entries for which
--- the history has room
+-- a stream with its history: its setup, its image, its history, the last part of the history, which was not
+-- handed out, and the number of further entries for which there is room
 pub record LogValue (K : Type 0) : Type 0 where
   pub setup : Setup
   pub image : Image K
   pub history : List (Entry K)
+  pub kept : List (Entry K)
   pub room : ℕ
 
 -- a stream that was just made, without a history
 abbrev pub fresh_log : {K : Type 0} → Setup → LogValue K
-fresh_log setup = record { setup = setup; image = opened setup; history = []; room = 0 }
+fresh_log setup = record { setup = setup; image = opened setup; history = []; kept = []; room = 0 }
 
 -- the same stream with the same history, whatever room there is
 pub record IsSameLog {K : Type 0} (old new : LogValue K) : Type 0 where
   pub setup : new.setup ≡ old.setup
   pub image : new.image ≡ old.image
   pub history : new.history ≡ old.history
+  pub kept : new.kept ≡ old.kept
+
+-- the same stream, all of whose history was handed out
+pub record HasHandedOut {K : Type 0} (old new : LogValue K) : Type 0 where
+  pub setup : new.setup ≡ old.setup
+  pub image : new.image ≡ old.image
+  pub history : new.history ≡ old.history
+  pub none : new.kept ≡ []
+
+-- it was handed out, or nothing is changed
+abbrev pub HandsOutIf : {K : Type 0} → Bool → LogValue K → LogValue K → Type 0
+HandsOutIf true old new = HasHandedOut old new
+HandsOutIf false old new = IsSameLog old new
 
 -- room for one entry is still there, if it was there
 abbrev pub LeavesRoom : {K : Type 0} → LogValue K → LogValue K → Type 0
@@ -63,6 +77,7 @@ module _ {K : Type 0} (means : Meaning K) where
     pub answers : entry.answer ≡ answered
     pub step : IsStep means old.image entry new.image
     pub history : new.history ≡ old.history ++ entry ∷ []
+    pub kept : new.kept ≡ old.kept ++ entry ∷ []
     pub setup : new.setup ≡ old.setup
 
   -- a call that was made: a step that the history has, whose answer and modules the caller has, and whose

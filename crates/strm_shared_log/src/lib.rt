@@ -4,9 +4,14 @@
 //! from one to the next. A [`Log`] is a stream that keeps its history.
 #![tactic(auto)]
 
+mod drain;
 mod log;
+mod part;
+mod piece;
 
+pub use drain::Drain;
 pub use log::Log;
+pub use piece::{Piece, a_piece_leads_on};
 pub use strm_head_calls::{Call, MOST_RING, SameKind, Setup};
 pub use strm_shared_entry::{
     Called, Entry, EntryCell, EntryRoom, Kept, Landed, Receipt, SharedEntry, StreamLog, Transcript,

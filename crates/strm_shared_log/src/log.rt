@@ -4,14 +4,18 @@ ghost use Rattle.strm_msg.specs.Kind.{is_from_line};
 ghost use Rattle.strm_head_calls.specs.Setup.{is_fit};
 ghost use Rattle.strm_shared_log.specs.History.{Legal};
 ghost use Rattle.strm_shared_entry.specs.Called.{is_done};
-ghost use Rattle.strm_shared_log.specs.Log.{CallsBy, Equals, IsSameLog, LeavesRoom, Lands, fresh_log};
+ghost use Rattle.strm_shared_log.specs.Log.{CallsBy, Equals, HandsOutIf, IsSameLog, LeavesRoom, Lands, fresh_log};
+ghost use Rattle.strm_shared_log.specs.Piece.{fresh_drain};
 ghost use Rattle.strm_head_calls.specs.declared.event.Event.TheVariants.{Asked};
 ghost use Rattle.strm_shared_log.specs.Serials.{AreAccounted};
 ghost use Rattle.strm_shared_log.specs.Opened.{opened};
 
+use crate::drain::{Drain, Outlet};
+use crate::part::Part;
 use arrayvec::ArrayVec;
 use std::alloc::Global;
 use std::marker::Model;
+use std::mem;
 use strm_head::{Arrived, NewFault, StepResult, Stream};
 use strm_head_calls::{Call, ReplyAndCopy, ReplyForm, Setup};
 use strm_module::{BoxedModule, ModuleOf};
@@ -24,33 +28,38 @@ use strm_shared_once::Cells;
 /// A stream that keeps its history.
 ///
 /// The history leads by legal steps from a stream that was just made by the setup to the stream as it
-/// is. Each call that is made and each message that comes in is one step, with one entry.
+/// is. Each call that is made and each message that comes in is one step, with one entry. A log with a drain
+/// can hand out its history while it goes on; then it keeps the entries behind those that it has handed out.
+///
+/// A contract sees the whole history, and the part of it that is kept.
 #[derive(Drop)]
 pub struct Log<M: ModuleOf> {
     setup: Setup,
     stream: Stream<M>,
-    history: Vec<Kept<M::Kind>>,
+    kept: Vec<Kept<M::Kind>>,
     cells: Cells<Entry<M::Kind>>,
     alloc: Global,
+    outlet: Option<Outlet<M::Kind>>,
+    is_whole: bool,
 }
 
 impl<M: ModuleOf> Model for Log<M> {
-    ghost use Rattle.std.specs.Prelude.{◌-◌, vec_len};
+    ghost use Rattle.std.specs.Prelude.{◌-◌, ◌++◌, vec_len};
     ghost use Rattle.std.specs.Vec.{vec_capacity};
     ghost use Rattle.strm_shared_log.specs.Log.{LogValue};
-    ghost use Rattle.strm_shared_log.specs.History.{Legal};
-    ghost use Rattle.strm_shared_log.specs.Opened.{opened};
+    ghost use Rattle.strm_shared_log.specs.Outlet.{gone_of, IsLog};
 
     ghost Value = { LogValue M.Kind };
 
     ghost view = { λ s. record {
       setup = s.setup;
       image = s.stream;
-      history = s.history.items;
-      room = vec_capacity s.history - vec_len s.history;
+      history = gone_of s.outlet ++ s.kept.items;
+      kept = s.kept.items;
+      room = vec_capacity s.kept - vec_len s.kept;
     } };
 
-    ghost invariant = { λ s. Legal M.Kind.means (opened s.setup) s.history.items s.stream };
+    ghost invariant = { λ s. IsLog M.Kind.means s.setup s.stream s.outlet s.kept.items s.is_whole };
 }
 
 impl<M: ModuleOf> Log<M> {
@@ -69,10 +78,35 @@ impl<M: ModuleOf> Log<M> {
         Ok(Log {
             setup,
             stream,
-            history: Vec::new(alloc),
+            kept: Vec::new(alloc),
             cells,
             alloc,
+            outlet: None,
+            is_whole: true,
         })
+    }
+
+    /// A stream that was just made, with a drain to which it can hand out its history while it goes on
+    /// (`hand_out`). The drain counts the calls of so many callers. Refused as `new` is.
+    pub fn with_drain(
+        alloc: Global,
+        setup: Setup,
+        callers: u32,
+    ) -> Result<(Log<M>, Drain<M::Kind>), NewFault>
+        ensures log { IfOk result (λ both. both.0 ≡ fresh_log setup) }
+        ensures drain { IfOk result (λ both. both.1 ≡ fresh_drain callers) }
+        ensures marks { IsErrOf result NewFault.Marks ↔ (is_fit setup ≡ false) }
+    {
+        let log = Log::new(alloc, setup)?;
+        let Ok((outlet, drain)) = Drain::new(alloc, callers) else {
+            drop(log);
+            return Err(NewFault::NoMem);
+        };
+        let log = Log {
+            outlet: Some(outlet),
+            ..log
+        };
+        Ok((log, drain))
     }
 
     /// Makes one call of a caller, its call of this number: a step of the stream, and an entry of the history
@@ -105,7 +139,7 @@ impl<M: ModuleOf> Log<M> {
         ensures same { IsSameLog self.old self.new }
         ensures room { OnOk result (0 < self.new.room) }
     {
-        self.history.reserve(1)?;
+        self.kept.reserve(1)?;
         Ok(self.cells.next(self.alloc)?)
     }
 
@@ -131,7 +165,7 @@ impl<M: ModuleOf> Log<M> {
         let answered: StepResult<A> = self.stream.call(end, request, &mut back);
         let (answer, beside, settled) = answered.into_parts();
         let (kept, receipt) = room.fill(cell, answer, settled.moves, settled.looks, &back);
-        self.history.push_reserved(kept);
+        self.kept.push_reserved(kept);
         Called::Done {
             answer: beside,
             back,
@@ -157,17 +191,17 @@ impl<M: ModuleOf> Log<M> {
         let Ok(entry) = room_for_arrival(self.alloc, &m) else {
             return Landed::NoMem(m);
         };
-        if self.history.reserve(2).is_err() {
+        if self.kept.reserve(2).is_err() {
             drop(entry);
             return Landed::NoMem(m);
         }
         match self.stream.arrive(m) {
             Arrived::Taken { moves, looks } => {
-                self.history.push_reserved(taken(entry, moves, looks));
+                self.kept.push_reserved(taken(entry, moves, looks));
                 Landed::Entered
             }
             Arrived::Broke => {
-                self.history.push_reserved(Kept::plain(entry));
+                self.kept.push_reserved(Kept::plain(entry));
                 Landed::Entered
             }
             Arrived::Full(m) => {
@@ -195,16 +229,49 @@ impl<M: ModuleOf> Log<M> {
         &self.stream
     }
 
-    /// The history of the stream, in order.
+    /// The history of the stream as it is kept, in order: all of it, or the entries behind those that were
+    /// handed out.
     pub fn history(&self) -> &[Kept<M::Kind>]
-        ensures { result.now ≡ self.now.history }
+        ensures { result.now ≡ self.now.kept }
     {
-        self.history.as_slice()
+        self.kept.as_slice()
     }
 
-    /// The history and the stream to which it leads. Each module that was put in was taken out, or is there.
+    /// Whether all of the history is kept, so that none was handed out.
+    pub fn is_whole(&self) -> bool
+        ensures { result ≡ true → self.now.kept ≡ self.now.history }
+    {
+        self.is_whole
+    }
+
+    /// Hands out the history as it is kept to the drain, as one piece, and returns whether it did. The stream
+    /// goes on. Where nothing is kept there is nothing to hand out. Nothing is changed either where there is
+    /// no drain, or where the drain has not taken the last piece. Takes no memory.
+    pub fn hand_out(&mut self) -> bool
+        ensures { HandsOutIf result self.old self.new }
+    {
+        if self.kept.is_empty() {
+            return false;
+        }
+        let Some(outlet) = &mut self.outlet else {
+            return false;
+        };
+        if outlet.is_full() {
+            return false;
+        }
+        let entries = mem::replace(&mut self.kept, Vec::new(self.alloc));
+        outlet.push_reserved(Part {
+            setup: self.setup,
+            entries,
+        });
+        self.is_whole = false;
+        true
+    }
+
+    /// The history as it is kept, and the stream to which it leads. Each module that was put in was taken
+    /// out, or is there.
     pub fn into_parts(self) -> (Vec<Kept<M::Kind>>, Stream<M>)
-        ensures history { result.0.items ≡ self.history }
+        ensures kept { result.0.items ≡ self.kept }
         ensures stream { result.1 ≡ self.image }
         ensures legal { Legal M.Kind.means (opened self.setup) self.history self.image }
         ensures accounts { AreAccounted (opened self.setup) self.history self.image }
@@ -212,10 +279,12 @@ impl<M: ModuleOf> Log<M> {
         let Log {
             setup: _,
             stream,
-            history,
+            kept,
             cells: _,
             alloc: _,
+            outlet: _,
+            is_whole: _,
         } = self;
-        (history, stream)
+        (kept, stream)
     }
 }

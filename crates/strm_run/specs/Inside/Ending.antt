@@ -90,6 +90,7 @@ pub record IsLogOf {K : Type 0} (history : List (Entry K)) (stream : Image K) (l
 abbrev pub end_fault : EndFault → RunFault
 end_fault EndFaults.Seats = RunFaults.Unfinished
 end_fault EndFaults.Unfinished = RunFaults.Unfinished
+end_fault EndFaults.Drained = RunFaults.Unfinished
 end_fault EndFaults.NoMem = RunFaults.NoMem
 end_fault EndFaults.NoReceipt = RunFaults.NoReceipt
 

@@ -14,6 +14,7 @@ use strm_shared::{AnyCalls, EndFault, Ended, FeedEnd, Feeder, Ring, Seat, Shared
 use strm_shared_log::{Call, Called};
 
 mod callers;
+mod draining;
 mod ending;
 mod lines;
 mod many;

@@ -11,7 +11,7 @@ use strm_shared::{EndFault, Ended, Seat, Shared};
 use strm_shared_log::{Called, Entry, Kept, Receipt, Who};
 
 /// The receipt of a call on end A.
-fn receipt<R: Abort + Wait>(
+pub(super) fn receipt<R: Abort + Wait>(
     rt: &R,
     shared: &Shared<Plain>,
     seat: &mut Seat,

@@ -15,6 +15,11 @@ returns-in-Err-clause-no_receipt g c =
 pub returns-in-Err-clause-memory : goal.returns-in-Err-clause-memory
 returns-in-Err-clause-memory g c = λ is. absurd (c.in-Err.ensures.memory (same_fault _ _ is))
 
+pub returns-in-Err-clause-drained : goal.returns-in-Err-clause-drained
+returns-in-Err-clause-drained g c =
+    let drained = rw c.as_slice.ensures.value at c.in-Err.ensures.drained in
+    λ is. drained (same_fault _ _ is)
+
 pub returns-clause-legal : goal.returns-clause-legal
 returns-clause-legal g c = rw (← c.self.view_is, ← c.in-Ok.ensures.of.1) c.left_of.ensures.legal
 
@@ -59,3 +64,6 @@ returns-clause-no_receipt g c = λ is. no_memory_receipt c.left_of.result c.left
 
 pub returns-clause-memory : goal.returns-clause-memory
 returns-clause-memory g c = λ is. rw (← c.as_slice.ensures.value) c.in-Ok.ensures.shown
+
+pub returns-clause-drained : goal.returns-clause-drained
+returns-clause-drained g c = λ is. rw (← c.as_slice.ensures.value) c.in-Ok.ensures.shown

@@ -12,7 +12,9 @@
 mod lanes;
 mod orders;
 mod playing;
+mod progress;
 mod refusal;
+mod spelt;
 
 use playing::serve;
 use std::env;

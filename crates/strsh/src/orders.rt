@@ -3,10 +3,11 @@ ghost use Rattle.std.specs.Prelude.{◌<◌, ◌^◌};
 
 use crate::lanes::lanes_of;
 use crate::playing::{BUFFER, UNMET, missed, not_put, script, shown_name};
+use crate::progress::Progress;
 use crate::refusal::Refusal;
 use std::alloc::Global;
-use std::io::{self, BufWriter, Write};
-use std::rt::Files;
+use std::io::{self, BufWriter, IsTerminal, Write};
+use std::rt::{Clock, Files};
 use std::sync::Wait;
 use std::thread::Threads;
 use strm_module::{BoxedModule, Plain};
@@ -23,7 +24,7 @@ const MOST_LISTED: u64 = 100_000;
 const TOO_MANY: u8 = 1;
 
 /// The fault of out of memory.
-fn no_memory(_: NoMem) -> Fault {
+pub(crate) fn no_memory(_: NoMem) -> Fault {
     Fault::no_memory()
 }
 
@@ -43,11 +44,12 @@ fn text_in<R: Threads + Wait + Sync, O: Order>(
 }
 
 /// Plays a script in the first orders that are drawn, `many` of them: that of each seed from 0 on.
-fn tally_drawn<R: Threads + Wait + Sync>(
+fn tally_drawn<R: Threads + Wait + Clock + Sync, E: Print + IsTerminal>(
     rt: &R,
     alloc: Global,
     bytes: &[u8],
     many: u32,
+    progress: &mut Progress<'_, E>,
 ) -> Result<Tally, Fault> {
     let mut tally = Tally::new(alloc);
     for seed in 0..u64::from(many) {
@@ -55,17 +57,19 @@ fn tally_drawn<R: Threads + Wait + Sync>(
         let (text, is_unmet) = text_in(rt, alloc, bytes, &mut order)?;
         let label = format!(in alloc; "{seed}")?.into_bytes();
         tally.add(alloc, label, text, is_unmet).map_err(no_memory)?;
+        progress.show(rt, tally.orders());
     }
     Ok(tally)
 }
 
 /// Plays a script in each of its orders once: `many` of them, which these lanes take.
-fn tally_listed<R: Threads + Wait + Sync>(
+fn tally_listed<R: Threads + Wait + Clock + Sync, E: Print + IsTerminal>(
     rt: &R,
     alloc: Global,
     bytes: &[u8],
     lanes: &mut Lanes,
     many: u64,
+    progress: &mut Progress<'_, E>,
 ) -> Result<Tally, Fault>
     requires { many < 2 ^ 63 }
 {
@@ -75,6 +79,7 @@ fn tally_listed<R: Threads + Wait + Sync>(
         let (text, is_unmet) = text_in(rt, alloc, bytes, &mut order)?;
         let label = lanes.spell(alloc, order.choices()).map_err(no_memory)?;
         tally.add(alloc, label, text, is_unmet).map_err(no_memory)?;
+        progress.show(rt, tally.orders());
         let _ = order.advance();
     }
     Ok(tally)
@@ -108,8 +113,9 @@ fn put_too_many<R: Print>(rt: &R, number: Option<u64>) -> Result<u8, Fault> {
 
 /// Plays a script, whose plan this is, in each order once, and prints which transcripts they gave. None is
 /// played where there are more than `MOST_LISTED`. Returns the exit status.
-fn play_all<R: Print + Threads + Wait + Sync>(
+fn play_all<R: Print + Threads + Wait + Clock + Sync, E: Print + IsTerminal>(
     rt: &R,
+    errors: &E,
     alloc: Global,
     bytes: &[u8],
     plan: Plan<BoxedModule<Plain>>,
@@ -120,27 +126,35 @@ fn play_all<R: Print + Threads + Wait + Sync>(
     if many > MOST_LISTED {
         return put_too_many(rt, lanes.free_count());
     }
-    let tally = tally_listed(rt, alloc, bytes, &mut lanes, many)?;
+    let mut progress = Progress::new(rt, errors, many);
+    let tally = tally_listed(rt, alloc, bytes, &mut lanes, many, &mut progress);
+    progress.erase();
+    let tally = tally?;
     put_tally(rt, alloc, &tally)
 }
 
 /// Plays a script in the first orders that are drawn, and prints which transcripts they gave. Returns the exit
 /// status.
-fn play_drawn<R: Print + Threads + Wait + Sync>(
+fn play_drawn<R: Print + Threads + Wait + Clock + Sync, E: Print + IsTerminal>(
     rt: &R,
+    errors: &E,
     alloc: Global,
     bytes: &[u8],
     many: u32,
 ) -> Result<u8, Fault> {
-    let tally = tally_drawn(rt, alloc, bytes, many)?;
+    let mut progress = Progress::new(rt, errors, u64::from(many));
+    let tally = tally_drawn(rt, alloc, bytes, many, &mut progress);
+    progress.erase();
+    let tally = tally?;
     put_tally(rt, alloc, &tally)
 }
 
 /// Plays a script, whose plan this is, in many orders, and prints which transcripts they gave. Returns the
 /// exit status: 3 if an order had an expected reply that was not met; 1 if each order was asked for and there
 /// are more than `MOST_LISTED`, which is printed; else 0.
-fn play_each<R: Print + Threads + Wait + Sync>(
+fn play_each<R: Print + Threads + Wait + Clock + Sync, E: Print + IsTerminal>(
     rt: &R,
+    errors: &E,
     alloc: Global,
     bytes: &[u8],
     plan: Plan<BoxedModule<Plain>>,
@@ -149,23 +163,21 @@ fn play_each<R: Print + Threads + Wait + Sync>(
     match orders {
         Orders::First(many) => {
             drop(plan);
-            play_drawn(rt, alloc, bytes, many)
+            play_drawn(rt, errors, alloc, bytes, many)
         }
-        Orders::All => play_all(rt, alloc, bytes, plan),
+        Orders::All => play_all(rt, errors, alloc, bytes, plan),
     }
 }
 
 /// Plays the script at a path in many orders, and prints which transcripts they gave. Returns the exit status.
-/// The fault of a script is explained.
-pub(crate) fn play_orders<R: Files + Input + Print + Threads + Wait + Sync>(
-    rt: &R,
-    alloc: Global,
-    path: &str,
-    orders: Orders,
-) -> Result<u8, Refusal> {
+/// The fault of a script is explained. Where `errors` is a terminal, it shows how many orders were played.
+pub(crate) fn play_orders<
+    R: Files + Input + Print + Threads + Wait + Clock + Sync,
+    E: Print + IsTerminal,
+>(rt: &R, errors: &E, alloc: Global, path: &str, orders: Orders) -> Result<u8, Refusal> {
     let bytes = script(rt, alloc, path).map_err(Fault::from)?;
     match parse_made::<Plain>(alloc, bytes.as_slice()) {
-        Ok(plan) => Ok(play_each(rt, alloc, bytes.as_slice(), plan, orders)?),
+        Ok(plan) => Ok(play_each(rt, errors, alloc, bytes.as_slice(), plan, orders)?),
         Err(fault) => Err(Refusal::of_script(alloc, shown_name(path), bytes.as_slice(), fault)),
     }
 }

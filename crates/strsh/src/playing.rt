@@ -15,9 +15,10 @@ ghost use Rattle.strsh.specs.Outcome.{outcome_text};
 
 use crate::orders::play_orders;
 use crate::refusal::Refusal;
+use crate::spelt::play_spelt;
 use std::alloc::Global;
-use std::io::{self, BufWriter, ErrorKind, Write};
-use std::rt::Files;
+use std::io::{self, BufWriter, ErrorKind, IsTerminal, Write};
+use std::rt::{Clock, Files};
 use std::sync::Wait;
 use std::thread::Threads;
 use std::{fs, mem};
@@ -224,6 +225,25 @@ fn play<R: Threads + Wait + Sync>(
     }
 }
 
+/// Prints the outcome of a script that was played once, and the expected replies that were not met. Returns
+/// the exit status: 3 if there are some, else 0.
+pub(crate) fn print_outcome<R: Print + Threads + Sync>(
+    rt: &R,
+    alloc: Global,
+    mut outcome: Outcome,
+    options: &Options,
+) -> Result<u8, Fault>
+    requires { 0 < options.now.workers }
+{
+    let missed = missed(alloc, &mut outcome)?;
+    put_out(rt, alloc, &mut outcome, missed.as_slice(), options)?;
+    if options.paths.len() == 1 {
+        // The program ends here. Dropping the outcome, entry by entry, would take up to a tenth of its time.
+        mem::forget(outcome);
+    }
+    Ok(status(missed.as_slice()))
+}
+
 /// Plays a plan once, and prints its outcome, and the expected replies that were not met. Returns the exit
 /// status: 3 if there are some, else 0.
 fn play_plan_once<R: Print + Threads + Wait + Sync>(
@@ -236,14 +256,8 @@ fn play_plan_once<R: Print + Threads + Wait + Sync>(
     requires sound { IsSound (plan_view plan) }
     requires workers { 0 < options.now.workers }
 {
-    let mut outcome = play(rt, alloc, plan, seed, options.workers)?;
-    let missed = missed(alloc, &mut outcome)?;
-    put_out(rt, alloc, &mut outcome, missed.as_slice(), options)?;
-    if options.paths.len() == 1 {
-        // The program ends here. Dropping the outcome, entry by entry, would take up to a tenth of its time.
-        mem::forget(outcome);
-    }
-    Ok(status(missed.as_slice()))
+    let outcome = play(rt, alloc, plan, seed, options.workers)?;
+    print_outcome(rt, alloc, outcome, options)
 }
 
 /// Plays the script at a path once, and prints its outcome, and the expected replies that were not met.
@@ -263,8 +277,9 @@ fn play_once<R: Files + Input + Print + Threads + Wait + Sync>(
 
 /// Plays the script at a path as the command line asks for it, and prints the outcome. Returns the exit
 /// status.
-fn play_file<R: Files + Input + Print + Threads + Wait + Sync>(
+fn play_file<R: Files + Input + Print + Threads + Wait + Clock + Sync, E: Print + IsTerminal>(
     rt: &R,
+    errors: &E,
     alloc: Global,
     path: &str,
     options: &Options,
@@ -274,13 +289,14 @@ fn play_file<R: Files + Input + Print + Threads + Wait + Sync>(
     match options.playing {
         Playing::Threads => play_once(rt, alloc, path, None, options),
         Playing::InOrder(seed) => play_once(rt, alloc, path, Some(seed), options),
-        Playing::Each(orders) => play_orders(rt, alloc, path, orders),
+        Playing::Spelt(steps) => play_spelt(rt, alloc, path, steps, options),
+        Playing::Each(orders) => play_orders(rt, errors, alloc, path, orders),
     }
 }
 
 /// Plays the script at a path, and prints the outcome, or the fault for which there is none. A fault of the
 /// script is explained on standard error. Returns the exit status.
-fn serve_file<R: Files + Input + Print + Threads + Wait + Sync, E: Print>(
+fn serve_file<R: Files + Input + Print + Threads + Wait + Clock + Sync, E: Print + IsTerminal>(
     rt: &R,
     errors: &E,
     alloc: Global,
@@ -289,7 +305,7 @@ fn serve_file<R: Files + Input + Print + Threads + Wait + Sync, E: Print>(
 ) -> u8
     requires { 0 < options.now.workers }
 {
-    match play_file(rt, alloc, path, options) {
+    match play_file(rt, errors, alloc, path, options) {
         Ok(status) => status,
         Err(Refusal { fault, explanation }) => {
             let _ = print!(rt; "{fault}");
@@ -307,11 +323,10 @@ fn serve_file<R: Files + Input + Print + Threads + Wait + Sync, E: Print>(
 /// A script that cannot be read, that is no script or that does not run keeps none of the others from being
 /// played. Its fault is explained on `errors`. Refused if the command line has a fault, or if a line `file PATH`
 /// cannot be printed.
-pub fn serve<R: Files + Input + Print + Threads + Wait + AllocGlobal + Sync, E: Print>(
-    rt: &R,
-    errors: &E,
-    words: &[String],
-) -> Result<u8, Fault> {
+pub fn serve<
+    R: Files + Input + Print + Threads + Wait + Clock + AllocGlobal + Sync,
+    E: Print + IsTerminal,
+>(rt: &R, errors: &E, words: &[String]) -> Result<u8, Fault> {
     let alloc = rt.alloc();
     let options = Options::read(alloc, words)?;
     let mut status = 0;

@@ -1,7 +1,7 @@
 -- The numbers that are read of the words of a command line, and the errors that are passed on.
-use Rattle.std.proofs.Common.{◌≡◌, ℕ, ◌<◌, ◌≤◌, ◌^◌, true, arith, [], ◌∷◌, List, Option, Some, None, Result, Ok, Err, unwrap_or, option_map, inl, inr, refl, ap}
+use Rattle.std.proofs.Common.{◌≡◌, ℕ, ◌≤◌, true, arith, [], ◌∷◌, List, Option, Some, None, Result, Ok, unwrap_or, inl, inr, refl}
 use Rattle.std.specs.Option.{option_map_or}
-use Rattle.std.specs.Str.Parse.{IsNumeral, ParsesUnsigned, without_leading_plus}
+use Rattle.std.specs.Str.Parse.{ParsesUnsigned}
 use Rattle.clap.specs.Kinds.{HasKind, Kinds, or_else}
 use Rattle.clap.specs.Words.{ReadsOne, Text, is_simple}
 use Rattle.clap.specs.Faults.{is_simple_and_free}
@@ -19,12 +19,6 @@ pub is_free_line : is_simple_and_free command_line ≡ true
 is_free_line = refl
 
 module _ (E : Type 0) (G : List ℕ → Result ℕ E → Type 0) where
-  -- the seed that is read of a text that is a number of 64 bits
-  pub seed_read : (text : Option Text) (read : Option ℕ) → (text ≡ None → read ≡ None) → ((t : Text) → text ≡ Some t → ReadsOne G t read) → ((t : Text) (r : Result ℕ E) → G t r → ParsesUnsigned 64 10 t r) → ((t : Text) → text ≡ Some t → IsNumeral 10 (without_leading_plus t) × (value_of t < 2 ^ 64)) → read ≡ option_map value_of text
-  seed_read None read none some parses fits = none refl
-  seed_read (Some t) (Some n) none some parses fits = ap Some (parses t (Ok n) (some t refl)).1
-  seed_read (Some t) None none some parses fits = let failed = some t refl in absurd (parses t (Err failed.0) failed.1 (fits t refl))
-
   -- the number of workers that is read of a text that is in their range, or the default
   pub workers_read : (text : Option Text) (read : Option ℕ) → (text ≡ None → read ≡ None) → ((t : Text) → text ≡ Some t → ReadsOne G t read) → ((t : Text) (r : Result ℕ E) → G t r → ParsesUnsigned 32 10 t r) → ((t : Text) → text ≡ Some t → (n : ℕ) × (read ≡ Some n) × (1 ≤ n) × (n ≤ MOST_WORKERS)) → (unwrap_or read DEFAULT_WORKERS ≡ option_map_or value_of text DEFAULT_WORKERS) × (1 ≤ unwrap_or read DEFAULT_WORKERS) × (unwrap_or read DEFAULT_WORKERS ≤ MOST_WORKERS)
   workers_read None read none some parses fits = rw (none refl) (refl, omega arith, omega arith)

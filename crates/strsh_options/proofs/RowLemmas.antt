@@ -1,13 +1,13 @@
 -- What a parse of the command line found, by its rows.
 use Rattle.std.proofs.Common.{◌≡◌, ◌∙◌, ℕ, ◌≤◌, List, [], Option, Some, None, Result, Ok, Err, Bor, IfOk, map, pos, codes, find, bytes_eq, option_map, option_and_then, unwrap_or, arith, refl, ap, sym, subst}
-use Rattle.std.specs.Str.Parse.{IsNumeral, ParsesUnsigned, without_leading_plus}
+use Rattle.std.specs.Str.Parse.{ParsesUnsigned}
 use Rattle.std.specs.Option.{option_eq}
-use Rattle.std.specs.Prelude.{◌<◌, ◌^◌, Bool, true, false}
+use Rattle.std.specs.Prelude.{Bool, true, false}
 use Rattle.clap.specs.Built.{IsParsedFrom}
 use Rattle.clap.specs.Facts.{Entry}
 use Rattle.clap.specs.Matches.{ReadsOne, found_of, matched_of, one_text}
 use Rattle.clap.specs.Simple.{HasMatchesOf}
-use Rattle.clap.specs.Values.{IsSignedIn, IsUnsignedIn}
+use Rattle.clap.specs.Values.{IsSignedIn}
 use Rattle.clap.specs.Walk.{row_of}
 use Rattle.clap.specs.Words.{Row, Text, app_of, is_simple, matches_of, one_of, raw_values, rows_of}
 use Rattle.clap.specs.declared.builder.command.Command.{Command}
@@ -20,9 +20,9 @@ use Rattle.clap.proofs.CallerReads.{signed_reads}
 use Rattle.clap.proofs.WalkLemmas.{find_row, one_text-rows, raw_values-rows}
 use Rattle.strm_run_input.specs.declared.validation.TheConstants.{MOST_WORKERS}
 use Rattle.strsh_options.specs.declared.options.TheConstants.{DEFAULT_WORKERS}
-use Rattle.strsh_options.specs.CommandLine.{MOST_SEED, command_line, is_of_words, source_of}
-use Rattle.strsh_options.specs.Options.{paths_of, seed_of, value_of, workers_of}
-use Rattle.strsh_options.proofs.ReadLemmas.{is_simple_line, seed_read, workers_read}
+use Rattle.strsh_options.specs.CommandLine.{command_line, is_of_words, source_of}
+use Rattle.strsh_options.specs.Options.{paths_of, workers_of}
+use Rattle.strsh_options.proofs.ReadLemmas.{is_simple_line, workers_read}
 use Rattle.strsh_options.proofs.ValueLemmas.{text_passes}
 
 -- where the values of an argument come from, by the rows
@@ -55,15 +55,6 @@ rows_found old words m line matches = (matches (ap is_simple line ∙ is_simple_
 module _ (old : Command) (line : app_of old ≡ command_line) (m : ArgMatches) (p : IsParsedFrom old m) (rows : List Row) (same : rows_of (found_of m) ≡ rows) (E : Type 0) (G : List ℕ → Result ℕ E → Type 0) where
   text_is : (id : Text) → one_text (found_of m) id ≡ one_of id rows
   text_is id = one_text-rows (found_of m) id ∙ ap (one_of id) same
-
-  -- the seed that is read is that of the rows
-  pub seed_asked : (read : Option ℕ) → (one_text (found_of m) (codes "order") ≡ None → read ≡ None) → ((t : Text) → one_text (found_of m) (codes "order") ≡ Some t → ReadsOne G t read) → ((t : Text) (r : Result ℕ E) → G t r → ParsesUnsigned 64 10 t r) → read ≡ seed_of rows
-  seed_asked read none some parses = seed_read E G (one_of (codes "order") rows) read (λ e. none (text_is (codes "order") ∙ e)) (λ t e. some t (text_is (codes "order") ∙ e)) parses fits
-    where
-      fits : (t : Text) → one_of (codes "order") rows ≡ Some t → IsNumeral 10 (without_leading_plus t) × (value_of t < 2 ^ 64)
-      fits t e =
-          let passed = text_passes old line m p 1 (omega arith) (parsers.Unsigned 0 MOST_SEED) refl (IsUnsignedIn 0 MOST_SEED) (λ b v h. h) t (text_is (codes "order") ∙ e) in
-          subst (λ v. IsNumeral 10 (without_leading_plus v) × (value_of v < 2 ^ 64)) passed.1 (passed.2.0, passed.2.1)
 
   -- the number of workers that is read is that of the rows, and in its range
   pub workers_asked : (read : Option ℕ) → (one_text (found_of m) (codes "workers") ≡ None → read ≡ None) → ((t : Text) → one_text (found_of m) (codes "workers") ≡ Some t → ReadsOne G t read) → ((t : Text) (r : Result ℕ E) → G t r → ParsesUnsigned 32 10 t r) → (unwrap_or read DEFAULT_WORKERS ≡ workers_of rows) × (1 ≤ unwrap_or read DEFAULT_WORKERS) × (unwrap_or read DEFAULT_WORKERS ≤ MOST_WORKERS)

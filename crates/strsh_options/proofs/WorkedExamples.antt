@@ -4,7 +4,7 @@ use Rattle.clap.specs.Words.{fault_of, matches_of}
 use Rattle.clap.specs.declared.builder.value_parser.ValueParser.TheVariants as parsers
 use Rattle.clap.proofs.OnLiterals.{clap_on_literals}
 use Rattle.strsh_options.specs.CommandLine.{command_line, has_conflict, workers_rule}
-use Rattle.strsh_options.specs.Options.{orders_of, paths_of, workers_of}
+use Rattle.strsh_options.specs.Options.{by_seed, by_steps, order_of, orders_of, paths_of, workers_of}
 use Rattle.strsh_options.specs.declared.options.Orders.TheVariants.{All, First}
 
 one_to_sixty_four_workers : workers_rule.parser ≡ Some (parsers.Signed (pos 1) (pos 64))
@@ -44,3 +44,15 @@ too_many_orders = refl
 
 orders_without_a_sign : orders_of (codes "+1") ≡ None
 orders_without_a_sign = refl
+
+the_greatest_seed : order_of (codes "18446744073709551615") ≡ Some (by_seed 18446744073709551615)
+the_greatest_seed = refl
+
+a_greater_number_is_no_order : order_of (codes "18446744073709551616") ≡ None
+a_greater_number_is_no_order = refl
+
+no_bytes_are_no_order : order_of [] ≡ None
+no_bytes_are_no_order = refl
+
+steps_by_their_names : order_of (codes "p,1,feed:n") ≡ Some (by_steps (codes "p,1,feed:n"))
+steps_by_their_names = refl

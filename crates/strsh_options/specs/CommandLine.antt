@@ -1,5 +1,5 @@
 -- The accepted command line.
-use Rattle.std.specs.Prelude.{◌&&◌, ℕ, Bool, true, false, pos, List, [], ◌∷◌, map, find, String, string_bytes, Option, Some, codes, option_and_then}
+use Rattle.std.specs.Prelude.{◌&&◌, Bool, true, false, pos, List, [], ◌∷◌, map, find, String, string_bytes, Option, Some, codes, option_and_then}
 use Rattle.std.specs.Global.{Global}
 use Rattle.std.specs.List.{list_any}
 use Rattle.std.specs.Str.{bytes_eq}
@@ -11,10 +11,6 @@ use Rattle.clap.specs.declared.parser.matches.ValueSource.TheVariants.{CommandLi
 use Rattle.clap.specs.Words.{App, Row, Rule, Text, matches_of, new_app, new_rule, with_rule}
 use Rattle.strm_run_input.specs.declared.validation.TheConstants.{MOST_WORKERS}
 
--- the greatest number of 64 bits
-abbrev pub MOST_SEED : ℕ
-MOST_SEED = 18446744073709551615
-
 -- the rule of the option `--ID`
 abbrev pub option_rule : Text → Rule
 option_rule id = record (new_rule id) { long = Some id }
@@ -22,6 +18,10 @@ option_rule id = record (new_rule id) { long = Some id }
 -- and of one that is given or not
 abbrev pub flag_rule : Text → Rule
 flag_rule id = record (option_rule id) { action = Some SetTrue }
+
+-- and of one that takes any text
+abbrev pub worded_rule : Text → Rule
+worded_rule id = record (option_rule id) { value_names = 1 }
 
 -- and of one with a value, which the parser takes
 abbrev pub valued_rule : Text → ValueParser → Rule
@@ -31,14 +31,6 @@ valued_rule id parser = record (option_rule id) { value_names = 1; parser = Some
 abbrev pub workers_rule : Rule
 workers_rule =
     record (valued_rule (codes "workers") (parsers.Signed (pos 1) (pos MOST_WORKERS))) { defaults = codes "4" ∷ [] }
-
--- the rule of `--order SEED`, with 0 to `MOST_SEED`
-abbrev pub order_rule : Rule
-order_rule = valued_rule (codes "order") (parsers.Unsigned 0 MOST_SEED)
-
--- the rule of `--orders N`, which takes any text
-abbrev pub orders_rule : Rule
-orders_rule = record (option_rule (codes "orders")) { value_names = 1 }
 
 -- the rule of FILE, of which there is one or more
 abbrev pub file_rule : Rule
@@ -55,7 +47,7 @@ bare_line = with_version (new_app (codes "strsh"))
 -- the command line with all options and FILE, none of which excludes another
 abbrev pub command_line : App
 command_line =
-    with_rule (with_rule (with_rule (with_rule (with_rule (with_rule bare_line workers_rule) order_rule) orders_rule) (flag_rule (codes "chart"))) (flag_rule (codes "quiet"))) file_rule
+    with_rule (with_rule (with_rule (with_rule (with_rule (with_rule bare_line workers_rule) (worded_rule (codes "order"))) (worded_rule (codes "orders"))) (flag_rule (codes "chart"))) (flag_rule (codes "quiet"))) file_rule
 
 -- the texts of words
 abbrev pub word_texts : List (String Global) → List Text

@@ -2,13 +2,14 @@
 ghost use Rattle.std.specs.Prelude.{◌≡◌};
 ghost use Rattle.strm_run_input.specs.declared.fault.RunFault.TheVariants as RunFaults;
 ghost use Rattle.strsh_options.specs.declared.fault.Fault.TheVariants as Faults;
-ghost use Rattle.strsh_options.specs.Fault.{EndsWith, IsFaultOf, IsFaultOfWords};
+ghost use Rattle.strsh_options.specs.Fault.{EndsWith, IsFaultOf, IsFaultOfOrder, IsFaultOfWords};
 ghost use Rattle.strsh_options.specs.Fault.{fault_line, fault_of_load};
 
 use clap::error::ErrorKind;
 use std::alloc::AllocError;
 use std::{fmt, io};
 use strm_run_input::RunFault;
+use strm_script_orders::{OrderCause, OrderFault};
 use strm_script_parse::{Cause, LoadFault, PlayFault, ScriptFault};
 
 /// The reason for which the program prints no transcript. The reasons are looked for in this order.
@@ -20,6 +21,8 @@ pub enum Fault {
     Read,
     /// The script was read, and it is no script, or memory runs out.
     Script(ScriptFault),
+    /// The text is a script, and the command line spells an order that is none of it.
+    Order(OrderFault),
     /// The text is a script, and its run gave no transcript.
     Run(RunFault),
     /// The transcript cannot be written.
@@ -35,15 +38,15 @@ impl Fault {
         Fault::Run(RunFault::NoMem)
     }
 
-    /// The exit status of the program: 0 if help or the version was asked for, 2 for the command line and the
-    /// script, and 1 for the run and the writing. Status 3 is that of no fault: of a transcript that was
-    /// printed, with a reply that is not the expected one.
+    /// The exit status of the program: 0 if help or the version was asked for, 2 for the command line, the
+    /// script and a spelt order, and 1 for the run and the writing. Status 3 is that of no fault: of a
+    /// transcript that was printed, with a reply that is not the expected one.
     pub fn status(&self) -> u8
         ensures { EndsWith self.now result }
     {
         match self {
             Fault::Words(error) => u8::try_from(error.exit_code()).unwrap_or(2),
-            Fault::Read | Fault::Script(_) => 2,
+            Fault::Read | Fault::Script(_) | Fault::Order(_) => 2,
             Fault::Run(_) | Fault::Write => 1,
         }
     }
@@ -59,6 +62,7 @@ impl fmt::Display for Fault {
             Fault::Words(error) => write!(f, "{error}"),
             Fault::Read => writeln!(f, "strsh: cannot read the script"),
             Fault::Script(fault) => writeln!(f, "strsh: {fault}"),
+            Fault::Order(fault) => writeln!(f, "strsh: order {fault}"),
             Fault::Run(fault) => writeln!(f, "strsh: {}", PlayFault::Run(*fault)),
             Fault::Write => writeln!(f, "strsh: cannot write the transcript"),
         }
@@ -95,6 +99,18 @@ impl From<ScriptFault> for Fault {
 
     fn from(fault: ScriptFault) -> Self {
         Fault::Script(fault)
+    }
+}
+
+/// The fault of a text that spells no order of the script.
+impl From<OrderFault> for Fault {
+    ghost from_gives = { λ order fault. IsFaultOfOrder order fault };
+
+    fn from(fault: OrderFault) -> Self {
+        match fault.cause {
+            OrderCause::NoMemory => Fault::no_memory(),
+            _ => Fault::Order(fault),
+        }
     }
 }
 

@@ -3,8 +3,7 @@ ghost use Rattle.std.specs.Prelude.{◌≡◌, IfErr, IfOk};
 ghost use Rattle.clap.specs.Words.{app_of, kind_of, rule_of};
 ghost use Rattle.clap.specs.declared.error.kind.ErrorKind.TheVariants.{OutOfMemory};
 ghost use Rattle.strsh_options.specs.CommandLine.{bare_line, command_line, file_rule, flag_rule};
-ghost use Rattle.strsh_options.specs.CommandLine.{option_rule, order_rule, orders_rule, valued_rule};
-ghost use Rattle.strsh_options.specs.CommandLine.{workers_rule};
+ghost use Rattle.strsh_options.specs.CommandLine.{option_rule, valued_rule, worded_rule, workers_rule};
 
 use clap::builder::ValueParser;
 use clap::error::ErrorKind;
@@ -17,6 +16,13 @@ const VERSION: &str = "1";
 
 /// The description of the program.
 const ABOUT: &str = "Plays a script of calls on STREAMS, and prints a transcript of each stream.";
+
+/// The help of `--order`.
+const ORDER_HELP: &str =
+    "Makes the calls in one thread, in the order that a seed draws, or by steps as p,q,p";
+
+/// The help of `--orders`.
+const ORDERS_HELP: &str = "Plays the script in N orders, 1 to 1000000, or in all";
 
 /// The help of `--chart`.
 const CHART_HELP: &str = "Draws a sequence chart of each stream, in place of a transcript";
@@ -67,22 +73,12 @@ fn workers<'a>(alloc: Global) -> Arg<'a>
         .help("How many worker threads make the calls, 1 to 64")
 }
 
-/// The option `--order SEED`.
-fn order<'a>(alloc: Global) -> Arg<'a>
-    ensures { rule_of result ≡ order_rule }
+/// The option with this id and a value, whose text is read later, as no parser of `clap` takes a number or
+/// words.
+fn worded<'a>(alloc: Global, id: &'a str, name: &'a str, help: &'a str) -> Arg<'a>
+    ensures { rule_of result ≡ worded_rule id.entry.now }
 {
-    valued(alloc, "order", "SEED", value_parser!(u64)).help(
-        "Makes the calls in one thread, in the order that SEED draws",
-    )
-}
-
-/// The option `--orders N`. Its text is read later, as no parser of `clap` takes a number or a word.
-fn orders<'a>(alloc: Global) -> Arg<'a>
-    ensures { rule_of result ≡ orders_rule }
-{
-    option(alloc, "orders")
-        .value_name("N")
-        .help("Plays the script in N orders, 1 to 1000000, or in all")
+    option(alloc, id).value_name(name).help(help)
 }
 
 /// The arguments `FILE`.
@@ -109,7 +105,7 @@ fn bare_command<'a>(alloc: Global) -> Result<Command<'a>, Error>
     )
 }
 
-/// The accepted command line: `strsh [--workers N | --order SEED | --orders N] [--chart | --quiet] FILE ..`,
+/// The accepted command line: `strsh [--workers N | --order ORDER | --orders N] [--chart | --quiet] FILE ..`,
 /// but for the options that exclude each other. Fails only when memory runs out.
 pub(crate) fn command<'a>(alloc: Global) -> Result<Command<'a>, Error>
     ensures line { IfOk result (λ command. app_of command ≡ command_line) }
@@ -118,8 +114,8 @@ pub(crate) fn command<'a>(alloc: Global) -> Result<Command<'a>, Error>
     Ok(
         bare_command(alloc)?
             .arg(workers(alloc))?
-            .arg(order(alloc))?
-            .arg(orders(alloc))?
+            .arg(worded(alloc, "order", "ORDER", ORDER_HELP))?
+            .arg(worded(alloc, "orders", "N", ORDERS_HELP))?
             .arg(flag(alloc, "chart", CHART_HELP))?
             .arg(flag(alloc, "quiet", QUIET_HELP))?
             .arg(file(alloc))?,

@@ -9,7 +9,7 @@ use Rattle.clap.proofs.WalkLemmas.{first_value-rows}
 use Rattle.strsh_options.specs.CommandLine.{command_line, found, word_texts}
 use Rattle.strsh_options.specs.Options.{conflict_kinds, output_of, paths_of, playing_by, playing_kinds, playing_of, refusals}
 use Rattle.strsh_options.proofs.ReadLemmas.{is_free_line, of_second, of_third}
-use Rattle.strsh_options.proofs.RowLemmas.{rows_found, seed_asked, workers_asked}
+use Rattle.strsh_options.proofs.RowLemmas.{rows_found, workers_asked}
 use Rattle.strsh_options.proofs.options.Options.read.Goals as goal
 
 pub returns-clause-workers : goal.returns-clause-workers
@@ -34,10 +34,9 @@ returns-clause-playing c =
     let line = c.in_ok-command.ensures.line in
     let m = c.in_ok-matches.matches in
     let rows = rows_found c.in_ok-command.field-0 (word_texts c.args.words.now) m line c.in_ok-matches.ensures.matches in
-    let got = c.get_one-seed.ensures in
-    let seed = seed_asked _ line m c.in_ok-matches.ensures.parsed _ rows _ (λ bs r. ParsesUnsigned 64 10 bs r × ExplainsUnsignedError 10 bs r × HasUnsignedDigitsIfOk bs r) c.get_one-seed.result got.none got.value (λ t r gives. gives.0) in
-    let text = c.get_str.ensures ∙ first_value-rows (found_of m) (codes "orders") ∙ ap (first_of (codes "orders")) rows in
-    c.in_ok-playing_asked.ensures.playing ∙ ap₂ playing_by seed text
+    let order = c.get_str-order.ensures ∙ first_value-rows (found_of m) (codes "order") ∙ ap (first_of (codes "order")) rows in
+    let orders = c.get_str.ensures ∙ first_value-rows (found_of m) (codes "orders") ∙ ap (first_of (codes "orders")) rows in
+    c.in_ok-playing_asked.ensures.playing ∙ ap₂ playing_by order orders
 
 pub returns-clause-output : goal.returns-clause-output
 returns-clause-output c =
@@ -56,10 +55,9 @@ returns-clause-kinds c =
     let words = word_texts c.args.words.now in
     let rows = rows_found c.in_ok-command.field-0 words m line c.in_ok-matches.ensures.matches in
     let fault : fault_of command_line words ≡ [] = ap (λ a. fault_of a words) (sym line) ∙ c.in_ok-matches.ensures.kinds (ap is_simple_and_free line ∙ is_free_line) in
-    let got = c.get_one-seed.ensures in
-    let seed = seed_asked _ line m c.in_ok-matches.ensures.parsed _ rows _ (λ bs r. ParsesUnsigned 64 10 bs r × ExplainsUnsignedError 10 bs r × HasUnsignedDigitsIfOk bs r) c.get_one-seed.result got.none got.value (λ t r gives. gives.0) in
-    let text = c.get_str.ensures ∙ first_value-rows (found_of m) (codes "orders") ∙ ap (first_of (codes "orders")) rows in
-    past _ _ fault ∙ past _ _ (ap conflict_kinds (sym rows) ∙ c.in_ok-check_excluded.ensures) ∙ ap playing_kinds (sym (ap₂ playing_by seed text)) ∙ c.in_ok-playing_asked.ensures.kinds
+    let order = c.get_str-order.ensures ∙ first_value-rows (found_of m) (codes "order") ∙ ap (first_of (codes "order")) rows in
+    let orders = c.get_str.ensures ∙ first_value-rows (found_of m) (codes "orders") ∙ ap (first_of (codes "orders")) rows in
+    past _ _ fault ∙ past _ _ (ap conflict_kinds (sym rows) ∙ c.in_ok-check_excluded.ensures) ∙ ap playing_kinds (sym (ap₂ playing_by order orders)) ∙ c.in_ok-playing_asked.ensures.kinds
 
 pub returns-in_err-matches-clause-kinds : goal.returns-in_err-matches-clause-kinds
 returns-in_err-matches-clause-kinds c =
@@ -88,10 +86,9 @@ returns-in_err-playing_asked-clause-kinds c =
     let m = c.in_ok-matches.matches in
     let rows = rows_found c.in_ok-command.field-0 words m line c.in_ok-matches.ensures.matches in
     let fault : fault_of command_line words ≡ [] = ap (λ a. fault_of a words) (sym line) ∙ c.in_ok-matches.ensures.kinds (ap is_simple_and_free line ∙ is_free_line) in
-    let got = c.get_one-seed.ensures in
-    let seed = seed_asked _ line m c.in_ok-matches.ensures.parsed _ rows _ (λ bs r. ParsesUnsigned 64 10 bs r × ExplainsUnsignedError 10 bs r × HasUnsignedDigitsIfOk bs r) c.get_one-seed.result got.none got.value (λ t r gives. gives.0) in
-    let text = c.get_str.ensures ∙ first_value-rows (found_of m) (codes "orders") ∙ ap (first_of (codes "orders")) rows in
+    let order = c.get_str-order.ensures ∙ first_value-rows (found_of m) (codes "order") ∙ ap (first_of (codes "order")) rows in
+    let orders = c.get_str.ensures ∙ first_value-rows (found_of m) (codes "orders") ∙ ap (first_of (codes "orders")) rows in
     let error = c.in_err-playing_asked.field-0.0 in
-    let has : HasKind (playing_kinds (playing_of (found c.args.words.now))) error = subst (λ o. HasKind (playing_kinds o) error) (ap₂ playing_by seed text) c.in_err-playing_asked.ensures.kinds in
+    let has : HasKind (playing_kinds (playing_of (found c.args.words.now))) error = subst (λ o. HasKind (playing_kinds o) error) (ap₂ playing_by order orders) c.in_err-playing_asked.ensures.kinds in
     failed_up c.from_residual-in_err-playing_asked.result error (λ _. refusals c.args.words.now ≡ []) (refusals c.args.words.now) c.from_residual-in_err-playing_asked.ensures.1
     (of_third (fault_of command_line words) (conflict_kinds (found c.args.words.now)) _ error fault (ap conflict_kinds (sym rows) ∙ c.in_ok-check_excluded.ensures) has)

@@ -1,9 +1,10 @@
 /* Plays a script of one stream and one process (docs/SCRIPTS.md) through the C calls, and prints its
  * transcript as strsh does.
  *
- *   play FILE     prints the transcript
+ *   play FILE     prints the transcript, and the expected replies that were not met
  *   play -n FILE  plays the script with each allocation refused in turn, and holds each transcript to that of
- *                 a play in which none is refused; prints the first that is wrong
+ *                 a play in which none is refused; prints the first that is wrong. Expected replies do not
+ *                 matter
  *
  * The program is linked with malloc, realloc and free wrapped.
  *
@@ -16,7 +17,7 @@
 #include "../../examples/c/said.h"
 #include "strm.h"
 
-enum { MOST = 1 << 17, FIELDS = 16 };
+enum { MOST = 1 << 17, FIELDS = 64 };
 
 static long countdown = -1, blocks, refused;
 
@@ -58,13 +59,16 @@ struct text {
     size_t len;
 };
 
-static struct text told, wanted, line;
+static struct text told, wanted, line, missed;
 static struct strm stream = STRM_CLOSED;
 static char stream_name[32], driver_name[16];
 
-/* The fields of the line that is played, and the end that it names. */
+/* The number of the line that is played, its fields and those of the replies that it expects, and the end
+ * that it names. */
+static unsigned long line_number;
 static char *fields[FIELDS];
-static int fields_n;
+static int fields_n, replies_n;
+static char **replies;
 static uint8_t end;
 
 static void add(struct text *to, const char *text)
@@ -750,6 +754,18 @@ static int make_call(void)
 static char script[MOST * 8];
 static char process_name[32];
 
+/* Keeps the fields of a call apart from the replies that it expects, which are behind a `:`. The name of the
+ * stream is none. */
+static void split_replies(void)
+{
+    int n = 2;
+    while (n < fields_n && !is(fields[n], ":"))
+        n++;
+    replies = fields + n + 1;
+    replies_n = n < fields_n ? fields_n - n - 1 : 0;
+    fields_n = n < fields_n ? n : fields_n;
+}
+
 /* Reads the fields of a line, and puts a zero at its end. Returns where the next line begins. */
 static char *split(char *from)
 {
@@ -761,6 +777,8 @@ static char *split(char *from)
     fields_n = 0;
     for (char *field = strtok(from, " \t\r"); field && fields_n < FIELDS; field = strtok(NULL, " \t\r"))
         fields[fields_n++] = field;
+    split_replies();
+    line_number++;
     return next;
 }
 
@@ -779,8 +797,8 @@ static int declare(void)
     return e;
 }
 
-/* Begins the line of a call with all that comes before its reply. */
-static void begin_line(void)
+/* Begins the line of a call with all that comes before its reply. Returns how many bytes that is. */
+static size_t begin_line(void)
 {
     line.len = 0;
     add(&line, process_name);
@@ -789,12 +807,46 @@ static void begin_line(void)
         add(&line, fields[i]);
     }
     add(&line, " : ");
+    return line.len;
+}
+
+/* Returns whether a reply is one of those that the line expects, which have a `|` between two. */
+static int is_met(const char *reply)
+{
+    static struct text choice;
+    int met = replies_n == 0;
+    for (int i = 0; i < replies_n; i++) {
+        choice.len = choice.bytes[0] = 0;
+        for (; i < replies_n && !is(replies[i], "|"); i++) {
+            add(&choice, choice.len ? " " : "");
+            add(&choice, replies[i]);
+        }
+        met |= is(choice.bytes, reply);
+    }
+    return met;
+}
+
+/* Adds a line to `missed`, as strsh prints it, if a reply is none of those that the line expects. */
+static void check(const char *reply)
+{
+    if (is_met(reply))
+        return;
+    add(&missed, "strsh: line ");
+    add_number(&missed, line_number);
+    add(&missed, ": expected");
+    for (int i = 0; i < replies_n; i++) {
+        add(&missed, " ");
+        add(&missed, replies[i]);
+    }
+    add(&missed, ", was ");
+    add(&missed, reply);
+    add(&missed, "\n");
 }
 
 /* Plays a call. Returns whether the stream is broken. */
 static int play_call(int broken)
 {
-    begin_line();
+    size_t before = begin_line();
     int e = make_call();
     if (e == ENOSR && !broken) {
         begin_line();
@@ -803,6 +855,7 @@ static int play_call(int broken)
     }
     if (e)
         add(&line, said(e));
+    check(line.bytes + before);
     add(&line, "\n");
     add(&told, line.bytes);
     return broken;
@@ -823,7 +876,8 @@ static void tell_end(uint8_t which, const char *name)
 static int play(const char *text)
 {
     int broken = 0;
-    told.len = 0;
+    told.len = missed.len = line_number = 0;
+    missed.bytes[0] = 0;
     pushed[STRM_A].n = pushed[STRM_B].n = 0;
     snprintf(script, sizeof script, "%s", text);
     for (char *from = script; *from;) {
@@ -928,5 +982,6 @@ int main(int argc, char **argv)
         return refuse(text);
     play(text);
     fputs(told.bytes, stdout);
+    fputs(missed.bytes, stdout);
     return 0;
 }

@@ -50,7 +50,7 @@ unanswered s Rd m is = cc
 unanswered s Wr m is = le_same 0
 
 stays : AnswersStay echoing
-stays = record { acts = λ s side other m. refl; own = λ s side other. refl }
+stays = record { acts = λ s side other m. refl; own = λ s side other. refl; expire = λ s ticks other. refl }
 
 pub echoing_orderly : IsOrderly echoing debt
 echoing_orderly =

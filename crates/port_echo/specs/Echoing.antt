@@ -44,6 +44,7 @@ echoing = record {
   turn = λ s side. echoing_turn s.owed side;
   own = λ s side. echoing_own s.owed side;
   answers = λ s side. echoing_answers side;
+  expire = λ s ticks. s;
 }
 
 -- the number of bytes that it owes

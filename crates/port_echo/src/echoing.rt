@@ -85,6 +85,8 @@ impl Kinds for Echoing {
         }
     }
 
+    fn expire(&mut self, _ticks: u32) {}
+
     fn copy(&self, alloc: Global) -> Result<Echoing, NoMem> {
         Ok(Echoing {
             owed: self.owed.copy()?,

@@ -93,6 +93,8 @@ impl Kinds for Sequence {
         false
     }
 
+    fn expire(&mut self, _ticks: u32) {}
+
     fn copy(&self, _alloc: Global) -> Result<Sequence, NoMem> {
         Ok(Sequence {
             down: self.down,

@@ -27,4 +27,4 @@ own_stays (Slip bytes band) Rd other = refl
 own_stays (Slip bytes band) Wr other = refl
 
 pub slip_stays : AnswersStay slip
-slip_stays = record { acts = acts_stay; own = own_stays }
+slip_stays = record { acts = acts_stay; own = own_stays; expire = λ kind ticks other. refl }

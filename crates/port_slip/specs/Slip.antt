@@ -67,4 +67,5 @@ slip_answers (Builtin kind) side = builtin.answers kind side
 slip_answers (Slip bytes band) side = false
 
 abbrev pub slip : Meaning SlipKind
-slip = record { acts = slip_acts; turn = slip_turn; own = slip_own; answers = slip_answers }
+slip =
+    record { acts = slip_acts; turn = slip_turn; own = slip_own; answers = slip_answers; expire = λ kind ticks. kind }

@@ -207,6 +207,8 @@ impl Kinds for SlipKind {
         }
     }
 
+    fn expire(&mut self, _ticks: u32) {}
+
     fn copy(&self, alloc: Global) -> Result<SlipKind, NoMem> {
         Ok(match self {
             SlipKind::Builtin { kind } => SlipKind::Builtin {

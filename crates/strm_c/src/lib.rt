@@ -426,6 +426,16 @@ pub extern "C" fn strm_getread(alloc: Global, s: &mut Handle, end: u8, mode: &mu
     call_for_value(alloc, s, end, Ok(Request::GetRead), mode)
 }
 
+/// Lets ticks pass for the modules of an end (timeout(9F)).
+#[unsafe(no_mangle)]
+pub extern "C" fn strm_tick(alloc: Global, s: &mut Handle, end: u8, ticks: u32) -> i32
+    requires { s.old.is_open ≡ true }
+    ensures open { s.new.is_open ≡ true }
+    ensures call { CallsOn s.old end (Ok (Request.Tick ticks)) Nothing result s.new }
+{
+    call(alloc, s, end, Ok(Request::Tick { ticks }))
+}
+
 /// Hands a message in from a line or a wire.
 #[unsafe(no_mangle)]
 pub extern "C" fn strm_arrive_parts(

@@ -24,6 +24,7 @@ mod message;
 mod queue;
 mod serve;
 mod settle;
+mod tick;
 
 pub use deliver::head_sends_once;
 use hop::Hop;

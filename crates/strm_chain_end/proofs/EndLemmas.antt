@@ -7,8 +7,8 @@ use Rattle.std.specs.Prelude.{MatchOption, Result, Ok, Err, OnOk}
 use Rattle.strm_msg.specs.Message.{Msg}
 use Rattle.strm_msg.specs.declared.words.Side.{Side}
 use Rattle.strm_module.specs.Kinds.{Meaning}
-use Rattle.strm_chain_end.specs.Pair.{QueuePair, with_list, pair_gets, pair_serves}
-use Rattle.strm_chain_end.specs.End.{EndState, pair_at, set_pair, end_gets, end_serves}
+use Rattle.strm_chain_end.specs.Pair.{QueuePair, with_list, pair_gets, pair_serves, expired_pair}
+use Rattle.strm_chain_end.specs.End.{EndState, pair_at, set_pair, end_gets, end_serves, expired_at}
 use Rattle.strm_chain_end.specs.Change.{with_queue}
 use Rattle.strm_chain_end.specs.Modules.{Identity, identity_of, identities_of, are_fit, is_fit_module}
 
@@ -55,3 +55,7 @@ module _ {K : Type 0} (means : Meaning K) where
 
   pub serves_found : (e : EndState K) (i : ℕ) (d : QueuePair K) (side : Side) → 0 < i → pair_at e.modules i ≡ Some d → end_serves means e i side ≡ record { state = record e { modules = slice_set e.modules (i - 1) (pair_serves means d side).pair }; outs = (pair_serves means d side).outs }
   serves_found e i d side h found = rw (found, set_pair-index e.modules i (pair_serves means d side).pair h) refl
+
+  -- and what ticks make of it
+  pub expired_found : (e : EndState K) (i : ℕ) (d : QueuePair K) (ticks : ℕ) → 0 < i → pair_at e.modules i ≡ Some d → expired_at means e i ticks ≡ record e { modules = slice_set e.modules (i - 1) (expired_pair means d ticks) }
+  expired_found e i d ticks h found = rw (found, set_pair-index e.modules i (expired_pair means d ticks) h) refl

@@ -7,7 +7,7 @@ use Rattle.strm_msg.specs.Marks.{WaterMarks}
 use Rattle.strm_queue.specs.Room.{room_for}
 use Rattle.strm_module.specs.Kinds.{OutList, Meaning}
 use Rattle.strm_module.specs.declared.shape.Shape.{Shape}
-use Rattle.strm_chain_end.specs.Pair.{QueuePair, list_on, served_on, pair_gets, pair_serves}
+use Rattle.strm_chain_end.specs.Pair.{QueuePair, list_on, served_on, pair_gets, pair_serves, expired_pair}
 use Rattle.strm_chain_end.specs.declared.record.Record.{Record}
 
 -- the head's list and record, the modules topmost first, and the driver's list, with the marks of both lists
@@ -96,3 +96,15 @@ module _ {K : Type 0} (means : Meaning K) where
   -- a module serves the first message of its queue of a side
   abbrev pub end_serves : EndState K → ℕ → Side → EndStep K
   end_serves e i side = found_serves e i (pair_at e.modules i) side
+
+  -- so many ticks pass for the modules of the end, and nothing else changes (timeout(9F))
+  abbrev pub expired_end : EndState K → ℕ → EndState K
+  expired_end e ticks = record e { modules = map (λ s. expired_pair means s ticks) e.modules }
+
+  -- the same for one of them alone
+  abbrev pub found_expired : EndState K → ℕ → Option (QueuePair K) → ℕ → EndState K
+  found_expired e i None ticks = e
+  found_expired e i (Some s) ticks = record e { modules = set_pair e.modules i (expired_pair means s ticks) }
+
+  abbrev pub expired_at : EndState K → ℕ → ℕ → EndState K
+  expired_at e i ticks = found_expired e i (pair_at e.modules i) ticks

@@ -8,7 +8,7 @@ use Rattle.strm_msg.specs.declared.words.Side.TheVariants.{Rd, Wr}
 use Rattle.strm_msg.specs.Marks.{WaterMarks}
 use Rattle.strm_queue.specs.Queue.{Queue, put_in, flush_of, flush_band_of}
 use Rattle.strm_module.specs.Kinds.{OutList, Meaning}
-use Rattle.strm_module.specs.Module.{put_of, serve_of, own_of}
+use Rattle.strm_module.specs.Module.{put_of, serve_of, own_of, expired}
 use Rattle.strm_module.specs.declared.turn.Turn.{Turn}
 use Rattle.strm_module.specs.declared.turn.Turn.TheVariants.{Serves, Shut, Sends}
 use Rattle.strm_module.specs.declared.shape.Shape.{Shape}
@@ -110,3 +110,7 @@ module _ {K : Type 0} (means : Meaning K) where
 
   abbrev pub pair_serves : QueuePair K → Side → PairStep K
   pair_serves s side = pair_turns s side (service_turn s.shape side)
+
+  -- so many ticks pass for the module: its queues stay as they are (timeout(9F))
+  abbrev pub expired_pair : QueuePair K → ℕ → QueuePair K
+  expired_pair s ticks = record s { shape = expired means s.shape ticks }

@@ -1,6 +1,6 @@
 //! One end of a stream.
 ghost use Rattle.std.specs.Prelude.{◌≡◌, ◌∷◌, [], ◌<◌, ◌≤◌, OnOk, OnErr, IfOk, IfErr, IfSome, IfNone, Some, true, drop, length, map, option_map, option_copied, slice_get, vec_capacity};
-ghost use Rattle.strm_chain_end.specs.End.{KeepsRoom, shapes_of, pair_at, list_at, end_gets, end_serves};
+ghost use Rattle.strm_chain_end.specs.End.{KeepsRoom, shapes_of, pair_at, list_at, end_gets, end_serves, expired_at};
 ghost use Rattle.strm_chain_end.specs.Modules.{SameEnd, IsFitEnd, HoldsCalm};
 ghost use Rattle.strm_chain_end.specs.Offer.{offer_at, turn_at};
 ghost use Rattle.strm_chain_end.specs.Change.{has_room, inserted, removed, closed, fresh_end, is_programs, with_queue};
@@ -171,6 +171,21 @@ impl<M: ModuleOf> StreamEnd<M> {
             return Ok(Outs::new());
         }
         self.pairs[i - 1].serve(alloc, side)
+    }
+
+    /// Lets so many ticks pass for the module with this number, by which nothing is sent; without one nothing
+    /// is done (timeout(9F)). No queue changes. Takes no memory.
+    pub fn expire_at(&mut self, i: u8, ticks: u32)
+        ensures state { self.new.state ≡ expired_at M.Kind.means self.old.state i ticks }
+        ensures head_room { self.new.head_room ≡ self.old.head_room }
+        ensures drv_room { self.new.drv_room ≡ self.old.drv_room }
+        ensures same { SameEnd self.old.state self.new.state }
+    {
+        let i = usize::from(i);
+        if i == 0 || i > self.pairs.len() {
+            return;
+        }
+        self.pairs[i - 1].expire(ticks)
     }
 
     /// The number of messages in a module's queue of a side, 0 where it has none or is not there.

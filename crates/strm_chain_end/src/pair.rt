@@ -3,7 +3,7 @@ ghost use Rattle.std.specs.Prelude.{◌≡◌, [], ◌∷◌, IfOk, IfErr, OnOk,
 ghost use Rattle.strm_msg.specs.declared.kind.MsgKind.TheVariants as Kinds;
 ghost use Rattle.strm_queue.specs.Queue.{put_in, put_back_in};
 ghost use Rattle.strm_module.specs.Shape.{queues_on};
-ghost use Rattle.strm_chain_end.specs.Pair.{messages_in, marks_in, list_on, with_list, with_put, fresh_pair, is_served, flushed, flushed_if, flushed_pair, pair_gets, pair_front, pair_serves};
+ghost use Rattle.strm_chain_end.specs.Pair.{messages_in, marks_in, list_on, with_list, with_put, fresh_pair, is_served, flushed, flushed_if, flushed_pair, pair_gets, pair_front, pair_serves, expired_pair};
 ghost use Rattle.strm_chain_end.specs.End.{KeepsRoom};
 ghost use Rattle.strm_chain_end.specs.Modules.{identity_of, is_fit, is_fit_module, waits_well};
 ghost use Rattle.strm_chain_end.specs.Canput.{fill_of, fill_on};
@@ -413,6 +413,15 @@ impl<M: ModuleOf> Pair<M> {
             Turn::Shut => Ok(Outs::new()),
             Turn::Sends { .. } => self.instance.own(alloc, side),
         }
+    }
+
+    /// Lets so many ticks pass for the module. Its queues stay as they are. Takes no memory.
+    pub(crate) fn expire(&mut self, ticks: u32)
+        ensures pair { self.new ≡ expired_pair M.Kind.means self.old ticks }
+        ensures identity { identity_of self.new.shape ≡ identity_of self.old.shape }
+        ensures waits { waits_well self.old ≡ true → waits_well self.new ≡ true }
+    {
+        self.instance.expire(ticks)
     }
 
     /// The first message of the queue of a side, as flow control sees it.

@@ -438,7 +438,7 @@ same_lists : {K : Type 0} (s : QueuePair K) (shape : Shape K) (t : Side) → lis
 same_lists s shape Rd = refl
 same_lists s shape Wr = refl
 
-pair_stays : {K : Type 0} (s : QueuePair K) (shape : Shape K) (side : Side) → PairAlone s (record s { shape = shape }) side
+pub pair_stays : {K : Type 0} (s : QueuePair K) (shape : Shape K) (side : Side) → PairAlone s (record s { shape = shape }) side
 pair_stays s shape Rd =
     record { others = λ t apart. same_lists s shape t; shift = shift_same s.rd }
 pair_stays s shape Wr =

@@ -12,3 +12,4 @@ pub mod TurnLemmas
 pub mod ServingLemmas
 pub mod OrderLemmas
 pub mod LentLemmas
+pub mod TickLemmas

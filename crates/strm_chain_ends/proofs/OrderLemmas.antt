@@ -1,18 +1,18 @@
 -- What keeps messages from going round: the modules that answer stand as they did, a module is pushed that
 -- closes no circle, or modules are taken out.
-use Rattle.std.proofs.Common.{◌≡◌, ◌∙◌, ◌&&◌, ◌||◌, Bool, true, false, List, [], ◌∷◌, drop, map, refl, sym, ap, subst}
+use Rattle.std.proofs.Common.{◌≡◌, ◌∙◌, ◌&&◌, ◌||◌, ℕ, Bool, true, false, List, [], ◌∷◌, drop, map, refl, sym, ap, subst}
 use Rattle.std.specs.List.{list_any}
 use Rattle.std.proofs.lemmas.Bool.{or_parts, or_from}
 use Rattle.strm_msg.specs.declared.words.End.{End}
 use Rattle.strm_msg.specs.declared.words.End.TheVariants.{A, B}
 use Rattle.strm_msg.specs.declared.words.Side.TheVariants.{Rd, Wr}
 use Rattle.strm_msg.specs.Marks.{WaterMarks}
-use Rattle.strm_module.specs.Kinds.{Meaning}
+use Rattle.strm_module.specs.Kinds.{Meaning, AnswersStay}
 use Rattle.strm_module.specs.declared.driver.Driver.{Driver}
 use Rattle.strm_module.specs.declared.driver.Driver.TheVariants.{Echo}
 use Rattle.strm_module.specs.declared.shape.Shape.{Shape}
-use Rattle.strm_chain_end.specs.Pair.{QueuePair}
-use Rattle.strm_chain_end.specs.End.{EndState}
+use Rattle.strm_chain_end.specs.Pair.{QueuePair, expired_pair}
+use Rattle.strm_chain_end.specs.End.{EndState, expired_end}
 use Rattle.strm_chain_end.specs.Change.{inserted, removed, closed}
 use Rattle.strm_chain_end.specs.Order.{some_answers, stands_over}
 use Rattle.strm_chain_ends.specs.Image.{Image, end_of, with_end, fresh}
@@ -167,6 +167,21 @@ module _ {K : Type 0} (means : Meaning K) where
   closed_ordered image A ordered = record { on_a = refl; on_b = ordered.on_b; echo = λ is. refl; loops = λ is. refl }
   closed_ordered image B ordered =
       record { on_a = ordered.on_a; on_b = refl; echo = ordered.echo; loops = λ is. and_none (some_answers means Rd image.a.modules) }
+
+  -- ---- ticks pass
+  expired_ways : AnswersStay means → (ticks : ℕ) (xs : List (QueuePair K)) → ways_of (map (λ s. expired_pair means s ticks) xs) ≡ ways_of xs
+  expired_ways stay ticks [] = refl
+  expired_ways stay ticks (s ∷ xs) =
+      let new = means.expire s.shape.kind ticks in
+      let rest = ways_of (map (λ s. expired_pair means s ticks) xs) in
+      let down = means.answers s.shape.kind Wr in
+      ap (λ (b : Bool). (b, means.answers new Wr) ∷ rest) (stay.expire s.shape.kind ticks Rd)
+      ∙ ap (λ (b : Bool). (means.answers s.shape.kind Rd, b) ∷ rest) (stay.expire s.shape.kind ticks Wr)
+      ∙ ap (λ (ws : List (Bool × Bool)). (means.answers s.shape.kind Rd, down) ∷ ws) (expired_ways stay ticks xs)
+
+  pub expired_ordered : AnswersStay means → (image : Image K) (e : End) (ticks : ℕ) → IsOrdered means image → IsOrdered means (with_end image e (expired_end means (end_of image e) ticks))
+  expired_ordered stay image e ticks =
+      end_ordered image e (expired_end means (end_of image e) ticks) (expired_ways stay ticks (end_of image e).modules)
 
   -- a new stream has no modules
   pub fresh_ordered : (d : Driver) (head drv : WaterMarks) → IsOrdered means (fresh d head drv)

@@ -17,7 +17,7 @@ use Rattle.strm_module.specs.declared.outs.Put.TheVariants.{Queue as Queued, Sen
 use Rattle.strm_module.specs.declared.turn.Turn.{Turn}
 use Rattle.strm_module.specs.declared.turn.Turn.TheVariants.{Serves, Shut, Sends}
 use Rattle.strm_chain_end.specs.Pair.{QueuePair, list_on, flushed_pair, after_put, pair_gets, pair_front, pair_turns, pair_serves, service_turn}
-use Rattle.strm_chain_end.specs.End.{EndState, in_head, pair_at, set_pair, found_gets, found_serves, end_gets, end_serves}
+use Rattle.strm_chain_end.specs.End.{EndState, in_head, pair_at, set_pair, found_gets, found_serves, found_expired, end_gets, end_serves, expired_at}
 use Rattle.strm_chain_end.specs.Head.{open_head, keeps, put_at_head}
 use Rattle.strm_chain_end.specs.Offer.{turn_found}
 use Rattle.strm_chain_ends.specs.declared.place.Place.{Place}
@@ -107,6 +107,13 @@ module _ {K : Type 0} (means : Meaning K) where
         | Some s ↦ ap (λ o. turn_found means o t) (pair_other e.modules i j _ h)
       ]
 
+  expires_other : (e : EndState K) (i j ticks : ℕ) (t : Side) → j ≢ i → turn_found means (pair_at (expired_at means e i ticks).modules j) t ≡ turn_found means (pair_at e.modules j) t
+  expires_other e i j ticks t h =
+      elim (pair_at e.modules i) as (λ o. turn_found means (pair_at (found_expired means e i o ticks).modules j) t ≡ turn_found means (pair_at e.modules j) t) [
+        | None ↦ refl
+        | Some s ↦ ap (λ o. turn_found means o t) (pair_other e.modules i j _ h)
+      ]
+
   -- one end has changed in what one module does
   abbrev pub IsElsewhere : EndState K → EndState K → ℕ → Type 0
   IsElsewhere old new i = (j : ℕ) (t : Side) → j ≢ i → turn_found means (pair_at new.modules j) t ≡ turn_found means (pair_at old.modules j) t
@@ -130,6 +137,10 @@ module _ {K : Type 0} (means : Meaning K) where
   pub turns_serves : (image new : Image K) (e : End) (i : ℕ) (side : Side) → new ≡ with_end image e (end_serves means (end_of image e) i side).state → (p : Place) → p ≢ Places.Wr e i → p ≢ Places.Rd e i → turn_of means new p ≡ turn_of means image p
   turns_serves image new e i side is p w r =
       ap (λ x. turn_of means x p) is ∙ elsewhere image e (end_serves means (end_of image e) i side).state i (λ j t h. serves_other (end_of image e) i j side t h) p w r
+
+  pub turns_expires : (image new : Image K) (e : End) (i ticks : ℕ) → new ≡ with_end image e (expired_at means (end_of image e) i ticks) → (p : Place) → p ≢ Places.Wr e i → p ≢ Places.Rd e i → turn_of means new p ≡ turn_of means image p
+  turns_expires image new e i ticks is p w r =
+      ap (λ x. turn_of means x p) is ∙ elsewhere image e (expired_at means (end_of image e) i ticks) i (λ j t h. expires_other (end_of image e) i j ticks t h) p w r
 
 pub after_shape : {K : Type 0} (s : QueuePair K) (side : Side) (put : Put) → (after_put s side put).pair.shape ≡ s.shape
 after_shape s Rd (Queued m) = refl

@@ -10,5 +10,5 @@ mod laws;
 mod place;
 
 pub use ends::Ends;
-pub use laws::builtin_serve_what_waits;
+pub use laws::{builtin_ask_for_no_ticks, builtin_serve_what_waits};
 pub use place::{NextQueue, Place};

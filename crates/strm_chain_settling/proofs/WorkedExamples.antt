@@ -49,7 +49,7 @@ answers Rd = true
 answers Wr = false
 
 abbrev discipline : Meaning ℕ
-discipline = record { acts = typed; turn = turns; own = echoes; answers = λ n side. answers side }
+discipline = record { acts = typed; turn = turns; own = echoes; answers = λ n side. answers side; expire = λ n ticks. n }
 
 abbrev owed : ℕ → Side → ℕ
 owed n Rd = 0
@@ -77,7 +77,7 @@ unanswered n Rd m is = cc
 unanswered n Wr m is = le_same 0
 
 stays : AnswersStay discipline
-stays = record { acts = λ n side other m. refl; own = λ n side other. refl }
+stays = record { acts = λ n side other m. refl; own = λ n side other. refl; expire = λ n ticks other. refl }
 
 orderly : IsOrderly discipline owed
 orderly =

@@ -11,7 +11,7 @@ use Rattle.strm_chain_ends.specs.Image.{Image, end_of}
 use Rattle.strm_chain_ends.specs.Flow.{NoneMay}
 use Rattle.strm_chain.specs.Fault.{Breaks}
 use Rattle.strm_head_calls.specs.declared.request.Request.{Request}
-use Rattle.strm_head_calls.specs.declared.request.Request.TheVariants.{Read, Push, Pop, Str, Close, Take, Service, Poll}
+use Rattle.strm_head_calls.specs.declared.request.Request.TheVariants.{Read, Push, Pop, Str, Close, Take, Service, Tick, Poll}
 use Rattle.strm_head_calls.specs.declared.refusal.Refusal.{Refusal}
 use Rattle.strm_head_calls.specs.Refusal.{first_that_holds}
 use Rattle.strm_head_calls.specs.declared.answer.Reply.{Reply}
@@ -22,7 +22,7 @@ use Rattle.strm_msg.specs.Message.{Msg}
 use Rattle.strm_head_calls.specs.Effect.{Effect, effect, effect_ioctl, reply_after}
 use Rattle.strm_head_calls.specs.Calls.{changes_modules}
 use Rattle.strm_head_calls.specs.Request.{changes_no_queue}
-use Rattle.strm_head.specs.Effects.{effect_of, refusal_of, awaits_answer, takes_no_memory_at, can_lack_memory, pushed_of, errors_looked_at, error_refusals, closed_refusals, common_refusals, own_refusals, finds_whole, handed_out, back_of, out_of, serials_of, is_no_memory, wants_memory, BreaksNone, takes_no_memory}
+use Rattle.strm_head.specs.Effects.{effect_of, refusal_of, awaits_answer, takes_no_memory_at, changes_first, can_lack_memory, pushed_of, errors_looked_at, error_refusals, closed_refusals, common_refusals, own_refusals, finds_whole, handed_out, back_of, out_of, serials_of, is_no_memory, wants_memory, BreaksNone, takes_no_memory}
 use Rattle.strm_head.specs.TakesEffect.{needs_no_service}
 use Rattle.strm_head_ioctl.specs.Outside.{take_refusals}
 use Rattle.strm_head_service.specs.Serve.{service_refusals}
@@ -39,10 +39,15 @@ not_true : (b : Bool) → not b ≡ true → b ≡ false
 not_true false h = refl
 not_true true h = absurd cc
 
--- a call that want of memory can refuse changes no modules
+-- a call that changes nothing before it takes memory changes no modules
+first_plain : {P : Type 0} (request : Request P) → changes_first request ≡ false → changes_modules request ≡ false
+first_plain (Tick ticks) h = refl
+first_plain request h = h
+
+-- nor does one that want of memory can refuse
 lacks_plain : {P : Type 0} (request : Request P) → can_lack_memory request ≡ true → changes_modules request ≡ false
 lacks_plain request can =
-    not_true (changes_modules request) ((and_parts (not (takes_no_memory request)) (not (changes_modules request)) can).1)
+    first_plain request (not_true (changes_first request) ((and_parts (not (takes_no_memory request)) (not (changes_first request)) can).1))
 
 -- for kinds of any meaning
 module _ {K : Type 0} (means : Meaning K) where

@@ -25,14 +25,15 @@ use Rattle.strm_chain_ends.specs.Flow.{offer_of, is_due, due_front, IsQuiet}
 use Rattle.strm_chain_end.specs.declared.offer.Offer.{Offer}
 use Rattle.strm_chain_ends.specs.Same.{SameModules}
 use Rattle.strm_chain_ends.specs.Order.{goes_round, IsOrdered}
-use Rattle.strm_chain_ends.proofs.OrderLemmas.{end_ordered, pushed_ordered, popped_ordered, closed_ordered}
+use Rattle.strm_chain_ends.proofs.OrderLemmas.{end_ordered, pushed_ordered, popped_ordered, closed_ordered, expired_ordered}
+use Rattle.strm_chain_ends.proofs.TickLemmas.{ticked_keeps}
 use Rattle.strm_chain.specs.Fault.{Breaks}
 use Rattle.strm_chain.specs.Deliver.{deliver}
 use Rattle.strm_chain.proofs.QuietLemmas.{same_end}
 use Rattle.strm_chain.proofs.SameLemmas.{deliver_keeps, leads_keeps, with_end_keeps}
 use Rattle.strm_chain.proofs.OrderLemmas.{delivered_ordered, led_ordered}
 use Rattle.strm_head_calls.specs.declared.request.Request.{Request}
-use Rattle.strm_head_calls.specs.declared.request.Request.TheVariants.{Putmsg, Putpmsg, Getmsg, Getpmsg, Read, Write, Push, Nread, Peek, SetRead, GetRead, Canput, Ckband, Getband, Pop, Look, Find, Str, Strput, Strget, Flush, FlushBand, Close, Take, Service, Poll}
+use Rattle.strm_head_calls.specs.declared.request.Request.TheVariants.{Putmsg, Putpmsg, Getmsg, Getpmsg, Read, Write, Push, Nread, Peek, SetRead, GetRead, Canput, Ckband, Getband, Pop, Look, Find, Str, Strput, Strget, Flush, FlushBand, Close, Take, Service, Tick, Poll}
 use Rattle.strm_head_calls.specs.declared.request.Request.TheVariants as Requests
 use Rattle.strm_head_calls.specs.declared.refusal.Refusal.{Refusal}
 use Rattle.strm_head_calls.specs.declared.refusal.Refusal.TheVariants.{Closed, Broken, Invalid, HungUp, WouldWait}
@@ -309,6 +310,7 @@ module _ {K : Type 0} (means : Meaning K) where
   effect_opens image e Take = taken_opens image e (end_of image e).drv
   effect_opens image e (Service name side call) =
       same_opens image _ (service_keeps means image e (served_at image e name.items) side call)
+  effect_opens image e (Tick ticks) = same_opens image _ (ticked_keeps means image e ticks)
   effect_opens image e Poll = none_opens image
   effect_opens image e Close =
       opens_trans image (closed_image image e) _ (closed_opens image e) (same_opens (closed_image image e) _ (after_keeps image.broken (closed_image image e) e))
@@ -346,6 +348,7 @@ module _ {K : Type 0} (means : Meaning K) where
   quiet_effect image e Take is quiet = cc
   quiet_effect image e (Service name side call) is quiet =
       left_quiet means image _ _ (service_leaves means image e (served_at image e name.items) side call is) quiet
+  quiet_effect image e (Tick ticks) is quiet = cc
   quiet_effect image e Poll is quiet = record { quiet = quiet; broken = refl; awaits = refl }
 
   -- ---- calls leave heads that await no answer
@@ -402,6 +405,7 @@ module _ {K : Type 0} (means : Meaning K) where
   effect_idle image e Take idle = taken_idle image e (end_of image e).drv idle
   effect_idle image e (Service name side call) idle =
       idle_same image _ (service_keeps means image e (served_at image e name.items) side call) idle
+  effect_idle image e (Tick ticks) idle = idle_same image _ (ticked_keeps means image e ticks) idle
   effect_idle image e Poll idle = idle
   effect_idle image e Close idle =
       idle_same (closed_image image e) _ (after_keeps image.broken (closed_image image e) e) (idle_with image e (closed (end_of image e)) (record { pending = (idle e).pending; kept = (idle e).kept }) idle)
@@ -485,6 +489,7 @@ module _ {K : Type 0} (means : Meaning K) where
     effect_ordered image e Take h ordered = taken_ordered image e (end_of image e).drv ordered
     effect_ordered image e (Service name side call) h ordered =
         service_ordered means stay image e (served_at image e name.items) side call ordered
+    effect_ordered image e (Tick ticks) h ordered = expired_ordered means stay image e ticks ordered
     effect_ordered image e Poll h ordered = ordered
     effect_ordered image e Close h ordered =
         after_ordered image.broken (closed_image image e) e (closed_ordered means image e ordered)

@@ -6,7 +6,7 @@ use Rattle.strm_module.specs.declared.shape.Shape.{Shape}
 use Rattle.strm_module.specs.Kinds.{Meaning}
 use Rattle.strm_chain_ends.specs.Image.{Image, end_of}
 use Rattle.strm_head_calls.specs.declared.request.Request.{Request}
-use Rattle.strm_head_calls.specs.declared.request.Request.TheVariants.{Putmsg, Putpmsg, Getmsg, Getpmsg, Read, Write, Push, Nread, Peek, SetRead, GetRead, Canput, Ckband, Getband, Pop, Look, Find, Str, Strput, Strget, Flush, FlushBand, Close, Take, Service, Poll}
+use Rattle.strm_head_calls.specs.declared.request.Request.TheVariants.{Putmsg, Putpmsg, Getmsg, Getpmsg, Read, Write, Push, Nread, Peek, SetRead, GetRead, Canput, Ckband, Getband, Pop, Look, Find, Str, Strput, Strget, Flush, FlushBand, Close, Take, Service, Tick, Poll}
 use Rattle.strm_head_calls.specs.declared.request.Request.TheVariants as Requests
 use Rattle.strm_head_calls.specs.declared.refusal.Refusal.{Refusal}
 use Rattle.strm_head_calls.specs.declared.refusal.Refusal.TheVariants.{Closed, Broken}
@@ -19,6 +19,7 @@ use Rattle.strm_head_ioctl.specs.Names.{find_refusals}
 use Rattle.strm_head_ioctl.specs.Ioctl.{str_refusals}
 use Rattle.strm_head_ioctl.specs.Later.{strput_refusals, strget_refusals}
 use Rattle.strm_head_ioctl.specs.Flush.{flush_refusals}
+use Rattle.strm_head_ioctl.specs.Tick.{tick_refusals}
 use Rattle.strm_head.specs.Effects.{error_refusals, refusals, are_in_order}
 
 -- so it is of a call with these refusals of its own, whichever errors it looks at, where these have come up
@@ -64,4 +65,5 @@ in_order means image e (FlushBand band r w) = ordered image e (true, true) (flus
 in_order means image e Close = refl
 in_order means image e Take = refl
 in_order means image e (Service name side call) = refl
+in_order means image e (Tick ticks) = ordered image e (false, false) (tick_refusals ticks) refl (λ x. refl) (λ y. refl) (λ x y. refl)
 in_order means image e Poll = refl

@@ -14,7 +14,7 @@ use Rattle.strm_head_calls.specs.declared.request.PutFlag.TheVariants as PutFlag
 use Rattle.strm_head_calls.specs.declared.request.GetFlag.TheVariants as GetFlag
 use Rattle.strm_head_calls.specs.declared.request.Wanted.TheVariants as Wanted
 use Rattle.strm_head_calls.specs.declared.parts.Parts.{Parts}
-use Rattle.strm_head_calls.specs.declared.request.Request.TheVariants.{Putmsg, Putpmsg, Getmsg, Getpmsg, Read, Write, Canput, Getband, Nread, Push, Pop, Look, Find, Str, Flush, Close}
+use Rattle.strm_head_calls.specs.declared.request.Request.TheVariants.{Putmsg, Putpmsg, Getmsg, Getpmsg, Read, Write, Canput, Getband, Nread, Push, Pop, Look, Find, Str, Flush, Close, Tick}
 use Rattle.strm_head_calls.specs.declared.refusal.Refusal.TheVariants.{Closed, Broken, ReadError, WriteError, Invalid, TooLong, HungUp, BadMessage, NoMessage, WouldWait}
 use Rattle.strm_head.specs.Effects.{refusal_of}
 
@@ -67,6 +67,22 @@ receiving_looks_at_the_read_side = refl
 
 asking_for_room_looks_at_the_write_side : refusal_of plain unbroken A (Canput 0) ≡ Some (WriteError EPROTO)
 asking_for_room_looks_at_the_write_side = refl
+
+-- time does not pass through the head: neither an error nor a hangup there refuses it, but no ticks are none
+ticks_pass_after_an_error : refusal_of plain unbroken A (Tick 1) ≡ None
+ticks_pass_after_an_error = refl
+
+ticks_pass_after_a_hangup : refusal_of plain hung_up A (Tick 1) ≡ None
+ticks_pass_after_a_hangup = refl
+
+no_ticks : refusal_of plain unbroken A (Tick 0) ≡ Some Invalid
+no_ticks = refl
+
+no_ticks_of_a_broken_stream : refusal_of plain with_error A (Tick 0) ≡ Some Broken
+no_ticks_of_a_broken_stream = refl
+
+no_ticks_of_a_closed_end : refusal_of plain with_error B (Tick 0) ≡ Some Closed
+no_ticks_of_a_closed_end = refl
 
 read_side_before_the_write_side : refusal_of plain unbroken A Look ≡ Some (ReadError EIO)
 read_side_before_the_write_side = refl

@@ -9,7 +9,7 @@ use Rattle.strm_module.specs.declared.shape.Shape.{Shape}
 use Rattle.strm_chain_ends.specs.Image.{Image, end_of}
 use Rattle.strm_chain_ends.specs.Flow.{NoneMay}
 use Rattle.strm_head_calls.specs.declared.request.Request.{Request}
-use Rattle.strm_head_calls.specs.declared.request.Request.TheVariants.{Putmsg, Putpmsg, Getmsg, Getpmsg, Read, Write, Push, Nread, Peek, SetRead, GetRead, Canput, Ckband, Getband, Pop, Look, Find, Str, Strput, Strget, Flush, FlushBand, Close, Take, Service, Poll}
+use Rattle.strm_head_calls.specs.declared.request.Request.TheVariants.{Putmsg, Putpmsg, Getmsg, Getpmsg, Read, Write, Push, Nread, Peek, SetRead, GetRead, Canput, Ckband, Getband, Pop, Look, Find, Str, Strput, Strget, Flush, FlushBand, Close, Take, Service, Tick, Poll}
 use Rattle.strm_head_calls.specs.declared.refusal.Refusal.{Refusal}
 use Rattle.strm_head_calls.specs.declared.refusal.Refusal.TheVariants.{Closed, Broken, ReadError, WriteError, NoMemory}
 use Rattle.strm_head_calls.specs.declared.answer.Answer.{Answer}
@@ -31,6 +31,7 @@ use Rattle.strm_head_ioctl.specs.Flush.{flush_refusals, flush_effect, flush_band
 use Rattle.strm_head_ioctl.specs.Close.{hangs_up, close_effect}
 use Rattle.strm_head_ioctl.specs.Outside.{take_refusals, take_effect}
 use Rattle.strm_head_ioctl.specs.Poll.{poll_effect}
+use Rattle.strm_head_ioctl.specs.Tick.{tick_refusals, tick_effect}
 use Rattle.strm_head_service.specs.Serve.{service_refusals, service_effect, sends_on, finds_nothing}
 
 -- the refusals of a call of its kind alone, in the order in which they are looked for: whether each holds,
@@ -54,11 +55,12 @@ own_refusals means image e (Flush r w) = flush_refusals image e r w
 own_refusals means image e (FlushBand band r w) = flush_refusals image e r w
 own_refusals means image e Take = take_refusals image e
 own_refusals means image e (Service name side call) = service_refusals image e name.items side call
+own_refusals means image e (Tick ticks) = tick_refusals ticks
 own_refusals means image e request = []
 
 -- the errors that a call looks at, that of the read side and that of the write side: calls that receive look
--- at the first, calls that send at the second, a close, a take, a service call and a poll at neither, and all
--- others at both
+-- at the first, calls that send at the second, a close, a take, a service call, a tick and a poll at neither,
+-- and all others at both
 abbrev pub errors_looked_at : {P : Type 0} → Request P → Bool × Bool
 errors_looked_at (Getmsg maxctl maxdat flag) = (true, false)
 errors_looked_at (Getpmsg maxctl maxdat band flag) = (true, false)
@@ -74,6 +76,7 @@ errors_looked_at (Canput band) = (false, true)
 errors_looked_at Close = (false, false)
 errors_looked_at Take = (false, false)
 errors_looked_at (Service name side call) = (false, false)
+errors_looked_at (Tick ticks) = (false, false)
 errors_looked_at Poll = (false, false)
 errors_looked_at request = (true, true)
 
@@ -162,6 +165,7 @@ effect_of means image e (FlushBand band r w) = flush_band_effect means image e b
 effect_of means image e Close = close_effect means image e
 effect_of means image e Take = take_effect image e
 effect_of means image e (Service name side call) = service_effect means image e name.items side call
+effect_of means image e (Tick ticks) = tick_effect means image e ticks
 effect_of means image e Poll = poll_effect image e
 
 -- the calls that never run out of memory
@@ -216,9 +220,15 @@ sends_no_message image e (Service name side call) = not (sends_on call)
 sends_no_message image e Close = not (hangs_up image e)
 sends_no_message image e request = true
 
+-- the calls that change the stream before anything takes memory: those that put modules in or take them out,
+-- and a tick
+abbrev pub changes_first : {P : Type 0} → Request P → Bool
+changes_first (Tick ticks) = true
+changes_first request = changes_modules request
+
 -- whether out of memory can refuse the call
 abbrev pub can_lack_memory : {P : Type 0} → Request P → Bool
-can_lack_memory request = not (takes_no_memory request) && not (changes_modules request)
+can_lack_memory request = not (takes_no_memory request) && not (changes_first request)
 
 -- the calls whose reply is the answer to an ioctl
 abbrev pub awaits_answer : {P : Type 0} → Request P → Bool

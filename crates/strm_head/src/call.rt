@@ -19,6 +19,7 @@ use strm_head_calls::{Refusal, Reply, ReplyForm, Request};
 use strm_head_ioctl::{
     acknowledged, acknowledged_copy, find_refusal, flush_refusal, getband_refusal, look_refusal,
     pop_refusal, push_refusal, str_refusal, strget_refusal, strput_refusal, take_refusal,
+    tick_refusal,
 };
 use strm_head_msg::{
     getmsg_refusal, getpmsg_refusal, putmsg_refusal, putpmsg_refusal, write_refusal,
@@ -68,7 +69,11 @@ fn errors_looked_at<P>(request: &Request<P>) -> (bool, bool)
         | Request::Putpmsg { .. }
         | Request::Write { .. }
         | Request::Canput { .. } => (false, true),
-        Request::Close | Request::Take | Request::Service { .. } | Request::Poll => (false, false),
+        Request::Close
+        | Request::Take
+        | Request::Service { .. }
+        | Request::Tick { .. }
+        | Request::Poll => (false, false),
         _ => (true, true),
     }
 }
@@ -136,6 +141,7 @@ fn own_refusal<M: ModuleOf>(
         Request::Flush { r, w } | Request::FlushBand { r, w, .. } => {
             flush_refusal(chain, end, *r, *w)
         }
+        Request::Tick { ticks } => tick_refusal(*ticks),
         _ => None,
     }
 }

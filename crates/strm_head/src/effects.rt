@@ -22,7 +22,7 @@ use strm_head_calls::{
 };
 use strm_head_ioctl::{
     canput, ckband, close, find, flush, get_read, getband, list, look, nread, poll, pop, push,
-    send_ioctl, set_read, strget, strput, take,
+    send_ioctl, set_read, strget, strput, take, tick,
 };
 use strm_head_msg::{getmsg, getpmsg, peek, putmsg, putpmsg, write};
 use strm_head_read::read;
@@ -420,6 +420,7 @@ pub(crate) fn begin<M: ModuleOf, A: ReplyForm>(
         Request::FlushBand { band, r, w } => begin_flush_band(chain, end, band, r, w),
         Request::Close => begin_close(chain, end, back),
         Request::Take => begin_take(chain, end),
+        Request::Tick { ticks } => Ok(A::plain(tick(chain, end, ticks))),
         Request::Service { name, side, call } => begin_service(chain, end, name, side, call),
         other => begin_query(chain, end, other),
     }

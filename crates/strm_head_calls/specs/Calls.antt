@@ -42,4 +42,5 @@ plain_of (Request.FlushBand band r w) = Some (Request.FlushBand band r w)
 plain_of (Request.Service name side call) = Some (Request.Service name side call)
 plain_of Request.Close = Some Request.Close
 plain_of Request.Take = Some Request.Take
+plain_of (Request.Tick ticks) = Some (Request.Tick ticks)
 plain_of Request.Poll = Some Request.Poll

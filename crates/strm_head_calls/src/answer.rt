@@ -261,6 +261,8 @@ pub enum Reply {
         /// The reply, by the call.
         told: Serviced,
     },
+    /// The ticks have passed.
+    Tick,
     /// The state of an end, as poll(2) reports it.
     Poll {
         /// The facts that hold.
@@ -388,6 +390,7 @@ impl Reply {
             Reply::Line => Reply::Line,
             Reply::Hangup => Reply::Hangup,
             Reply::Service { told } => Reply::Service { told: *told },
+            Reply::Tick => Reply::Tick,
             Reply::Poll { told } => Reply::Poll { told: *told },
             Reply::Peek { .. } => Reply::Peek { found: None },
             Reply::Getmsg { .. }

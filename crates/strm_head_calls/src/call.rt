@@ -108,6 +108,7 @@ fn plain_request<P: Drop, Q>(request: Request<P>) -> Request<Q>
         Request::Close => Request::Close,
         Request::Take => Request::Take,
         Request::Service { name, side, call } => Request::Service { name, side, call },
+        Request::Tick { ticks } => Request::Tick { ticks },
         Request::Poll => Request::Poll,
     }
 }

@@ -147,6 +147,7 @@ pub fn copy_request<M: ModuleOf>(
         Request::Getband => Ok(Request::Getband),
         Request::Take => Ok(Request::Take),
         Request::Service { name, side, call } => copy_service(alloc, name, *side, call),
+        Request::Tick { ticks } => Ok(Request::Tick { ticks: *ticks }),
         Request::Poll => Ok(Request::Poll),
         Request::Pop => Ok(Request::Pop),
         Request::Look => Ok(Request::Look),

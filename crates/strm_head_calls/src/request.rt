@@ -66,7 +66,7 @@ pub enum GetFlag {
 /// Each call but a close, a take, a service call and a poll has three refusals more than those that it names.
 /// Its end is closed, the stream is broken, or an error came up for a side that it looks at. These three are
 /// looked at first. Out of memory is looked at last: it refuses a call that has changed nothing yet, and else
-/// breaks the stream.
+/// breaks the stream. A tick looks at no error.
 #[derive(Debug, Drop)]
 pub enum Request<P> {
     /// Sends a message (putmsg(2)): `MProto` of band 0 with control, `MPcproto` with control and
@@ -278,6 +278,15 @@ pub enum Request<P> {
         side: Side,
         /// The call.
         call: ServiceCall,
+    },
+    /// Lets ticks pass for the modules of the end, which come from outside (timeout(9F)). That changes what
+    /// their kinds keep. What a kind then owes, its services send in the same event. It looks at no error and
+    /// no hangup, and takes no memory before queues move. Kinds that ask for no ticks stay as they are.
+    ///
+    /// Refused with EINVAL where there are no ticks.
+    Tick {
+        /// The number of ticks that have passed since the last.
+        ticks: u32,
     },
     /// Asks for the state of the end, as poll(2) reports it (Programmer's Guide: STREAMS, "Input and Output
     /// Polling"). Never refused, not even at a closed end or on a broken stream, and takes no memory.

@@ -284,6 +284,7 @@ impl Reply {
                 Reply::Service { told: t } => told.is_same(*t),
                 _ => false,
             },
+            Reply::Tick => matches!(other, Reply::Tick),
             Reply::Poll { told } => match other {
                 Reply::Poll { told: t } => is_same_poll(*told, *t),
                 _ => false,

@@ -287,6 +287,10 @@ pub fn is_same_request<K: SameKind + Drop>(
         Request::FlushBand { band, r, w } => is_flush_band(other, *band, *r, *w),
         Request::Close => matches!(other, Request::Close),
         Request::Take => matches!(other, Request::Take),
+        Request::Tick { ticks } => match other {
+            Request::Tick { ticks: t } => ticks == t,
+            _ => false,
+        },
         Request::Service { name, side, call } => is_service(other, name, *side, call),
         Request::Nread
         | Request::Peek { .. }

@@ -9,3 +9,4 @@ pub mod Outcome
 pub mod Close
 pub mod Outside
 pub mod Poll
+pub mod Tick

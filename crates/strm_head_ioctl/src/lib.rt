@@ -16,6 +16,7 @@ mod names;
 mod options;
 mod outside;
 mod polling;
+mod ticking;
 
 pub use ask::{canput, ckband, getband, getband_refusal, nread};
 pub use closing::close;
@@ -27,3 +28,4 @@ pub use names::{find, find_refusal, list, look, look_refusal, names_of};
 pub use options::{get_read, set_read};
 pub use outside::{first_output, has_output, take, take_refusal};
 pub use polling::poll;
+pub use ticking::{tick, tick_refusal};

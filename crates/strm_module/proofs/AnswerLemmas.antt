@@ -98,4 +98,4 @@ acts_stay kind side m =
     if_stays (is_high m.kind) kind (passed_on (flushed_kind kind m.kind) side m) (ordinary_action kind side m) (flushed_stays kind m.kind) (ordinary_stays kind side m)
 
 pub builtin_stays : AnswersStay builtin
-builtin_stays = record { acts = λ kind side other m. acts_stay kind side m other; own = λ kind side other. refl }
+builtin_stays = record { acts = λ kind side other m. acts_stay kind side m other; own = λ kind side other. refl; expire = λ kind ticks other. refl }

@@ -35,22 +35,31 @@ abbrev pub Acts : Type 0 → Type 0
 Acts K = K → Side → Msg → Action K
 
 -- the meaning of a vocabulary: the actions of its kinds on a message, the turns of their services on a side,
--- their own messages, and whether ordinary messages of a side may be answered on the other
+-- their own messages, whether ordinary messages of a side may be answered on the other, and the kind once so
+-- many ticks have passed, by which nothing is sent (timeout(9F))
 pub record Meaning (K : Type 0) : Type 0 where
   pub acts : Acts K
   pub turn : K → Side → Turn
   pub own : K → Side → Action K
   pub answers : K → Side → Bool
+  pub expire : K → ℕ → K
 
--- kinds that always serve the messages that wait, and send nothing of their own
+-- kinds that always serve the messages that wait, send nothing of their own, and ask for no ticks
 abbrev pub serving : {K : Type 0} → Acts K → (K → Side → Bool) → Meaning K
 serving acts answers =
-    record { acts = acts; turn = λ kind side. Serves; own = λ kind side. record { kind = kind; outs = [] }; answers = answers }
+    record {
+      acts = acts;
+      turn = λ kind side. Serves;
+      own = λ kind side. record { kind = kind; outs = [] };
+      answers = answers;
+      expire = λ kind ticks. kind;
+    }
 
--- no message, and nothing that a kind sends of its own, changes on which sides it answers
+-- no message, nothing that a kind sends of its own, and no tick changes on which sides it answers
 pub record AnswersStay {K : Type 0} (means : Meaning K) : Type 0 where
   pub acts : (kind : K) (side other : Side) (m : Msg) → means.answers (means.acts kind side m).kind other ≡ means.answers kind other
   pub own : (kind : K) (side other : Side) → means.answers (means.own kind side).kind other ≡ means.answers kind other
+  pub expire : (kind : K) (ticks : ℕ) (other : Side) → means.answers (means.expire kind ticks) other ≡ means.answers kind other
 
 -- nothing leaves
 abbrev pub kept : {K : Type 0} → K → Action K

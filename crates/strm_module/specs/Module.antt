@@ -1,6 +1,6 @@
 -- The put and service procedures of a module, as functions of its shape (Programmer's Guide: STREAMS, "Put
 -- and Service Procedures"; put(9E), srv(9E)).
-use Rattle.std.specs.Prelude.{◌≡◌, ◌&&◌, ◌||◌, not, Bool, true, false, if◌then◌else◌}
+use Rattle.std.specs.Prelude.{◌≡◌, ◌&&◌, ◌||◌, not, ℕ, Bool, true, false, if◌then◌else◌}
 use Rattle.strm_msg.specs.Kind.{is_high}
 use Rattle.strm_msg.specs.Message.{Msg}
 use Rattle.strm_msg.specs.declared.words.Side.{Side}
@@ -42,6 +42,10 @@ module _ {K : Type 0} (means : Meaning K) where
   own_of s side =
       let action = means.own s.kind side in
       record { shape = record s { kind = action.kind }; outs = action.outs }
+
+  -- so many ticks pass: only the state of the kind can change, and nothing is sent (timeout(9F))
+  abbrev pub expired : Shape K → ℕ → Shape K
+  expired s ticks = record s { kind = means.expire s.kind ticks }
 
   -- a message comes to the module: it is queued unchanged and changes nothing, or is served at once
   abbrev pub put_of : Shape K → Side → Msg → Taken K

@@ -1,7 +1,7 @@
 //! A module in a box of its own, and the shape of a module in one.
 ghost use Rattle.std.specs.Prelude.{◌≡◌, IfOk, OnOk, OnErr};
 ghost use Rattle.strm_module.specs.Shape.{IsSameModule};
-ghost use Rattle.strm_module.specs.Module.{put_of, serve_of, own_of, IsQueued};
+ghost use Rattle.strm_module.specs.Module.{put_of, serve_of, own_of, expired, IsQueued};
 
 use crate::instance::Instance;
 use crate::kind::Kind;
@@ -81,6 +81,13 @@ impl<M: ModuleOf> BoxedModule<M> {
         ensures same { IsSameModule self.old self.new }
     {
         self.instance.own(alloc, side)
+    }
+
+    /// Lets so many ticks pass for the module, by which nothing is sent (timeout(9F)). Takes no memory.
+    pub fn expire(&mut self, ticks: u32)
+        ensures { self.new ≡ expired M.Kind.means self.old ticks }
+    {
+        self.instance.expire(ticks)
     }
 }
 

@@ -1,7 +1,7 @@
 //! A module as one thing: its shape and its object.
 ghost use Rattle.std.specs.Prelude.{◌≡◌, IfOk, OnOk, OnErr};
 ghost use Rattle.strm_module.specs.Shape.{IsSameModule};
-ghost use Rattle.strm_module.specs.Module.{put_of, serve_of, own_of, IsQueued};
+ghost use Rattle.strm_module.specs.Module.{put_of, serve_of, own_of, expired, IsQueued};
 
 use crate::module::ModuleOf;
 use crate::outs::{Outs, Put};
@@ -93,5 +93,13 @@ impl<M: ModuleOf> Instance<M> {
         ensures same { IsSameModule self.old self.new }
     {
         self.object.own(alloc, &mut self.shape, side)
+    }
+
+    /// Lets so many ticks pass for the module, by which nothing is sent (timeout(9F)). The object is not
+    /// asked: what time changes is in the shape. Takes no memory.
+    pub fn expire(&mut self, ticks: u32)
+        ensures { self.new ≡ expired M.Kind.means self.old ticks }
+    {
+        self.shape.expire(ticks)
     }
 }

@@ -129,6 +129,8 @@ impl Kinds for Kind {
         matches!((self, side), (Kind::Tee, Side::Wr))
     }
 
+    fn expire(&mut self, _ticks: u32) {}
+
     fn copy(&self, alloc: Global) -> Result<Kind, NoMem> {
         Ok(match self {
             Kind::Pass => Kind::Pass,

@@ -42,6 +42,8 @@ use strm_msg::{BoxedMessage, NoMem, Side};
 ///
 /// `own` is called in the place of `serve` while the kind says that a side sends something of its own.
 ///
+/// Ticks change the shape alone, and no object is called for them (`Instance::expire`).
+///
 /// All are called while another message is on its way, and none is handed anything to block on.
 ///
 /// # What is asked

@@ -3,7 +3,7 @@ ghost use Rattle.std.specs.Prelude.{◌≡◌, IfOk, OnOk, OnErr, IsTrue};
 ghost use Rattle.strm_msg.specs.declared.words.Side.TheVariants as Side;
 ghost use Rattle.strm_module.specs.Kinds.{all_go_up};
 ghost use Rattle.strm_module.specs.Shape.{IsSameModule};
-ghost use Rattle.strm_module.specs.Module.{put_of, serve_of, own_of, sends_up, waits_here};
+ghost use Rattle.strm_module.specs.Module.{put_of, serve_of, own_of, expired, sends_up, waits_here};
 
 use crate::outs::{Outs, Put};
 use crate::shape::Shape;
@@ -63,6 +63,14 @@ impl<K: Kinds> Shape<K> {
         ensures upward { side ≡ Side.Rd → IfOk result (λ outs. IsTrue (all_go_up outs.items)) }
     {
         self.kind.own(alloc, side)
+    }
+
+    /// Lets so many ticks pass for a module of this shape, by which nothing is sent (timeout(9F)). Takes no
+    /// memory.
+    pub fn expire(&mut self, ticks: u32)
+        ensures { self.new ≡ expired K.means self.old ticks }
+    {
+        self.kind.expire(ticks)
     }
 
     /// The turn of the service of a side, as things are now (srv(9E)).

@@ -12,13 +12,13 @@ use strm_msg::{BoxedMessage, NoMem, Side};
 ///
 /// In every vocabulary an ordinary message of a side with marks waits in the module's queue, and a high one
 /// never does. A flush empties the queues that it names. A module keeps its serial, its name and its marks.
-/// Four things are left to a kind. They are the processing of a message that does not wait (the state
+/// Five things are left to a kind. They are the processing of a message that does not wait (the state
 /// afterwards, and the messages that leave), the turn of the service of a side, the messages that it sends of
-/// its own, and whether messages of a side may be answered on the other.
+/// its own, whether messages of a side may be answered on the other, and what time changes in it.
 ///
-/// An implementation gives that meaning as `means`, and `process`, `turn`, `own` and `answers` are proved to
-/// do it. Most kinds always serve the messages that wait and send nothing of their own. For one that turns
-/// each message round, and so answers those that go down, it is
+/// An implementation gives that meaning as `means`, and `process`, `turn`, `own`, `answers` and `expire` are
+/// proved to do it. Most kinds always serve the messages that wait, send nothing of their own and ask for no
+/// ticks. For one that turns each message round, and so answers those that go down, it is
 ///
 /// ```
 /// ghost means = { serving (λ kind side m. replied kind m) (λ kind side. not (is_up side)) };
@@ -67,6 +67,14 @@ pub trait Kinds: Drop {
     /// so from the first on, whatever it keeps (`AnswersStay`).
     fn answers(&self, side: Side) -> bool
         ensures { result ≡ means.answers self.now side };
+
+    /// Lets so many ticks pass, which come from outside (timeout(9F)). That changes the state of the kind
+    /// alone: nothing is sent. What the kind then owes, its turns say, and `own` sends it in the same event.
+    /// Takes no memory. A kind that asks for no ticks stays as it is.
+    ///
+    /// Two ticks of one need not be one of two: what is due after the first is sent before the second.
+    fn expire(&mut self, ticks: u32)
+        ensures { self.new ≡ means.expire self.old ticks };
 
     /// An equal kind. Fails only when memory runs out.
     fn copy(&self, alloc: Global) -> Result<Self, NoMem>

@@ -75,6 +75,8 @@ pub(crate) const COUNT: Field = Field(b"N", Form::Upto(MOST_ASKED));
 
 pub(crate) const COMMAND: Field = Field(b"CMD", Form::Upto(MOST_U32));
 
+pub(crate) const TICKS: Field = Field(b"TICKS", Form::Upto(MOST_U32));
+
 pub(crate) const PRIORITY: Field = Field(b"", Form::Choice(Words::Priorities));
 
 pub(crate) const PUT_FLAG: Field = Field(b"", Form::Choice(Words::PutFlags));

@@ -151,6 +151,7 @@ fn add_plain(fields: &mut Vec<Field>, verb: Verb) -> Result<(), NoMem> {
         Verb::FlushBand => add(fields, &[field::BAND, field::FLAGS]),
         Verb::SetRead => add(fields, &[field::MODE, field::CONTROL]),
         Verb::Canput | Verb::Ckband => add(fields, &[field::BAND]),
+        Verb::Tick => add(fields, &[field::TICKS]),
         Verb::Getq => add(fields, &[field::MODULE, field::SIDE, field::WANTED]),
         Verb::Bcanputnext => add(fields, &[field::MODULE, field::SIDE, field::BAND]),
         Verb::Qsize => add(fields, &[field::MODULE, field::SIDE]),

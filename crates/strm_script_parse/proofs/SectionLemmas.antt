@@ -144,6 +144,7 @@ no_declaration Verb.Putbq = (refl, refl, refl, refl)
 no_declaration Verb.Putnext = (refl, refl, refl, refl)
 no_declaration Verb.Bcanputnext = (refl, refl, refl, refl)
 no_declaration Verb.Qsize = (refl, refl, refl, refl)
+no_declaration Verb.Tick = (refl, refl, refl, refl)
 no_declaration Verb.Poll = (refl, refl, refl, refl)
 
 verb_declares_nothing : (word : List ℕ) (verb : Verb) → verb_named word ≡ Some verb → IsNoDeclaration word

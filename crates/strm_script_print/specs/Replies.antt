@@ -119,6 +119,7 @@ reply_fields (Reply.Strput id) = Number id ∷ []
 reply_fields Reply.Flush = done_fields
 reply_fields Reply.FlushBand = done_fields
 reply_fields (Reply.Close names) = Word (codes "closed") ∷ name_fields names.items
+reply_fields Reply.Tick = done_fields
 reply_fields Reply.Line = done_fields
 reply_fields (Reply.Message m) = message_fields m
 reply_fields Reply.Hangup = Word (message_word MessageWord.Hangup) ∷ []

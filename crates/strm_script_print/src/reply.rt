@@ -122,6 +122,7 @@ fn add_as_list<W: Write>(w: &mut W, out: &mut LineBuffer, reply: &Reply)
         | Reply::SetRead
         | Reply::Flush
         | Reply::FlushBand
+        | Reply::Tick
         | Reply::Line => add_word(w, out, b"0"),
         Reply::Getmsg {
             ctl,

@@ -62,6 +62,7 @@ pub(crate) fn verb_of<K>(request: &Request<BoxedShape<K>>) -> Verb
         Request::Close => Verb::Close,
         Request::Take => Verb::Take,
         Request::Service { call, .. } => service_verb(call),
+        Request::Tick { .. } => Verb::Tick,
         Request::Poll => Verb::Poll,
     }
 }
@@ -181,6 +182,7 @@ fn add_as_list<W: Write, K: PrintKind + Drop>(
         }
         Request::Service { name, side, call } => add_service(w, out, name, *side, call),
         Request::Canput { band } | Request::Ckband { band } => add_number(w, out, u64::from(*band)),
+        Request::Tick { ticks } => add_number(w, out, u64::from(*ticks)),
         Request::Pop
         | Request::Look
         | Request::List

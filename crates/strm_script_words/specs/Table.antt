@@ -47,10 +47,11 @@ word_of Verb.Putbq = codes "putbq"
 word_of Verb.Putnext = codes "putnext"
 word_of Verb.Bcanputnext = codes "bcanputnext"
 word_of Verb.Qsize = codes "qsize"
+word_of Verb.Tick = codes "tick"
 word_of Verb.Poll = codes "poll"
 
 abbrev pub all_verbs : List Verb
-all_verbs = Verb.Putmsg ∷ Verb.Putpmsg ∷ Verb.Getmsg ∷ Verb.Getpmsg ∷ Verb.Read ∷ Verb.Write ∷ Verb.Push ∷ Verb.Pop ∷ Verb.Look ∷ Verb.List ∷ Verb.Find ∷ Verb.Str ∷ Verb.Strput ∷ Verb.Strget ∷ Verb.Flush ∷ Verb.FlushBand ∷ Verb.Nread ∷ Verb.Peek ∷ Verb.SetRead ∷ Verb.GetRead ∷ Verb.Canput ∷ Verb.Ckband ∷ Verb.Getband ∷ Verb.Close ∷ Verb.Take ∷ Verb.Getq ∷ Verb.Putbq ∷ Verb.Putnext ∷ Verb.Bcanputnext ∷ Verb.Qsize ∷ Verb.Poll ∷ []
+all_verbs = Verb.Putmsg ∷ Verb.Putpmsg ∷ Verb.Getmsg ∷ Verb.Getpmsg ∷ Verb.Read ∷ Verb.Write ∷ Verb.Push ∷ Verb.Pop ∷ Verb.Look ∷ Verb.List ∷ Verb.Find ∷ Verb.Str ∷ Verb.Strput ∷ Verb.Strget ∷ Verb.Flush ∷ Verb.FlushBand ∷ Verb.Nread ∷ Verb.Peek ∷ Verb.SetRead ∷ Verb.GetRead ∷ Verb.Canput ∷ Verb.Ckband ∷ Verb.Getband ∷ Verb.Close ∷ Verb.Take ∷ Verb.Getq ∷ Verb.Putbq ∷ Verb.Putnext ∷ Verb.Bcanputnext ∷ Verb.Qsize ∷ Verb.Tick ∷ Verb.Poll ∷ []
 
 -- the call of a word
 abbrev pub verb_named : List ℕ → Option Verb
@@ -75,6 +76,7 @@ forms_of Verb.Peek = Maximum ∷ Maximum ∷ Choice (map wanted_word all_wanted)
 forms_of Verb.SetRead = Choice (map mode_word all_modes) ∷ Choice (map prot_word all_prots) ∷ []
 forms_of Verb.Canput = Upto MOST_BAND ∷ []
 forms_of Verb.Ckband = Upto MOST_BAND ∷ []
+forms_of Verb.Tick = Upto MOST_U32 ∷ []
 forms_of verb = []
 
 abbrev pub is_push : Verb → Bool
@@ -119,6 +121,7 @@ asked_of Request.Getband = Told Verb.Getband []
 asked_of Request.Close = Told Verb.Close []
 asked_of Request.Take = Told Verb.Take []
 asked_of (Request.Service name side call) = Serves name.items side call
+asked_of (Request.Tick ticks) = Told Verb.Tick (Number ticks ∷ [])
 asked_of Request.Poll = Told Verb.Poll []
 
 -- the request of a call that has no fields (no public clause cites it)

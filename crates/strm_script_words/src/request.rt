@@ -223,6 +223,17 @@ fn ckband<M: ModuleOf>(texts: &[&[u8]]) -> Result<Request<BoxedModule<M>>, Cause
     Ok(Request::Ckband { band })
 }
 
+/// Reads `tick TICKS`.
+fn tick<M: ModuleOf>(texts: &[&[u8]]) -> Result<Request<BoxedModule<M>>, Cause>
+    ensures { Tells table.asked_of result (table.told_at Verb.Tick (texts_of texts.now)) }
+{
+    let [ticks] = texts else {
+        return Err(Cause::Fields);
+    };
+    let ticks = u32_at(ticks)?;
+    Ok(Request::Tick { ticks })
+}
+
 /// Reads `push KIND NAME RD WR` and the fields of the kind. The module is made with its object.
 fn push<M: PlayModule>(
     alloc: Global,
@@ -277,6 +288,7 @@ fn bare_at<M: ModuleOf>(verb: Verb, texts: &[&[u8]]) -> Result<Request<BoxedModu
         Verb::Getband => plain(texts, Request::Getband),
         Verb::Close => plain(texts, Request::Close),
         Verb::Take => plain(texts, Request::Take),
+        Verb::Tick => tick(texts),
         Verb::Poll => plain(texts, Request::Poll),
         _ => unreachable!(),
     }

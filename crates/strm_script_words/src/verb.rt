@@ -73,6 +73,8 @@ pub enum Verb {
     Bcanputnext,
     /// Asks for the number of messages in such a queue (qsize(9F)).
     Qsize,
+    /// Lets ticks pass for the modules of the end (timeout(9F)).
+    Tick,
     /// Asks for the state of the end, as poll(2) reports it.
     Poll,
 }
@@ -92,7 +94,8 @@ impl Verb {
             | Verb::Strget
             | Verb::Flush
             | Verb::Canput
-            | Verb::Ckband => 1,
+            | Verb::Ckband
+            | Verb::Tick => 1,
             Verb::Push
             | Verb::Pop
             | Verb::Look
@@ -176,6 +179,7 @@ impl Keyword for Verb {
             Verb::Putnext => b"putnext",
             Verb::Bcanputnext => b"bcanputnext",
             Verb::Qsize => b"qsize",
+            Verb::Tick => b"tick",
             Verb::Poll => b"poll",
         }
     }
@@ -212,6 +216,7 @@ impl Keyword for Verb {
             Verb::Putnext,
             Verb::Bcanputnext,
             Verb::Qsize,
+            Verb::Tick,
             Verb::Poll,
         ]
     }

@@ -14,9 +14,10 @@ use Rattle.strm_chain.specs.declared.spot.Spot.TheVariants.{Down}
 use Rattle.strm_chain_ends.specs.Image.{Image, end_of, with_end, with_state}
 use Rattle.strm_chain_ends.specs.Same.{SameModules}
 use Rattle.strm_chain.specs.Fault.{Breaks}
+use Rattle.strm_chain_ends.proofs.TickLemmas.{ticked_keeps}
 use Rattle.strm_chain.proofs.SameLemmas.{deliver_keeps, leads_keeps}
 use Rattle.strm_head_calls.specs.declared.request.Request.{Request}
-use Rattle.strm_head_calls.specs.declared.request.Request.TheVariants.{Putmsg, Putpmsg, Getmsg, Getpmsg, Read, Write, Push, Nread, Peek, SetRead, GetRead, Canput, Ckband, Getband, Pop, Look, Find, Str, Strput, Strget, Flush, FlushBand, Close, Take, Service, Poll}
+use Rattle.strm_head_calls.specs.declared.request.Request.TheVariants.{Putmsg, Putpmsg, Getmsg, Getpmsg, Read, Write, Push, Nread, Peek, SetRead, GetRead, Canput, Ckband, Getband, Pop, Look, Find, Str, Strput, Strget, Flush, FlushBand, Close, Take, Service, Tick, Poll}
 use Rattle.strm_head_calls.specs.declared.request.Request.TheVariants as Requests
 use Rattle.strm_head_calls.specs.declared.refusal.Refusal.{Refusal}
 use Rattle.strm_head_calls.specs.declared.answer.Reply.{Reply}
@@ -171,6 +172,7 @@ module _ {K : Type 0} (means : Meaning K) where
   plain_standing image e Take plain = taken_standing image e (end_of image e).drv
   plain_standing image e (Service name side call) plain =
       standing_same image _ (service_keeps means image e (served_at image e name.items) side call)
+  plain_standing image e (Tick ticks) plain = standing_same image _ (ticked_keeps means image e ticks)
   plain_standing image e Poll plain = refl
 
   -- the module that a call has put in

@@ -15,6 +15,7 @@ mod circles;
 mod histories;
 mod owners;
 mod tables;
+mod ticks;
 mod wants;
 mod wires;
 

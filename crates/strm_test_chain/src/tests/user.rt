@@ -231,6 +231,8 @@ impl Kinds for Reply {
         }
     }
 
+    fn expire(&mut self, _: u32) {}
+
     fn copy(&self, _: Global) -> Result<Reply, NoMem> {
         Ok(Reply)
     }

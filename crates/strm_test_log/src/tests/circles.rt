@@ -40,6 +40,8 @@ impl Kinds for Answering {
         }
     }
 
+    fn expire(&mut self, _: u32) {}
+
     fn copy(&self, _: Global) -> Result<Answering, NoMem> {
         Ok(Answering {
             up: self.up,

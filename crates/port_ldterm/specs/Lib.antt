@@ -1,7 +1,1 @@
-pub mod Edit
-pub mod EditLaws
-pub mod Keys
-pub mod Screen
-pub mod Modes
-pub mod Typing
 pub mod Terminal

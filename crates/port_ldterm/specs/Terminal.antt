@@ -16,14 +16,14 @@ use Rattle.strm_head_calls.specs.declared.service.ServiceCall.{ServiceCall}
 use Rattle.strm_head_calls.specs.declared.service.ServiceCall.TheVariants.{Getq, Putbq, Putnext}
 use Rattle.strm_owner.specs.declared.owner.Told.{Told}
 use Rattle.strm_owner.specs.declared.owner.Told.TheVariants.{Done, Refused, Broke}
-use Rattle.port_ldterm.specs.declared.modes.Modes.{Modes}
-use Rattle.port_ldterm.specs.declared.modes.TheConstants.{GET_MODES, SET_MODES}
+use Rattle.port_termio.specs.declared.modes.Modes.{Modes}
+use Rattle.port_termio.specs.declared.modes.TheConstants.{GET_MODES, SET_MODES}
 use Rattle.port_ldterm.specs.declared.terminal.Asked.{Asked}
 use Rattle.port_ldterm.specs.declared.terminal.Asked.TheVariants.{Nothing, Urgent, Back, Up, Down, Take}
 use Rattle.port_ldterm.specs.declared.terminal.Waits.{Waits}
-use Rattle.port_ldterm.specs.Edit.{Editing, is_empty, sent_by, with_modes}
-use Rattle.port_ldterm.specs.Modes.{modes_bytes, modes_in}
-use Rattle.port_ldterm.specs.Typing.{Typed_on, typed_on, shown_text}
+use Rattle.port_termio.specs.Edit.{Editing, is_empty, sent_by, with_modes}
+use Rattle.port_termio.specs.Modes.{modes_bytes, modes_in}
+use Rattle.port_termio.specs.Typing.{Typed_on, typed_on, shown_text}
 
 -- a terminal: its editor, the messages that wait to go on, what must wait for something to come, and what it
 -- has asked for last. `urgent` goes before all else, `back` is put back into its queue, and `up` and `down`

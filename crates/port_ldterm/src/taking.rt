@@ -3,15 +3,13 @@ ghost use Rattle.std.specs.Prelude.{◌≡◌, ◌≤◌, true, IfOk, IfErr, OnE
 ghost use Rattle.strm_msg.specs.Message.{data_msg};
 ghost use Rattle.strm_msg.specs.declared.kind.MsgKind.TheVariants.{MIoctl};
 ghost use Rattle.strm_msg.specs.declared.words.Side.TheVariants.{Wr};
-ghost use Rattle.port_ldterm.specs.Edit.{sent_by, with_modes};
+ghost use Rattle.port_termio.specs.Edit.{sent_by, with_modes};
 ghost use Rattle.port_ldterm.specs.Terminal as terminal;
 ghost use Rattle.port_ldterm.specs.Terminal.{all_waits, flushes_line, high_taken, takes_memory, unless_empty};
-ghost use Rattle.port_ldterm.specs.Typing.{typed_on};
+ghost use Rattle.port_termio.specs.Typing.{typed_on};
 
-use crate::editor::LineEditor;
-use crate::modes::{GET_MODES, Modes, SET_MODES};
 use crate::terminal::Terminal;
-use crate::typing::shown_text;
+use port_termio::{GET_MODES, LineEditor, Modes, SET_MODES, shown_text};
 use std::alloc::Global;
 use strm_msg::{BoxedMessage, Bytes, Errno, Message, MsgKind, NoMem, Side};
 

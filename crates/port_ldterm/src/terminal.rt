@@ -3,8 +3,7 @@ ghost use Rattle.std.specs.Prelude.{◌≡◌};
 ghost use Rattle.port_ldterm.specs.Terminal as terminal;
 ghost use Rattle.port_ldterm.specs.Terminal.{fresh_terminal, side_waits, HearsReply};
 
-use crate::editor::LineEditor;
-use crate::modes::Modes;
+use port_termio::{LineEditor, Modes};
 use std::alloc::Global;
 use std::marker::Model;
 use std::mem;

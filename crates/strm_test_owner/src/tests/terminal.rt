@@ -1,7 +1,9 @@
-//! A terminal over a wire, whose keys come in and whose output is taken. The outcome of each row is worked
-//! out by hand from termio(7) and streamio(7).
+//! A terminal, whose keys come in and whose output is taken: as an owner over a wire, as a kind of module over
+//! a wire, and as one over a loop, where the other end is the master. The outcome of each row is worked out
+//! by hand from termio(7) and streamio(7).
 use super::editor::{RAW, USUAL};
 use port_ldterm::{GET_MODES, Modes, SET_MODES, Terminal};
+use port_ldterm_module::ByShape;
 use std::alloc::Global;
 use std::process::Abort;
 use strm_head::{Arrived, Outcome, Stream};
@@ -18,6 +20,8 @@ const BUDGET: u32 = 1000;
 enum Row {
     /// Keys come in, and this is shown.
     Types(&'static [u8], &'static [u8]),
+    /// Keys come in, and nobody takes what is shown.
+    TypesOn(&'static [u8]),
     /// A process reads these bytes.
     Reads(&'static [u8]),
     /// There is nothing to read.
@@ -41,8 +45,8 @@ enum Row {
 }
 
 use Row::{
-    Asks, Flushes, Reads, ReadsNothing, Sets, SetsNothing, Shows, Types, Writes, WritesNothing,
-    WritesOn,
+    Asks, Flushes, Reads, ReadsNothing, Sets, SetsNothing, Shows, Types, TypesOn, Writes,
+    WritesNothing, WritesOn,
 };
 
 /// Keys are edited, and lines are read one by one.
@@ -84,6 +88,22 @@ const FILLS: &[Row] = &[
     ReadsNothing,
 ];
 
+/// The same for a kind of module. A message of keys waits in its queue until the head has room, and so is not
+/// shown before.
+const KIND_FILLS: &[Row] = &[
+    Types(b"one\rtwo\rthr", b"one\r\ntwo\r\nthr"),
+    Reads(b"one\n"),
+    Reads(b"two\n"),
+    Types(b"ee and more and more\r", b"ee and more and more\r\n"),
+    Types(b"second\r", b""),
+    Types(b"third\r", b""),
+    Reads(b"three and more and more\n"),
+    Shows(b"second\r\nthird\r\n"),
+    Reads(b"second\n"),
+    Reads(b"third\n"),
+    ReadsNothing,
+];
+
 /// Output that nobody takes fills the wire, and then the queue of the module.
 const HOLDS: &[Row] = &[
     WritesOn(b"0123456789abcdef"),
@@ -92,6 +112,30 @@ const HOLDS: &[Row] = &[
     WritesNothing,
     Shows(b"0123456789abcdef0123456789abcdef0123456789abcdef"),
     Writes(b"more", b"more"),
+];
+
+/// The same for a kind of module, which takes no text before it can send it on.
+const KIND_HOLDS: &[Row] = &[
+    WritesOn(b"0123456789abcdef"),
+    WritesOn(b"0123456789abcdef"),
+    WritesNothing,
+    Shows(b"0123456789abcdef0123456789abcdef"),
+    Writes(b"more", b"more"),
+];
+
+/// What is typed while nobody takes what is shown: once 64 bytes are owed, keys wait and are not lost.
+const KIND_OWES: &[Row] = &[
+    TypesOn(b"0123456789abcdef"),
+    TypesOn(b"\x150123456789abcdef\r"),
+    TypesOn(b"second\r"),
+    Reads(b"0123456789abcdef\n"),
+    ReadsNothing,
+    Shows(
+        b"0123456789abcdef\x08 \x08\x08 \x08\x08 \x08\x08 \x08\x08 \x08\x08 \x08\x08 \x08\x08 \x08\
+\x08 \x08\x08 \x08\x08 \x08\x08 \x08\x08 \x08\x08 \x08\x08 \x08\x08 \x08\
+0123456789abcdef\r\nsecond\r\n",
+    ),
+    Reads(b"second\n"),
 ];
 
 /// Modes are told and set. Without ICANON the line goes up.
@@ -121,12 +165,20 @@ const FORGETS: &[Row] = &[
     Reads(b"new\n"),
 ];
 
-/// A terminal, its stream, and the module that it serves.
+/// A module of the program, and the terminal that serves it.
+#[derive(Drop)]
+struct Served {
+    module: ServedModule,
+    terminal: Terminal,
+}
+
+/// A stream with a terminal at end A: one that the program serves, or a kind of module.
 #[derive(Drop)]
 struct Tty<M: ModuleOf> {
     stream: Stream<M>,
-    module: ServedModule,
-    terminal: Terminal,
+    served: Option<Served>,
+    /// Whether the keys are written at end B of a loop, where what is shown is read.
+    is_pty: bool,
     alloc: Global,
 }
 
@@ -140,17 +192,16 @@ fn module(rt: &impl Abort, alloc: Global, name: &[u8]) -> BoxedModule<Plain> {
 impl<M: ModuleOf> Tty<M> {
     /// A terminal on this stream, with the module of this push.
     fn new(
-        rt: &impl Abort,
         alloc: Global,
-        modes: Modes,
+        served: Option<Served>,
+        is_pty: bool,
         stream: Stream<M>,
         push: Request<BoxedModule<M>>,
     ) -> Tty<M> {
-        let name = Name::of(b"ldterm").expect(rt, "a short name");
         let mut tty = Tty {
             stream,
-            module: ServedModule::new(alloc, End::A, name),
-            terminal: Terminal::new(alloc, modes),
+            served,
+            is_pty,
             alloc,
         };
         drop(tty.ask(push));
@@ -169,30 +220,75 @@ impl<M: ModuleOf> Tty<M> {
     }
 
     fn pump(&mut self) {
-        self.module
-            .pump(&mut self.stream, &mut self.terminal, BUDGET);
+        if let Some(served) = &mut self.served {
+            served
+                .module
+                .pump(&mut self.stream, &mut served.terminal, BUDGET);
+        }
+    }
+
+    /// Makes a call at the other end of a loop, and lets the terminal do its part.
+    fn ask_master(&mut self, request: Request<BoxedModule<M>>) -> Answer {
+        let Outcome { answer, .. } = self.stream.apply(End::B, request);
+        self.pump();
+        answer
     }
 
     fn bytes(&self, rt: &impl Abort, bytes: &[u8]) -> Bytes {
         Bytes::from_slice(self.alloc, bytes).expect(rt, "no memory")
     }
 
-    /// Whether these bytes are taken of the wire, in messages of any length.
+    /// Adds the next bytes that are read at the other end of a loop, if there are more.
+    fn reads_screen(&mut self, rt: &impl Abort, shown: &mut Vec<u8>) -> bool {
+        let Answer::Done(Reply::Read { dat }) = self.ask_master(Request::Read { max: 64 }) else {
+            return false;
+        };
+        shown
+            .extend_from_slice(dat.as_slice())
+            .expect(rt, "no memory");
+        true
+    }
+
+    /// Adds the next bytes that are taken of a wire, if there are more.
+    fn takes_screen(&mut self, rt: &impl Abort, shown: &mut Vec<u8>) -> bool {
+        let Answer::Done(Reply::Message { m }) = self.ask(Request::Take) else {
+            return false;
+        };
+        let dat = m.dat.as_ref().expect(rt, "data alone");
+        shown
+            .extend_from_slice(dat.as_slice())
+            .expect(rt, "no memory");
+        true
+    }
+
+    /// Adds the next bytes that are shown, if there are more.
+    fn adds_shown(&mut self, rt: &impl Abort, shown: &mut Vec<u8>) -> bool {
+        if self.is_pty {
+            self.reads_screen(rt, shown)
+        } else {
+            self.takes_screen(rt, shown)
+        }
+    }
+
+    /// Whether these bytes are shown, in messages of any length.
     fn shows(&mut self, rt: &impl Abort, wanted: &[u8]) -> bool {
         let mut shown = Vec::new(self.alloc);
         for _ in 0..BUDGET {
-            let Answer::Done(Reply::Message { m }) = self.ask(Request::Take) else {
+            if !self.adds_shown(rt, &mut shown) {
                 break;
-            };
-            let dat = m.dat.as_ref().expect(rt, "data alone");
-            shown
-                .extend_from_slice(dat.as_slice())
-                .expect(rt, "no memory");
+            }
         }
         shown.as_slice() == wanted
     }
 
     fn types(&mut self, rt: &impl Abort, keys: &[u8]) -> bool {
+        if self.is_pty {
+            let dat = self.bytes(rt, keys);
+            return matches!(
+                self.ask_master(Request::Write { dat }),
+                Answer::Done(Reply::Write { .. })
+            );
+        }
         let m = Message::of_data(self.alloc, 0, keys).expect(rt, "no memory");
         let arrived = self.stream.arrive(m);
         self.pump();
@@ -224,6 +320,7 @@ impl<M: ModuleOf> Tty<M> {
     fn happens(&mut self, rt: &impl Abort, row: Row) -> bool {
         match row {
             Types(keys, shown) => self.types(rt, keys) && self.shows(rt, shown),
+            TypesOn(keys) => self.types(rt, keys),
             Reads(bytes) => self.reads(bytes),
             ReadsNothing => matches!(
                 self.ask(Request::Read { max: 64 }),
@@ -284,8 +381,30 @@ fn play_on<M: ModuleOf>(rt: &impl Abort, mut tty: Tty<M>, rows: &[Row]) {
 fn play(rt: &impl Abort, alloc: Global, modes: Modes, rows: &[Row]) {
     let stream = Stream::new(alloc, Driver::Wire, (16, 8), (16, 8)).expect(rt, "no memory");
     let instance = module(rt, alloc, b"ldterm");
-    let tty = Tty::new(rt, alloc, modes, stream, Request::Push { instance });
+    let name = Name::of(b"ldterm").expect(rt, "a short name");
+    let served = Served {
+        module: ServedModule::new(alloc, End::A, name),
+        terminal: Terminal::new(alloc, modes),
+    };
+    let push = Request::Push { instance };
+    let tty = Tty::new(alloc, Some(served), false, stream, push);
     play_on(rt, tty, rows);
+}
+
+/// Plays rows at a terminal that is a kind of module, over a driver whose lists are full at 16 bytes.
+fn play_kind(rt: &impl Abort, alloc: Global, driver: Driver, modes: Modes, rows: &[Row]) {
+    let stream = Stream::new(alloc, driver, (16, 8), (16, 8)).expect(rt, "no memory");
+    let made = ByShape::ldterm(1, b"ldterm", (16, 8), (16, 8), modes);
+    let instance = BoxedModule::new(alloc, made.expect(rt, "a good name")).expect(rt, "no memory");
+    let push = Request::Push { instance };
+    let tty = Tty::new(alloc, None, driver == Driver::Loop, stream, push);
+    play_on(rt, tty, rows);
+}
+
+/// Plays rows at a terminal that is a kind of module, over a wire and over a loop.
+fn play_kinds(rt: &impl Abort, alloc: Global, modes: Modes, rows: &[Row]) {
+    play_kind(rt, alloc, Driver::Wire, modes, rows);
+    play_kind(rt, alloc, Driver::Loop, modes, rows);
 }
 
 #[test]
@@ -313,12 +432,25 @@ fn flush_forgets_the_line(rt: HostRuntime) {
     play(&rt, rt.alloc(), USUAL, FORGETS);
 }
 
+/// Keys without ICANON and ECHO.
+const RAW_KEYS: &[Row] = &[Types(b"a\x7f\r", b""), Reads(b"a\x7f\r")];
+
 #[test]
 fn raw_keys_go_up_as_they_come(rt: HostRuntime) {
-    play(
-        &rt,
-        rt.alloc(),
-        RAW,
-        &[Types(b"a\x7f\r", b""), Reads(b"a\x7f\r")],
-    );
+    play(&rt, rt.alloc(), RAW, RAW_KEYS);
+}
+
+#[test]
+fn a_kind_of_module_edits_keys_likewise(rt: HostRuntime) {
+    play_kinds(&rt, rt.alloc(), USUAL, EDITS);
+    play_kinds(&rt, rt.alloc(), USUAL, SETS);
+    play_kinds(&rt, rt.alloc(), USUAL, FORGETS);
+    play_kinds(&rt, rt.alloc(), RAW, RAW_KEYS);
+}
+
+#[test]
+fn a_kind_of_module_holds_keys_and_output_back(rt: HostRuntime) {
+    play_kind(&rt, rt.alloc(), Driver::Wire, USUAL, KIND_FILLS);
+    play_kind(&rt, rt.alloc(), Driver::Wire, USUAL, KIND_HOLDS);
+    play_kind(&rt, rt.alloc(), Driver::Wire, USUAL, KIND_OWES);
 }

@@ -1,5 +1,0 @@
-use Rattle.port_ldterm.proofs.TypingLemmas.{pieces_are_one_typing}
-use Rattle.port_ldterm.proofs.laws.keys_come_in_pieces.Goals as goal
-
-pub returns : goal.returns
-returns c = pieces_are_one_typing

@@ -1,0 +1,5 @@
+pub mod SentLemmas
+pub mod RawLemmas
+pub mod CalmLemmas
+pub mod AnswerLemmas
+pub mod SettlesLemmas

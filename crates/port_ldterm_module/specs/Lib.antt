@@ -1,0 +1,3 @@
+pub mod Ldterm
+pub mod LdtermLaws
+pub mod Words

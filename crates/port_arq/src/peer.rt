@@ -1,11 +1,11 @@
 //! One end of a data link.
-ghost use Rattle.std.specs.Prelude.{◌≡◌, ◌<◌, ◌≤◌, length, IfOk, IfErr, OnOk, OnErr, None, Some, is_some, IsSome, drop};
+ghost use Rattle.std.specs.Prelude.{◌≡◌, ◌<◌, ◌≤◌, length, IfOk, IfErr, OnOk, OnErr, None, Some, is_some, IsSome, drop, ◌↔◌, true};
 ghost use Rattle.port_arq.specs.Peer as peer;
 ghost use Rattle.port_arq.specs.Peer.{fresh, refusal, handed_down, after_sending, unsent, carrying, heard_up, goes_up, taken, after_hearing, acknowledged_by, without_first, timed};
 
 use crate::frame::{Frame, Numbered};
 use crate::refusal::{Refusal, Refused};
-use crate::waiting::{Waiting, drop_first};
+use crate::waiting::{Waiting, are_same, copied, drop_first};
 use arrayvec::ArrayVec;
 use std::marker::Model;
 use strm_msg::{Bytes, NoMem};
@@ -102,6 +102,20 @@ impl Peer {
         ensures most { self.now.window ≤ MOST_WINDOW }
     {
         self.waiting.len()
+    }
+
+    /// The most messages that wait for an acknowledgement, 1 to `MOST_WINDOW`.
+    pub fn window(&self) -> usize
+        ensures { result ≡ self.now.window }
+    {
+        self.window
+    }
+
+    /// The ticks after which the timer runs out, 1 or more.
+    pub fn interval(&self) -> u32
+        ensures { result ≡ self.now.interval }
+    {
+        self.interval
     }
 
     /// The reason for which the next message is not taken, if there is one.
@@ -236,5 +250,34 @@ impl Peer {
             self.sent = 0;
             self.ticks = 0;
         }
+    }
+    /// An equal end, whose messages share their bytes with this one's. Fails only where the bytes of a message
+    /// have more owners than can be counted.
+    pub fn copy(&self) -> Result<Peer, NoMem>
+        ensures { IfOk result (λ copy. copy ≡ self.now) }
+    {
+        Ok(Peer {
+            window: self.window,
+            interval: self.interval,
+            acknowledged: self.acknowledged,
+            waiting: copied(&self.waiting)?,
+            sent: self.sent,
+            ticks: self.ticks,
+            awaited: self.awaited,
+            owes: self.owes,
+        })
+    }
+    /// Whether another end is the same, and knows the same.
+    pub fn is_same(&self, other: &Peer) -> bool
+        ensures { result ≡ true ↔ self.now ≡ other.now }
+    {
+        self.window == other.window
+            && self.interval == other.interval
+            && self.acknowledged == other.acknowledged
+            && are_same(self.waiting.as_slice(), other.waiting.as_slice())
+            && self.sent == other.sent
+            && self.ticks == other.ticks
+            && self.awaited == other.awaited
+            && self.owes == other.owes
     }
 }

@@ -1,10 +1,10 @@
 //! Messages that wait for an acknowledgement.
-ghost use Rattle.std.specs.Prelude.{◌≡◌, ◌≤◌, drop, length};
+ghost use Rattle.std.specs.Prelude.{◌≡◌, ◌≤◌, ◌↔◌, drop, length, true, IfOk};
 
 use crate::peer::MOST_WINDOW;
 use arrayvec::ArrayVec;
 use std::marker::Model;
-use strm_msg::Bytes;
+use strm_msg::{Bytes, NoMem};
 
 /// The bytes of a message that waits. Contracts see the bytes.
 #[derive(Debug, Drop, PartialEq, Eq)]
@@ -38,5 +38,41 @@ pub(crate) fn drop_first(waiting: &mut ArrayVec<Waiting, MOST_WINDOW>, count: us
 {
     for _ in 0..count {
         drop(waiting.remove(0));
+    }
+}
+
+/// Equal messages, which share their bytes with these. Fails only where the bytes of one have more owners than
+/// can be counted.
+pub(crate) fn copied(
+    waiting: &ArrayVec<Waiting, MOST_WINDOW>,
+) -> Result<ArrayVec<Waiting, MOST_WINDOW>, NoMem>
+    ensures { IfOk result (λ copy. copy.items ≡ waiting.now.items) }
+{
+    let mut copy = ArrayVec::new();
+    for one in waiting.as_slice() {
+        copy.push(Waiting {
+            bytes: one.bytes.copy()?,
+        });
+    }
+    Ok(copy)
+}
+
+/// Whether two messages are the same.
+fn is_same(one: &Waiting, other: &Waiting) -> bool
+    ensures { result ≡ true ↔ one.now ≡ other.now }
+{
+    one.bytes.as_slice() == other.bytes.as_slice()
+}
+
+/// Whether messages are the same, in the same order.
+pub(crate) fn are_same(one: &[Waiting], other: &[Waiting]) -> bool
+    ensures { result ≡ true ↔ one.now ≡ other.now }
+{
+    match (one.split_first(), other.split_first()) {
+        (Some((first, one)), Some((message, other))) => {
+            is_same(first, message) && are_same(one, other)
+        }
+        (None, None) => true,
+        _ => false,
     }
 }

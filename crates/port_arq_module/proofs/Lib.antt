@@ -1,0 +1,5 @@
+pub mod AnswerLemmas
+pub mod CalmLemmas
+pub mod EndLemmas
+pub mod BetweenLemmas
+pub mod SettlesLemmas

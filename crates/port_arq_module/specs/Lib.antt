@@ -1,0 +1,4 @@
+pub mod Arq
+pub mod Between
+pub mod BetweenLaws
+pub mod Words

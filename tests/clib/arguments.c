@@ -12,35 +12,7 @@
 #include <stdio.h>
 #include <stdlib.h>
 
-#include "../../examples/c/said.h"
-#include "strm.h"
-
-static long given;
-static int is_refusing, failed;
-
-void *__real_malloc(size_t size);
-void *__real_realloc(void *old, size_t size);
-void __real_free(void *old);
-
-void *__wrap_malloc(size_t size)
-{
-    given++;
-    return is_refusing ? NULL : __real_malloc(size);
-}
-
-void *__wrap_realloc(void *old, size_t size)
-{
-    given++;
-    return is_refusing ? NULL : __real_realloc(old, size);
-}
-
-void __wrap_free(void *old)
-{
-    __real_free(old);
-}
-
-static struct strm s = STRM_CLOSED;
-static uint8_t at = STRM_A;
+#include "refused.h"
 
 /* Calls by their arguments: one number, or two. */
 
@@ -248,7 +220,13 @@ static const struct named_message wrong_messages[] = {
     { "type 256", { 256, 0, BYTES("ctl"), BYTES("dat"), 0, 0, 0, 0, EIO } },
     { "type -1", { -1, 0, BYTES("ctl"), BYTES("dat"), 0, 0, 0, 0, EIO } },
 };
-enum { WRONG_MESSAGES = sizeof wrong_messages / sizeof *wrong_messages };
+enum { PLAIN = -1, WRONG_MESSAGES = sizeof wrong_messages / sizeof *wrong_messages };
+
+/* The message that a service call sends: a wrong one, by its number, or `PLAIN`. */
+static const struct strm_msgb *sent(int i)
+{
+    return i == PLAIN ? &plain : &wrong_messages[i].m;
+}
 
 /* Messages that are put back, and what a getq then gives. What is not for a kind is not looked at. */
 static const struct round {
@@ -329,37 +307,19 @@ static int getq_short(int ctl_room, int dat_room)
     return getq_into(STRM_RD, 0, ctl_room, dat_room);
 }
 
-static int putbq(int unused, int side)
+static int putbq(int i, int side)
 {
-    (void)unused;
-    return strm_putbq(&s, at, module_name, side, &plain);
+    return strm_putbq(&s, at, module_name, side, sent(i));
 }
 
-static int putbq_wrong(int i, int side)
+static int putnext(int i, int side)
 {
-    return strm_putbq(&s, at, module_name, side, &wrong_messages[i].m);
+    return strm_putnext(&s, at, module_name, side, sent(i));
 }
 
-static int putnext(int unused, int side)
+static int qreply(int i, int side)
 {
-    (void)unused;
-    return strm_putnext(&s, at, module_name, side, &plain);
-}
-
-static int putnext_wrong(int i, int side)
-{
-    return strm_putnext(&s, at, module_name, side, &wrong_messages[i].m);
-}
-
-static int qreply(int unused, int side)
-{
-    (void)unused;
-    return strm_qreply(&s, at, module_name, side, &plain);
-}
-
-static int qreply_wrong(int i, int side)
-{
-    return strm_qreply(&s, at, module_name, side, &wrong_messages[i].m);
+    return strm_qreply(&s, at, module_name, side, sent(i));
 }
 
 static int bcanputnext(int band, int side)
@@ -501,11 +461,11 @@ static const struct row rows[] = {
     { "getq, flags -1", getq, -1, STRM_WR },
     { "getq, side 2", getq, 0, 2 },
     { "getq, side -1", getq, 0, -1 },
-    { "putbq, side 2", putbq, 0, 2 },
-    { "putnext, side 2", putnext, 0, 2 },
-    { "putnext, side -1", putnext, 0, -1 },
-    { "qreply, side 2", qreply, 0, 2 },
-    { "qreply, side -1", qreply, 0, -1 },
+    { "putbq, side 2", putbq, PLAIN, 2 },
+    { "putnext, side 2", putnext, PLAIN, 2 },
+    { "putnext, side -1", putnext, PLAIN, -1 },
+    { "qreply, side 2", qreply, PLAIN, 2 },
+    { "qreply, side -1", qreply, PLAIN, -1 },
     { "bcanputnext, side 2", bcanputnext, 0, 2 },
     { "qsize, side 2", qsize, 0, 2 },
 };
@@ -547,11 +507,11 @@ enum { TAKES = sizeof takes / sizeof *takes };
 /* Each service call, on a side. The first three need a queue there. */
 static const struct row services[] = {
     { "getq", getq, 0, STRM_RD },
-    { "putbq", putbq, 0, STRM_RD },
+    { "putbq", putbq, PLAIN, STRM_RD },
     { "qsize", qsize, 0, STRM_RD },
     { "getq of a high message", getq, RS_HIPRI, STRM_WR },
-    { "putnext", putnext, 0, STRM_WR },
-    { "qreply", qreply, 0, STRM_WR },
+    { "putnext", putnext, PLAIN, STRM_WR },
+    { "qreply", qreply, PLAIN, STRM_WR },
     { "bcanputnext", bcanputnext, 1, STRM_WR },
 };
 enum { NEED_QUEUE = 3, SERVICES = sizeof services / sizeof *services };
@@ -615,9 +575,9 @@ static void hold_messages(int errno_wanted, const char *where)
 {
     for (int i = 0; i < WRONG_MESSAGES; i++) {
         const struct row sends[] = {
-            { wrong_messages[i].what, putbq_wrong, i, STRM_RD },
-            { wrong_messages[i].what, putnext_wrong, i, STRM_WR },
-            { wrong_messages[i].what, qreply_wrong, i, STRM_WR },
+            { wrong_messages[i].what, putbq, i, STRM_RD },
+            { wrong_messages[i].what, putnext, i, STRM_WR },
+            { wrong_messages[i].what, qreply, i, STRM_WR },
         };
         hold_all(sends, 3, errno_wanted, where);
     }
@@ -642,13 +602,6 @@ static void hold_nobody(int errno_wanted, const char *where)
         hold_all(services, SERVICES, errno_wanted, where);
     }
     module_name = "m";
-}
-
-/* Opens a stream, or ends the test. */
-static void open_as(uint32_t driver)
-{
-    if (strm_open(&s, driver, 16, 4, 8, 2) != 0)
-        exit(2);
 }
 
 /* Arguments come before the stream, but for the name of a find, the module of a service call and arrivals. */
@@ -703,14 +656,7 @@ static void hold_states(void)
     hold_all(arrivals, ARRIVALS, EINVAL, "behind an error");
     hold_all(laters, LATERS, EPROTO, "behind an error");
     strm_free(&s);
-    open_as(STRM_LOOP);
-    is_refusing = 1;
-    int e = strm_close(&s, STRM_A);
-    is_refusing = 0;
-    if (e != ENOSR) {
-        printf("the close of an end: %s\n", said(e));
-        failed++;
-    }
+    open_broken();
     at = STRM_B;
     hold_arguments(EINVAL, "on a broken stream");
     hold_names(EINVAL, ENOSR, "on a broken stream");
@@ -865,25 +811,25 @@ static void hold_round(const struct round *it)
 /* What refuses service calls at a module that is there, and messages that go round. */
 static void hold_services(void)
 {
-    struct row full = { "putnext", putnext, 0, STRM_WR }, reply = { "qreply", qreply, 0, STRM_RD };
+    struct row full = { "putnext", putnext, PLAIN, STRM_WR }, reply = { "qreply", qreply, PLAIN, STRM_RD };
     struct row empty = { "getq", getq, 0, STRM_RD }, high = { "getq of a high message", getq, RS_HIPRI, STRM_RD };
     open_as(STRM_LINE);
     push_served("below", 0, 4);
     push_served("m", 8, 0);
     hold_all(&empty, 1, EAGAIN, "where no message waits");
-    putbq(0, STRM_RD);
+    putbq(PLAIN, STRM_RD);
     hold_all(&high, 1, EAGAIN, "where data are first");
     get_whole("what was put back", STRM_RD, &plain);
     for (int i = 0; i < ROUNDS; i++)
         hold_round(&rounds[i]);
-    hold_true("a putnext", putnext(0, STRM_WR) == 0);
+    hold_true("a putnext", putnext(PLAIN, STRM_WR) == 0);
     hold_all(&full, 1, EAGAIN, "where the next queue is full");
     hold_all(&reply, 1, EAGAIN, "where the next queue is full");
     module_name = "below";
     get_whole("what was sent on", STRM_WR, &plain);
     hold_all(services, NEED_QUEUE, EINVAL, "on a side without a queue");
     module_name = "m";
-    hold_true("a qreply", qreply(0, STRM_RD) == 0);
+    hold_true("a qreply", qreply(PLAIN, STRM_RD) == 0);
     strm_pop(&s, STRM_A);
     hold_nobody(EINVAL, "at a module that was popped");
     strm_free(&s);
@@ -903,8 +849,12 @@ static void hold_served_by_the_stream(void)
 static void hold_output(void)
 {
     static const struct row unsuited[] = {
-        { "getq", getq, 0, STRM_RD },       { "putbq", putbq, 0, STRM_RD },     { "qsize", qsize, 0, STRM_RD },
-        { "putnext", putnext, 0, STRM_WR }, { "qreply", qreply, 0, STRM_RD }, { "bcanputnext", bcanputnext, 0, STRM_WR },
+        { "getq", getq, 0, STRM_RD },
+        { "putbq", putbq, PLAIN, STRM_RD },
+        { "qsize", qsize, 0, STRM_RD },
+        { "putnext", putnext, PLAIN, STRM_WR },
+        { "qreply", qreply, PLAIN, STRM_RD },
+        { "bcanputnext", bcanputnext, 0, STRM_WR },
     };
     enum { UNSUITED = sizeof unsuited / sizeof *unsuited };
     struct row empty = { "getq", getq, 0, STRM_WR };
@@ -914,12 +864,12 @@ static void hold_output(void)
     hold_all(unsuited, UNSUITED, EINVAL, "at the output of a wire");
     hold_all(&empty, 1, EAGAIN, "at a wire of no output");
     hold_true("a putbq of a hangup", strm_putbq(&s, at, "wire", STRM_WR, &hangup) == EINVAL);
-    hold_true("a putbq", putbq(0, STRM_WR) == 0 && waiting(STRM_WR) == 1);
+    hold_true("a putbq", putbq(PLAIN, STRM_WR) == 0 && waiting(STRM_WR) == 1);
     strm_close(&s, STRM_A);
     hold_all(unsuited, UNSUITED, EINVAL, "at the output of a closed wire");
     get_whole("the output of a closed wire", STRM_WR, &plain);
     get_whole("the end of the output", STRM_WR, &hangup);
-    hold_true("a putbq at a closed wire", putbq(0, STRM_WR) == 0);
+    hold_true("a putbq at a closed wire", putbq(PLAIN, STRM_WR) == 0);
     at = STRM_B;
     hold_all(services, SERVICES, EBADF, "at an end that the driver lacks");
     at = STRM_A;

@@ -9,40 +9,11 @@
 #include <sys/mman.h>
 #include <time.h>
 
-#include "../../examples/c/said.h"
-#include "strm.h"
+#include "refused.h"
 
 enum { GIB = 1 << 30, TIMES = 5, MOST_NANOSECONDS = 1000000 };
 
-static long given;
-static int is_refusing;
-
-void *__real_malloc(size_t size);
-void *__real_realloc(void *old, size_t size);
-
-void *__wrap_malloc(size_t size)
-{
-    given++;
-    return is_refusing ? NULL : __real_malloc(size);
-}
-
-void *__wrap_realloc(void *old, size_t size)
-{
-    given++;
-    return is_refusing ? NULL : __real_realloc(old, size);
-}
-
-void __real_free(void *old);
-
-void __wrap_free(void *old)
-{
-    __real_free(old);
-}
-
-static struct strm s = STRM_CLOSED;
-static uint8_t at = STRM_A;
 static char *many;
-static int failed;
 
 /* Calls with parts of some length. Each returns its errno. */
 
@@ -149,22 +120,24 @@ static struct strm_msgb message(int kind, int ctl_len, int dat_len)
     return m;
 }
 
+static int putnext(int side, struct strm_msgb m)
+{
+    return strm_putnext(&s, at, "m", side, &m);
+}
+
 static int putnext_data(int len)
 {
-    struct strm_msgb m = message(M_DATA, -1, len);
-    return strm_putnext(&s, at, "m", STRM_WR, &m);
+    return putnext(STRM_WR, message(M_DATA, -1, len));
 }
 
 static int putnext_control(int len)
 {
-    struct strm_msgb m = message(M_PROTO, len, len);
-    return strm_putnext(&s, at, "m", STRM_RD, &m);
+    return putnext(STRM_RD, message(M_PROTO, len, len));
 }
 
 static int putnext_options(int len)
 {
-    struct strm_msgb m = message(M_SETOPTS, -1, len);
-    return strm_putnext(&s, at, "m", STRM_RD, &m);
+    return putnext(STRM_RD, message(M_SETOPTS, -1, len));
 }
 
 static int qreply_answer(int len)
@@ -173,22 +146,24 @@ static int qreply_answer(int len)
     return strm_qreply(&s, at, "m", STRM_WR, &m);
 }
 
+static int putbq(struct strm_msgb m)
+{
+    return strm_putbq(&s, at, "m", STRM_WR, &m);
+}
+
 static int putbq_data(int len)
 {
-    struct strm_msgb m = message(M_DATA, -1, len);
-    return strm_putbq(&s, at, "m", STRM_WR, &m);
+    return putbq(message(M_DATA, -1, len));
 }
 
 static int putbq_control(int len)
 {
-    struct strm_msgb m = message(M_PCPROTO, len, len);
-    return strm_putbq(&s, at, "m", STRM_WR, &m);
+    return putbq(message(M_PCPROTO, len, len));
 }
 
 static int putbq_error(int len)
 {
-    struct strm_msgb m = message(M_ERROR, -1, len);
-    return strm_putbq(&s, at, "m", STRM_WR, &m);
+    return putbq(message(M_ERROR, -1, len));
 }
 
 /* Calls with a name of some length. */
@@ -282,13 +257,6 @@ static void hold_arrivals(int before)
     hold("arrive, options", arrive_options, GIB, before ? before : ERANGE);
 }
 
-/* Opens a stream, or ends the test. */
-static void open_as(uint32_t driver)
-{
-    if (strm_open(&s, driver, 16, 4, 8, 2) != 0)
-        exit(2);
-}
-
 static void hold_open_and_closed(void)
 {
     open_as(STRM_LINE);
@@ -353,18 +321,10 @@ static void hold_wants(void)
     strm_free(&s);
 }
 
-/* On a broken stream no length is looked at. The stream breaks because memory runs out for the hangup of the
- * other end. */
+/* On a broken stream no length is looked at. */
 static void hold_broken(void)
 {
-    open_as(STRM_LOOP);
-    is_refusing = 1;
-    int e = strm_close(&s, STRM_A);
-    is_refusing = 0;
-    if (e != ENOSR) {
-        printf("the close of an end: %s\n", said(e));
-        failed++;
-    }
+    open_broken();
     at = STRM_B;
     hold_long(ENOSR);
     hold_services(ENOSR);

@@ -314,24 +314,26 @@ static void add_message(const struct strm_msgb *m)
     }
 }
 
-/* Each verb makes its call, and adds the reply to the line if the call returns 0. */
-
-static int do_putmsg(void)
+/* Adds the reply of a call that returns nothing, if it was done. */
+static int add_done(int e)
 {
-    struct strbuf ctl = part(fields[2], ctl_room), dat = part(fields[3], dat_room);
-    int e = strm_putmsg(&stream, end, &ctl, &dat, is(fields[4], "hipri") ? RS_HIPRI : 0);
     if (!e)
         add(&line, "0");
     return e;
 }
 
+/* Each verb makes its call, and adds the reply to the line if the call returns 0. */
+
+static int do_putmsg(void)
+{
+    struct strbuf ctl = part(fields[2], ctl_room), dat = part(fields[3], dat_room);
+    return add_done(strm_putmsg(&stream, end, &ctl, &dat, is(fields[4], "hipri") ? RS_HIPRI : 0));
+}
+
 static int do_putpmsg(void)
 {
     struct strbuf ctl = part(fields[2], ctl_room), dat = part(fields[3], dat_room);
-    int e = strm_putpmsg(&stream, end, &ctl, &dat, (int)number(fields[4]), band_flag(fields[5]));
-    if (!e)
-        add(&line, "0");
-    return e;
+    return add_done(strm_putpmsg(&stream, end, &ctl, &dat, (int)number(fields[4]), band_flag(fields[5])));
 }
 
 static void room_for(struct strbuf *ctl, struct strbuf *dat)
@@ -548,19 +550,13 @@ static int do_strget(void)
 
 static int do_flush(void)
 {
-    int e = strm_flush(&stream, end, (uint32_t)sides(fields[2]));
-    if (!e)
-        add(&line, "0");
-    return e;
+    return add_done(strm_flush(&stream, end, (uint32_t)sides(fields[2])));
 }
 
 static int do_flushband(void)
 {
     struct bandinfo info = { (unsigned char)number(fields[2]), sides(fields[3]) };
-    int e = strm_flushband(&stream, end, &info);
-    if (!e)
-        add(&line, "0");
-    return e;
+    return add_done(strm_flushband(&stream, end, &info));
 }
 
 static int do_nread(void)
@@ -579,10 +575,7 @@ static int do_setread(void)
 {
     uint32_t mode = is(fields[2], "rnorm") ? RNORM : is(fields[2], "rmsgn") ? RMSGN : RMSGD;
     uint32_t prot = is(fields[3], "norm") ? RPROTNORM : is(fields[3], "dat") ? RPROTDAT : RPROTDIS;
-    int e = strm_setread(&stream, end, mode | prot);
-    if (!e)
-        add(&line, "0");
-    return e;
+    return add_done(strm_setread(&stream, end, mode | prot));
 }
 
 static int do_getread(void)
@@ -601,6 +594,11 @@ static int add_value(int e, int value)
     if (!e)
         add_number(&line, (unsigned long)value);
     return e;
+}
+
+static int do_tick(void)
+{
+    return add_done(strm_tick(&stream, end, (uint32_t)number(fields[2])));
 }
 
 static int do_canput(void)
@@ -656,19 +654,13 @@ static int do_getq(void)
 static int do_putbq(void)
 {
     struct strm_msgb m = message(fields + 4);
-    int e = strm_putbq(&stream, end, fields[2], side(fields[3]), &m);
-    if (!e)
-        add(&line, "0");
-    return e;
+    return add_done(strm_putbq(&stream, end, fields[2], side(fields[3]), &m));
 }
 
 static int do_putnext(void)
 {
     struct strm_msgb m = message(fields + 4);
-    int e = strm_putnext(&stream, end, fields[2], side(fields[3]), &m);
-    if (!e)
-        add(&line, "0");
-    return e;
+    return add_done(strm_putnext(&stream, end, fields[2], side(fields[3]), &m));
 }
 
 static int do_bcanputnext(void)
@@ -735,7 +727,7 @@ static const struct verb {
     { "nread", do_nread },     { "setread", do_setread }, { "getread", do_getread }, { "canput", do_canput },     { "ckband", do_ckband },
     { "getband", do_getband }, { "close", do_close },     { "take", do_take },     { "poll", do_poll },           { "strput", do_strput },
     { "strget", do_strget },   { "getq", do_getq },       { "putbq", do_putbq },   { "putnext", do_putnext },     { "qsize", do_qsize },
-    { "bcanputnext", do_bcanputnext },
+    { "bcanputnext", do_bcanputnext }, { "tick", do_tick },
 };
 
 /* Makes the call of the line once. Returns its code, and adds its reply to the end of `line`. */

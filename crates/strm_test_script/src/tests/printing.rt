@@ -39,7 +39,7 @@ pub(super) enum Say {
 }
 
 /// Calls at an end, their answers, and their lines.
-const CALLS: [(End, Ask, Say, &str); 17] = [
+const CALLS: [(End, Ask, Say, &str); 7] = [
     (A, Nread, Line, "p nread s:a : 0\n"),
     (
         A,
@@ -71,69 +71,26 @@ const CALLS: [(End, Ask, Say, &str); 17] = [
         Refused(Refusal::WouldWait),
         "p str s:a 7 - : EAGAIN\n",
     ),
+    (A, Getband, Broke, "p getband s:a : ENOSR broke\n"),
+];
+
+/// The refusals of a getband at end A, and their lines.
+const REFUSALS: [(Refusal, &str); 10] = [
+    (Refusal::Closed, "p getband s:a : EBADF\n"),
+    (Refusal::Broken, "p getband s:a : ENOSR\n"),
     (
-        A,
-        Getband,
-        Refused(Refusal::Closed),
-        "p getband s:a : EBADF\n",
-    ),
-    (
-        A,
-        Getband,
-        Refused(Refusal::Broken),
-        "p getband s:a : ENOSR\n",
-    ),
-    (
-        A,
-        Getband,
-        Refused(Refusal::ReadError {
+        Refusal::ReadError {
             errno: Errno::EPROTO,
-        }),
+        },
         "p getband s:a : EPROTO\n",
     ),
-    (
-        A,
-        Getband,
-        Refused(Refusal::Invalid),
-        "p getband s:a : EINVAL\n",
-    ),
-    (
-        A,
-        Getband,
-        Refused(Refusal::TooLong),
-        "p getband s:a : ERANGE\n",
-    ),
-    (
-        A,
-        Getband,
-        Refused(Refusal::HungUp),
-        "p getband s:a : ENXIO\n",
-    ),
-    (
-        A,
-        Getband,
-        Refused(Refusal::BadMessage),
-        "p getband s:a : EBADMSG\n",
-    ),
-    (
-        A,
-        Getband,
-        Refused(Refusal::NoMessage),
-        "p getband s:a : ENODATA\n",
-    ),
-    (
-        A,
-        Getband,
-        Refused(Refusal::WouldWait),
-        "p getband s:a : EAGAIN\n",
-    ),
-    (
-        A,
-        Getband,
-        Refused(Refusal::NoMemory),
-        "p getband s:a : ENOSR\n",
-    ),
-    (A, Getband, Broke, "p getband s:a : ENOSR broke\n"),
+    (Refusal::Invalid, "p getband s:a : EINVAL\n"),
+    (Refusal::TooLong, "p getband s:a : ERANGE\n"),
+    (Refusal::HungUp, "p getband s:a : ENXIO\n"),
+    (Refusal::BadMessage, "p getband s:a : EBADMSG\n"),
+    (Refusal::NoMessage, "p getband s:a : ENODATA\n"),
+    (Refusal::WouldWait, "p getband s:a : EAGAIN\n"),
+    (Refusal::NoMemory, "p getband s:a : ENOSR\n"),
 ];
 
 /// The lines of messages that came in after them, and of the ends: flushes of one band, which no feed has,
@@ -238,13 +195,22 @@ fn printed(rt: &impl Abort, alloc: Global, names: &Names, log: StreamLog<Kind>) 
     out
 }
 
-/// The steps. The second process makes each call.
+/// A call by the second process.
+fn call(rt: &impl Abort, alloc: Global, end: End, ask: Ask, say: Say) -> Kept<Kind> {
+    let event = Event::Asked(request(rt, alloc, ask));
+    let said = answer(rt, alloc, say);
+    step(rt, alloc, (Who::Caller(1), end), event, said)
+}
+
+/// The steps.
 fn steps(rt: &impl Abort, alloc: Global) -> Vec<Kept<Kind>> {
     let mut history = Vec::new(alloc);
+    for (refusal, _) in REFUSALS {
+        let entry = call(rt, alloc, A, Getband, Refused(refusal));
+        history.push(entry).expect(rt, "no memory");
+    }
     for (end, ask, say, _) in CALLS {
-        let event = Event::Asked(request(rt, alloc, ask));
-        let said = answer(rt, alloc, say);
-        let entry = step(rt, alloc, (Who::Caller(1), end), event, said);
+        let entry = call(rt, alloc, end, ask, say);
         history.push(entry).expect(rt, "no memory");
     }
     for entry in arrivals(rt, alloc) {
@@ -253,15 +219,21 @@ fn steps(rt: &impl Abort, alloc: Global) -> Vec<Kept<Kind>> {
     history
 }
 
+fn add(rt: &impl Abort, text: &mut Vec<u8>, line: &str) {
+    text.extend_from_slice(line.as_bytes())
+        .expect(rt, "no memory");
+}
+
 /// The expected text of the steps.
 fn lines(rt: &impl Abort, alloc: Global) -> Vec<u8> {
     let mut text = Vec::from_slice(alloc, b"stream s\n").expect(rt, "no memory");
-    for (_, _, _, line) in CALLS {
-        text.extend_from_slice(line.as_bytes())
-            .expect(rt, "no memory");
+    for (_, line) in REFUSALS {
+        add(rt, &mut text, line);
     }
-    text.extend_from_slice(ARRIVED.as_bytes())
-        .expect(rt, "no memory");
+    for (_, _, _, line) in CALLS {
+        add(rt, &mut text, line);
+    }
+    add(rt, &mut text, ARRIVED);
     text
 }
 

@@ -346,6 +346,7 @@ fn calls(alloc: Global, bytes: &[u8]) -> anyhow::Result<Vec<ScriptCall<BoxedModu
         setups: _,
         scripts,
         feeds,
+        links: _,
         expected: _,
     } = handed(alloc, bytes)?;
     drop(names);
@@ -394,6 +395,7 @@ fn play_out<R: Print + Wait>(
         mut setups,
         scripts,
         feeds,
+        links: _,
         expected: _,
     } = handed;
     let has_process = !scripts.is_empty();

@@ -1,3 +1,4 @@
 pub mod RuleLemmas
 pub mod LinkLemmas
+pub mod HoldingLemmas
 pub mod WorkedExamples

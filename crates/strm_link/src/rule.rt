@@ -1,6 +1,9 @@
 //! The rule by which a link passes messages on.
-ghost use Rattle.std.specs.Prelude.{◌≡◌, ◌<◌, ◌+◌, ◌%◌, ◌^◌};
+ghost use Rattle.std.specs.Prelude.{◌≡◌, ◌<◌, ◌+◌, ◌%◌, ◌^◌, false, List, length, is_some};
 ghost use Rattle.rand_pcg.specs.Pcg.{pcg32};
+ghost use Rattle.strm_link.specs.Link.{fresh, after_of};
+ghost use Rattle.strm_link.specs.Holding.{holds, holds_behind};
+ghost use Rattle.strm_msg.specs.Message.{Msg};
 ghost use Rattle.strm_link.specs.Rule.{act_drawn, act_of, after_act, draw_of, rule_of_acts, rule_of_odds};
 
 use crate::act::Act;
@@ -101,6 +104,30 @@ fn draw(rng: &Pcg32) -> u16
     (ahead.next_word() % u32::from(DRAWS)) as u16
 }
 
+/// Whether a message is held behind one with which this is done.
+fn holds(act: Act, held: bool) -> bool
+    ensures { result ≡ holds act held }
+{
+    match act {
+        Act::Keep | Act::Double => false,
+        Act::Lose => held,
+        Act::Hold => true,
+    }
+}
+
+/// Whether a link that holds nothing holds a message behind so many.
+fn holds_behind(from: &Rule, many: u64) -> bool
+    ensures { result ≡ holds_behind from.now false many }
+{
+    let mut rule = from.copy();
+    let mut held = false;
+    for _ in 0..many {
+        held = holds(rule.act(), held);
+        rule.advance();
+    }
+    held
+}
+
 impl Rule {
     /// A pattern of acts, which is used over and over. Takes no memory.
     ///
@@ -135,6 +162,26 @@ impl Rule {
         })
     }
 
+    /// An equal rule. Takes no memory.
+    pub fn copy(&self) -> Rule
+        ensures { result ≡ self.now }
+    {
+        match &self.source {
+            Source::Pattern { acts, next } => Rule {
+                source: Source::Pattern {
+                    acts: acts.clone().unwrap(),
+                    next: *next,
+                },
+            },
+            Source::Drawn { odds, rng } => Rule {
+                source: Source::Drawn {
+                    odds: *odds,
+                    rng: rng.clone().unwrap(),
+                },
+            },
+        }
+    }
+
     /// The act for the next message.
     pub fn act(&self) -> Act
         ensures { result ≡ act_of self.now }
@@ -155,5 +202,13 @@ impl Rule {
                 rng.next_word();
             }
         }
+    }
+
+    /// Whether a link of this rule, which holds nothing now, holds a message behind so many.
+    pub fn holds_after(&self, many: u64) -> bool
+        ensures { (taken : List Msg) → length taken ≡ many →
+            result ≡ is_some (after_of (fresh self.now) taken).held }
+    {
+        holds_behind(self, many)
     }
 }

@@ -5,3 +5,4 @@ pub mod RunLemmas
 pub mod TableLemmas
 pub mod ThereLemmas
 pub mod StepLemmas
+pub mod LinkLemmas

@@ -10,6 +10,7 @@ use Rattle.strm_module.specs.Driver.{is_line}
 use Rattle.strm_head_calls.specs.declared.setup.Setup.{Setup}
 use Rattle.strm_run_input.specs.declared.script.ScriptCall.{ScriptCall}
 use Rattle.strm_run_input.specs.declared.script.Feed.{Feed}
+use Rattle.strm_run_input.specs.declared.run_link.RunLink.{RunLink}
 use Rattle.strm_run_input.specs.Scripts.{feed_of}
 use Rattle.strm_run_input.specs.Resolve.{end_is_there, line_is_there, NamesResolve}
 use Rattle.strm_run_callers.specs.RunName.{RunValue}
@@ -24,7 +25,7 @@ end_within (setup ∷ setups) zero at_end is = omega arith
 end_within (setup ∷ setups) (suc number) at_end is = omega (arith, end_within setups number at_end is)
 
 -- so is one that is a line
-line_within : (setups : List Setup) (number : ℕ) → line_is_there (slice_get setups number) ≡ true → number < length setups
+pub line_within : (setups : List Setup) (number : ℕ) → line_is_there (slice_get setups number) ≡ true → number < length setups
 line_within [] zero is = absurd cc
 line_within [] (suc number) is = absurd cc
 line_within (setup ∷ setups) zero is = omega arith
@@ -35,12 +36,12 @@ pub line_at : (setups : List Setup) (at : ℕ) (d : Setup) → at < length setup
 line_at setups at d within = ap (λ (found : Option Setup). line_is_there found) (slice_get-get_or setups at d within)
 
 -- the stream of each call is there
-pub calls_there : {P : Type 0} (setups : List Setup) (scripts : List (List (ScriptCall P))) (feeds : List Feed) → NamesResolve setups scripts feeds → All (λ script. All (λ one. one.stream < length setups) script) scripts
-calls_there setups scripts feeds there k d below j e under = end_within setups _ _ (there.calls k d below j e under)
+pub calls_there : {P : Type 0} (setups : List Setup) (scripts : List (List (ScriptCall P))) (feeds : List Feed) (links : List RunLink) → NamesResolve setups scripts feeds links → All (λ script. All (λ one. one.stream < length setups) script) scripts
+calls_there setups scripts feeds links there k d below j e under = end_within setups _ _ (there.calls k d below j e under)
 
 -- and that of each feed
-pub feeds_there : {P : Type 0} (setups : List Setup) (scripts : List (List (ScriptCall P))) (feeds : List Feed) → NamesResolve setups scripts feeds → All (λ feed. feed.stream < length setups) feeds
-feeds_there setups scripts feeds there k d below = line_within setups _ (there.lines k d below)
+pub feeds_there : {P : Type 0} (setups : List Setup) (scripts : List (List (ScriptCall P))) (feeds : List Feed) (links : List RunLink) → NamesResolve setups scripts feeds links → All (λ feed. feed.stream < length setups) feeds
+feeds_there setups scripts feeds links there k d below = line_within setups _ (there.lines k d below)
 
 -- feeds that are all for other streams
 nothing_fed : (feeds : List Feed) (k : ℕ) → All (λ feed. (feed.stream == k) ≡ false) feeds → feed_of feeds k ≡ []
@@ -56,12 +57,12 @@ other_stream setups stream k true same line none =
 other_stream setups stream k false same line none = refl
 
 -- no stream but a line is fed
-pub lines_fed : {P : Type 0} (setups : List Setup) (scripts : List (List (ScriptCall P))) (feeds : List Feed) → NamesResolve setups scripts feeds → (k : ℕ) (s : Setup) → k < length setups → is_line (get_or setups k s).driver ≡ false → feed_of feeds k ≡ []
-lines_fed setups scripts feeds there k s within none =
+pub lines_fed : {P : Type 0} (setups : List Setup) (scripts : List (List (ScriptCall P))) (feeds : List Feed) (links : List RunLink) → NamesResolve setups scripts feeds links → (k : ℕ) (s : Setup) → k < length setups → is_line (get_or setups k s).driver ≡ false → feed_of feeds k ≡ []
+lines_fed setups scripts feeds links there k s within none =
     nothing_fed feeds k (λ j d below. other_stream setups (get_or feeds j d).stream k ((get_or feeds j d).stream == k) refl (there.lines j d below) (line_at setups k s within ∙ none))
 
-pub run_lines_fed : {K P : Type 0} (run : RunValue K) (scripts : List (List (ScriptCall P))) → NamesResolve run.setups scripts run.feeds → AreLinesFed run
-run_lines_fed run scripts there = lines_fed run.setups scripts run.feeds there
+pub run_lines_fed : {K P : Type 0} (run : RunValue K) (scripts : List (List (ScriptCall P))) → NamesResolve run.setups scripts run.feeds run.links → AreLinesFed run
+run_lines_fed run scripts there = lines_fed run.setups scripts run.feeds run.links there
 
 -- one of two lists
 all_if : (P : Msg → Type 0) (b : Bool) (xs ys : List Msg) → All P xs → All P ys → All P (if b then xs else ys)

@@ -1,11 +1,14 @@
 //! The streams of a run, as they end.
-ghost use Rattle.std.specs.Prelude.{◌≡◌, ◌<◌, length, map, option_map, All, IfErr, IfOk, IfSome, Ok, Err};
+ghost use Rattle.std.specs.Prelude.{◌≡◌, ◌<◌, length, map, All, IfErr, IfOk, IfSome, OnOk, Ok, Err};
 ghost use Rattle.std.specs.List.{list_any};
-ghost use Rattle.strm_run_callers.specs.Transcript.{AreLogs, IsLog};
-ghost use Rattle.strm_run_callers.specs.Play.{ArePlayed, AreStreams};
-ghost use Rattle.strm_run.specs.Inside.Ending.{first_fault, is_fault, overrun_of, seats_of, streams_of, AreLinesFed, AreParted, AreSeatsPlayed, HoldsAccounts, IsLate, IsOffered, Leaves};
+ghost use Rattle.strm_run_callers.specs.Transcript.{AreLogs};
+ghost use Rattle.strm_run_callers.specs.Play.{ArePlayed};
+ghost use Rattle.strm_run.specs.Inside.Ending.{feed_of_result, first_fault, is_fault, overrun_of, seats_of};
+ghost use Rattle.strm_run.specs.Inside.Ending.{AddsCarried, AreLinesFed, AreLinesLinked, AreLinksThere};
+ghost use Rattle.strm_run.specs.Inside.Ending.{AreParted, AreResults};
+ghost use Rattle.strm_run.specs.Inside.Ending.{AreSeatsPlayed, HasLeft, HaveLeft, HaveSameItems, IsLate, IsOfAccounts, Leaves};
 
-use crate::feeds::offered_on;
+use crate::feeds::results_by_number;
 use crate::finished::{FinishedStream, finished_streams};
 use crate::table::transposed;
 use std::alloc::Global;
@@ -13,7 +16,7 @@ use std::thread::Threads;
 use strm_module::ModuleOf;
 use strm_msg::NoMem;
 use strm_run_callers::{
-    Account, Of, Offered, Played, Receipts, RunName, Streams, holds_all, log_of,
+    Account, FeedResult, Of, Offered, Played, Receipts, RunName, Streams, holds_all, log_of,
 };
 use strm_run_input::RunFault;
 use strm_run_threads::parallel_map;
@@ -22,16 +25,13 @@ use strm_shared_log::{SameKind, StreamLog, Transcript};
 
 /// The end of the feed of a stream, and the number of its messages that came back; nothing where it has no
 /// feeder.
-fn feeder_result<K, N: RunName<K>>(
-    offered: Option<Offered<K, N>>,
-) -> (Option<FeedEnd<K, Of<N>>>, u64)
-    ensures feed { result.0 ≡ option_map (λ o. o.feed) offered }
-    ensures overrun { result.1 ≡ overrun_of offered }
-    ensures offered { IsOffered N.run result.0 result.1 }
+fn feed_parts<K, N: RunName<K>>(fed: Option<FeedResult<K, N>>) -> (Option<FeedEnd<K, Of<N>>>, u64)
+    ensures feed { result.0 ≡ feed_of_result fed }
+    ensures overrun { result.1 ≡ overrun_of fed }
 {
-    match offered {
-        Some(offered) => {
-            let (end, overrun) = offered.into_parts();
+    match fed {
+        Some(ended) => {
+            let (end, overrun) = ended.into_parts();
             (Some(end), overrun)
         }
         None => (None, 0),
@@ -93,12 +93,11 @@ fn end_one<M: ModuleOf, N: RunName<M::Kind>>(
 ) -> Result<StreamLog<M::Kind>, RunFault>
 where
     M::Kind: SameKind,
-    ensures log { IfOk result (λ log. IsLog M.Kind.means N.run due.stream.number due.stream.setup log) }
-    ensures held { IfOk result (λ log. HoldsAccounts due.accounts log) }
+    ensures left { IfOk result (λ log. HasLeft M.Kind.means N.run due log) }
     ensures late { IfErr result (λ fault. IsLate fault) }
 {
-    let (shared, accounts, offered) = due.into_parts();
-    let (feed, overrun) = feeder_result(offered);
+    let (shared, accounts, fed) = due.into_parts();
+    let (feed, overrun) = feed_parts(fed);
     let (seats, receipts) = split_receipts(alloc, accounts)?;
     log_or_fault(shared.end(seats, feed), receipts, overrun)
 }
@@ -182,9 +181,8 @@ fn end_all<M: ModuleOf, N: RunName<M::Kind> + Send + Sync, R: Threads + Sync>(
 ) -> Result<Vec<StreamLog<M::Kind>>, RunFault>
 where
     M::Kind: SameKind + Send + Sync,
-    requires threads { 0 < threads }
-    requires streams { AreStreams N.run (streams_of due.items) }
-    ensures logs { IfOk result (λ logs. AreLogs M.Kind.means N.run logs.items) }
+    requires { 0 < threads }
+    ensures left { IfOk result (λ logs. HaveLeft M.Kind.means N.run due.items logs.items) }
     ensures late { IfErr result (λ fault. IsLate fault) }
 {
     let ended = parallel_map(
@@ -193,7 +191,7 @@ where
         due,
         threads,
         &|due: FinishedStream<M, N>| -> Result<StreamLog<M::Kind>, RunFault>
-            ensures log { IfOk result (λ log. IsLog M.Kind.means N.run due.stream.number due.stream.setup log) }
+            ensures left { IfOk result (λ log. HasLeft M.Kind.means N.run due log) }
             ensures late { IfErr result (λ fault. IsLate fault) }
         { end_one(alloc, due) },
     )?;
@@ -216,22 +214,58 @@ fn accounts_by_caller<K: Drop, N: RunName<K>>(
     Ok(all)
 }
 
-/// The seats and feeds that callers and feeders leave, in order of the streams. Fails only when memory runs
+/// Ends the feeds of the links on which callers carry from a stream, and adds their results behind others.
+/// Fails only when memory runs out.
+fn end_carriers<K: Drop, N: RunName<K>>(
+    accounts: &mut [Account<K, N>],
+    carried: &mut Vec<FeedResult<K, N>>,
+) -> Result<(), NoMem>
+    ensures same { OnOk result (accounts.new ≡ accounts.old) }
+    ensures carried { OnOk result (AddsCarried N.run accounts.old carried.old.items carried.new.items) }
+{
+    for account in accounts.iter_mut() {
+        if let Some(ended) = account.end_carrier() {
+            carried.push(ended)?;
+        }
+    }
+    Ok(())
+}
+
+/// Ends the feeds of all links on which callers carry, and returns their results. Fails only when memory runs
 /// out.
+fn end_all_carriers<K: Drop, N: RunName<K>>(
+    alloc: Global,
+    rows: &mut [Vec<Account<K, N>>],
+) -> Result<Vec<FeedResult<K, N>>, NoMem>
+    ensures same { OnOk result (HaveSameItems rows.old rows.new) }
+    ensures carried { IfOk result (λ all. All (λ ended. IsOfAccounts N.run rows.old ended) all.items) }
+{
+    let mut carried = Vec::new(alloc);
+    for row in rows.iter_mut() {
+        end_carriers(row.as_mut_slice(), &mut carried)?;
+    }
+    Ok(carried)
+}
+
+/// The seats that callers leave, in order of the streams, the results of the feeds that their links have made,
+/// and those of all feeds, in order of the streams. Fails only when memory runs out.
 fn results_by_stream<K: Drop, N: RunName<K>>(
     alloc: Global,
     played: Vec<Played<K, N>>,
     offered: Vec<Offered<K, N>>,
     many: usize,
-) -> Result<(Vec<Vec<Account<K, N>>>, Vec<Option<Offered<K, N>>>), NoMem>
-    requires { length N.run.setups ≡ many }
+) -> Result<(Vec<Vec<Account<K, N>>>, Vec<Option<FeedResult<K, N>>>), NoMem>
+    requires many { length N.run.setups ≡ many }
+    requires there { AreLinksThere N.run }
     ensures seats { IfOk result (λ all. AreSeatsPlayed N.run all.0.items) }
-    ensures offered { IfOk result (λ all. length all.1.items ≡ many) }
+    ensures many { IfOk result (λ all. length all.1.items ≡ many) }
+    ensures results { IfOk result (λ all. AreResults N.run all.0.items all.1.items) }
 {
     let columns = accounts_by_caller(alloc, played)?;
-    let accounts = transposed(alloc, columns, many)?;
-    let offered = offered_on(alloc, offered, many)?;
-    Ok((accounts, offered))
+    let mut accounts = transposed(alloc, columns, many)?;
+    let carried = end_all_carriers(alloc, accounts.as_mut_slice())?;
+    let results = results_by_number(alloc, offered, carried, many)?;
+    Ok((accounts, results))
 }
 
 /// Ends a run, and returns the transcript, where each stream ended, and its history holds each receipt.
@@ -250,14 +284,16 @@ where
     requires threads { 0 < threads }
     requires many { length N.run.setups ≡ many }
     requires lines { AreLinesFed N.run }
+    requires linked { AreLinesLinked N.run }
+    requires there { AreLinksThere N.run }
     ensures logs { IfOk result (λ transcript. AreLogs M.Kind.means N.run transcript.streams.items) }
     ensures late { IfErr result (λ fault. IsLate fault) }
 {
-    let Ok((accounts, offered)) = results_by_stream(alloc, played, offered, many) else {
+    let Ok((accounts, results)) = results_by_stream(alloc, played, offered, many) else {
         drop(streams);
         return Err(RunFault::NoMem);
     };
-    let due = finished_streams(alloc, streams, accounts, offered)?;
+    let due = finished_streams(alloc, streams, accounts, results)?;
     let logs = end_all(rt, alloc, due, threads)?;
     Ok(Transcript { streams: logs })
 }

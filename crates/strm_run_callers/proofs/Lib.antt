@@ -4,3 +4,4 @@ pub mod PlayLemmas
 pub mod ReachedLemmas
 pub mod FeedLemmas
 pub mod PartLemmas
+pub mod CarryLemmas

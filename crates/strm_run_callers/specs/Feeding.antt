@@ -1,9 +1,9 @@
 -- The feeders of a run, while it goes on.
-use Rattle.std.specs.Prelude.{◌≡◌, ℕ, ◌+◌, ◌<◌, ◌^◌, true, List, [], ◌∷◌, ◌++◌, length, All}
+use Rattle.std.specs.Prelude.{◌≡◌, ℕ, ◌+◌, ◌<◌, ◌^◌, true, None, List, [], ◌++◌, length, All}
 use Rattle.strm_msg.specs.Message.{Msg}
 use Rattle.strm_msg.specs.Kind.{is_from_line}
 use Rattle.strm_shared_ring.specs.Feed.{FeedValue}
-use Rattle.strm_run_input.specs.Scripts.{feed_of}
+use Rattle.strm_run_input.specs.Scripts.{feed_of, link_to}
 use Rattle.strm_run_callers.specs.RunName.{RunValue}
 use Rattle.strm_link.specs.Subsequence.{IsSubsequence}
 
@@ -12,9 +12,10 @@ pub record FeedingValue : Type 0 where
   pub number : ℕ
   pub left : List Msg
 
--- a feeder that has offered none of its feed
+-- a feeder that has offered none of its feed, of a stream to which no link leads
 pub record IsUnfed {K : Type 0} (run : RunValue K) (feeder : FeedValue) (messages : List Msg) : Type 0 where
   pub there : feeder.number < length run.setups
+  pub apart : link_to run.links feeder.number ≡ None
   pub begins : feeder.offers ≡ 0
   pub none : feeder.accepted ≡ []
   pub feed : messages ≡ feed_of run.feeds feeder.number
@@ -23,6 +24,7 @@ pub record IsUnfed {K : Type 0} (run : RunValue K) (feeder : FeedValue) (message
 -- what it has offered, and the others came back
 pub record IsFeeding {K : Type 0} (run : RunValue K) (feeder : FeedValue) (left : List Msg) (overrun : ℕ) : Type 0 where
   pub there : feeder.number < length run.setups
+  pub apart : link_to run.links feeder.number ≡ None
   pub few : length (feed_of run.feeds feeder.number) < 2 ^ 63
   pub kinds : All (λ m. is_from_line m.kind ≡ true) left
   pub offered : List Msg
@@ -35,11 +37,12 @@ pub record IsFeeding {K : Type 0} (run : RunValue K) (feeder : FeedValue) (left 
 -- feed's next one
 pub record HasOffered {K : Type 0} (run : RunValue K) (feed : FeedValue) (overrun : ℕ) : Type 0 where
   pub there : feed.number < length run.setups
+  pub apart : link_to run.links feed.number ≡ None
   pub offered : feed.offers ≡ length (feed_of run.feeds feed.number)
   pub part : IsSubsequence feed.accepted (feed_of run.feeds feed.number)
   pub all : length feed.accepted + overrun ≡ length (feed_of run.feeds feed.number)
 
--- the feed that a feeder leaves, and the number of its messages that came back
-pub record OfferedValue : Type 0 where
+-- the end of a feed, and the number of its messages that came back
+pub record FeedResultValue : Type 0 where
   pub feed : FeedValue
   pub overrun : ℕ

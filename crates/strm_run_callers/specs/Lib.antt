@@ -1,6 +1,7 @@
 pub mod Run
 pub mod Transcript
 pub mod Account
+pub mod Carrying
 pub mod Dealing
 pub mod Play
 pub mod Steps

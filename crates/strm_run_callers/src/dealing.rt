@@ -3,6 +3,7 @@ ghost use Rattle.std.specs.Prelude.{◌≡◌, ◌<◌, ◌^◌, [], length, All
 ghost use Rattle.strm_run_callers.specs.Dealing.{callers_of, AreDealt, AreSeated};
 
 use crate::account::accounts_of;
+use crate::joint::Joint;
 use crate::player::Player;
 use crate::run_name::RunName;
 use std::alloc::Global;
@@ -12,11 +13,13 @@ use strm_msg::NoMem;
 use strm_run_input::Script;
 use strm_shared::Seat;
 
-/// The callers of a run, in order, each with its script and its seats. Fails only when memory runs out.
+/// The callers of a run, in order, each with its script, its seats, and the links on which it carries. Fails
+/// only when memory runs out.
 pub fn seated<M: ModuleOf, N: RunName<M::Kind>>(
     alloc: Global,
     scripts: Vec<Script<BoxedModule<M>>>,
     mut seats: Vec<Vec<Seat>>,
+    mut joints: Vec<Joint<M::Kind, N>>,
 ) -> Result<Vec<Player<M, N>>, NoMem>
     requires scripts { N.run.scripts ≡ scripts.items }
     requires few { length scripts.items < 2 ^ 32 }
@@ -28,7 +31,7 @@ pub fn seated<M: ModuleOf, N: RunName<M::Kind>>(
     let mut caller: u32 = 0;
     for script in scripts {
         let mine = mem::replace(&mut seats[caller as usize], Vec::new(alloc));
-        let accounts = accounts_of(alloc, mine)?;
+        let accounts = accounts_of(alloc, mine, &mut joints)?;
         all.push(Player::new(alloc, caller, script, accounts))?;
         caller += 1;
     }

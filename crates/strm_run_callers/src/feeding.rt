@@ -1,17 +1,18 @@
 //! A feeder that offers its feed.
-ghost use Rattle.std.specs.Prelude.{◌≡◌, ◌↔◌, ◌<◌, ◌∷◌, true, false, [], length, slice_get, All, Some, IfSome};
+ghost use Rattle.std.specs.Prelude.{◌≡◌, ◌↔◌, ◌<◌, ◌∷◌, true, false, [], length, slice_get, All, None, Some, IfSome};
 ghost use Rattle.strm_msg.specs.Kind.{is_from_line};
 ghost use Rattle.strm_run_input.specs.Scripts.{feed_of};
 ghost use Rattle.strm_run_callers.specs.Feeding.{HasOffered, IsUnfed};
-ghost use Rattle.strm_shared_ring.specs.Feed.{with_accepted, with_offer};
 
+use crate::feed_result::FeedResult;
 use crate::offered_feeds::OfferedFeeds;
+use crate::offering::accepts;
 use crate::run_name::{Of, RunName};
 use std::marker::Model;
 use std::sync::Wait;
 use std::vec::IntoIter;
 use strm_msg::Message;
-use strm_shared_ring::{FeedEnd, Feeder};
+use strm_shared_ring::Feeder;
 
 /// A feeder with the messages that it is still to offer. A contract sees the number of the stream and these
 /// messages.
@@ -34,31 +35,20 @@ impl<K, N: RunName<K>> Model for Feeding<K, N> {
     ghost invariant = { λ f. (into_iter_len f.messages ≡ length (into_iter_items f.messages)) × IsFeeding N.run f.feeder.feed (into_iter_items f.messages) f.overrun };
 }
 
-/// A feeder that has offered each of its messages once.
+/// A feeder that has offered each of its messages once. A contract sees the result of its feed.
 #[derive(Drop)]
 pub struct Offered<K, N: RunName<K>> {
-    end: FeedEnd<K, Of<N>>,
-    overrun: u64,
+    result: FeedResult<K, N>,
 }
 
 impl<K, N: RunName<K>> Model for Offered<K, N> {
-    ghost use Rattle.strm_run_callers.specs.Feeding.{HasOffered, OfferedValue};
+    ghost use Rattle.strm_run_callers.specs.Feeding.{FeedResultValue, HasOffered};
 
-    ghost Value = { OfferedValue };
+    ghost Value = { FeedResultValue };
 
-    ghost view = { λ o. record { feed = o.end; overrun = o.overrun } };
+    ghost view = { λ o. o.result };
 
-    ghost invariant = { λ o. HasOffered N.run o.end o.overrun };
-}
-
-/// Offers a message once, and returns whether it was accepted. One that comes back is dropped.
-fn accepts<K, N: RunName<K>>(feeder: &mut Feeder<K, Of<N>>, m: Message) -> bool
-    requires line { is_from_line m.kind ≡ true }
-    requires next { slice_get (feed_of N.run.feeds feeder.old.feed.number) feeder.old.feed.offers ≡ Some m }
-    ensures accepted { result ≡ true → feeder.new.feed ≡ with_accepted feeder.old.feed m }
-    ensures none { result ≡ false → feeder.new.feed ≡ with_offer feeder.old.feed }
-{
-    feeder.arrive(m).is_ok()
+    ghost invariant = { λ o. HasOffered N.run o.result.feed o.result.overrun };
 }
 
 impl<K, N: RunName<K>> Feeding<K, N> {
@@ -125,7 +115,9 @@ impl<K, N: RunName<K>> Feeding<K, N> {
         } = self;
         drop(messages);
         let end = feeder.finish()?;
-        Some(Offered { end, overrun })
+        Some(Offered {
+            result: FeedResult::new(end, overrun),
+        })
     }
 
     /// Offers each message that is left once, in order, and notes that the feed was offered. One that comes
@@ -140,21 +132,11 @@ impl<K, N: RunName<K>> Feeding<K, N> {
 }
 
 impl<K, N: RunName<K>> Offered<K, N> {
-    /// The number of the stream.
-    pub fn number(&self) -> u32
-        ensures number { result ≡ self.now.feed.number }
-        ensures there { self.now.feed.number < length N.run.setups }
-    {
-        self.end.number()
-    }
-
-    /// The end of the feed, and the number of messages that came back.
-    pub fn into_parts(self) -> (FeedEnd<K, Of<N>>, u64)
-        ensures feed { result.0 ≡ self.feed }
-        ensures overrun { result.1 ≡ self.overrun }
+    /// The result of the feed: it was offered whole.
+    pub fn into_result(self) -> FeedResult<K, N>
+        ensures same { result ≡ self }
         ensures offered { HasOffered N.run self.feed self.overrun }
     {
-        let Offered { end, overrun } = self;
-        (end, overrun)
+        self.result
     }
 }

@@ -7,18 +7,24 @@
 
 mod account;
 mod awaits;
+mod carrier;
 mod dealing;
+mod feed_result;
 mod feeding;
 mod gate;
+mod joint;
 mod offered_feeds;
+mod offering;
 mod player;
 mod run_name;
 mod streams;
 
 pub use account::Account;
 pub use dealing::{deal, seated};
+pub use feed_result::FeedResult;
 pub use feeding::{Feeding, Offered};
 pub use gate::Gate;
+pub use joint::Joint;
 pub use offered_feeds::OfferedFeeds;
 pub use player::{Played, Player, Stepped, play_each};
 pub use run_name::{Of, RunName};

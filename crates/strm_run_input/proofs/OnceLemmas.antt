@@ -1,21 +1,21 @@
--- Feeds of which no two are for the same stream.
-use Rattle.std.proofs.Common.{◌≡◌, ℕ, ◌+◌, ◌-◌, ◌<◌, List, length, get_or, drop, sym, ◌∙◌, ap, arith, below_more, length-drop, All}
+-- Pairs of a list of which the first was looked at.
+use Rattle.std.proofs.Common.{◌≡◌, ℕ, ◌+◌, ◌-◌, ◌<◌, List, length, get_or, drop, sym, ◌∙◌, ap, subst, arith, below_more, length-drop, All}
 use Rattle.std.specs.Prelude.{AllPairs}
-use Rattle.std.proofs.lemmas.List.{get_or-drop, get_or_read}
-use Rattle.strm_run_input.specs.declared.script.Feed.{Feed}
+use Rattle.std.proofs.lemmas.List.{get_or-drop}
 
--- what stands behind one stands in the list, that much further on
-behind : (feeds : List Feed) (i j : ℕ) (d : Feed) → i < j → get_or (drop (i + 1) feeds) (j - (i + 1)) d ≡ get_or feeds j d
-behind feeds i j d under =
-    let further : i + 1 + (j - (i + 1)) ≡ j = omega arith in
-    get_or-drop (i + 1) feeds (j - (i + 1)) d ∙ ap (λ (n : ℕ). get_or feeds n d) further
+module _ {X : Type 0} (R : X → X → Type 0) (xs : List X) where
+  -- what stands behind one stands in the list, that much further on
+  behind : (i j : ℕ) (d : X) → i < j → get_or (drop (i + 1) xs) (j - (i + 1)) d ≡ get_or xs j d
+  behind i j d under =
+      let further : i + 1 + (j - (i + 1)) ≡ j = omega arith in
+      get_or-drop (i + 1) xs (j - (i + 1)) d ∙ ap (λ (n : ℕ). get_or xs n d) further
 
--- no later feed is for the stream of one more
-pub once_more : (feeds : List Feed) (i : ℕ) (one : Feed) → i < length feeds → one ≡ get_or feeds i one → All (λ other. (get_or feeds i one).stream ≡ other.stream → ⊥) (drop (i + 1) feeds) → ((k j : ℕ) (d : Feed) → k < i → k < j → j < length feeds → (get_or feeds k d).stream ≡ (get_or feeds j d).stream → ⊥) → (k j : ℕ) (d : Feed) → k < i + 1 → k < j → j < length feeds → (get_or feeds k d).stream ≡ (get_or feeds j d).stream → ⊥
-once_more feeds i one within is later before k j d below =
-    below_more (λ (n : ℕ). n < j → j < length feeds → (get_or feeds n d).stream ≡ (get_or feeds j d).stream → ⊥) i (λ n lower. before n j d lower) (λ under inside same. later (j - (i + 1)) d (omega (arith, length-drop (i + 1) feeds)) (ap (λ (f : Feed). f.stream) (sym is ∙ get_or_read feeds i one within is d) ∙ same ∙ sym (ap (λ (f : Feed). f.stream) (behind feeds i j d under)))) k below
+  -- the pairs of one more, and of each so far
+  pub pairs_more : (i : ℕ) (one : X) → ((d : X) → one ≡ get_or xs i d) → All (R one) (drop (i + 1) xs) → ((k j : ℕ) (d : X) → k < i → k < j → j < length xs → R (get_or xs k d) (get_or xs j d)) → (k j : ℕ) (d : X) → k < i + 1 → k < j → j < length xs → R (get_or xs k d) (get_or xs j d)
+  pairs_more i one is later before k j d below =
+      below_more (λ (n : ℕ). n < j → j < length xs → R (get_or xs n d) (get_or xs j d)) i (λ n lower. before n j d lower) (λ under inside. subst (λ y. R (get_or xs i d) y) (behind i j d under) (subst (λ x. R x (get_or (drop (i + 1) xs) (j - (i + 1)) d)) (is d) (later (j - (i + 1)) d (omega (arith, length-drop (i + 1) xs))))) k below
 
--- no later feed is for the stream of this one
-pub this_once : (feeds : List Feed) (i : ℕ) (one : Feed) → i < length feeds → one ≡ get_or feeds i one → AllPairs (λ one other. one.stream ≡ other.stream → ⊥) feeds → All (λ other. (get_or feeds i one).stream ≡ other.stream → ⊥) (drop (i + 1) feeds)
-this_once feeds i one within is once k d below same =
-    once i (i + 1 + k) d (omega arith) (omega (arith, length-drop (i + 1) feeds)) (ap (λ (f : Feed). f.stream) (sym (sym is ∙ get_or_read feeds i one within is d)) ∙ same ∙ ap (λ (f : Feed). f.stream) (get_or-drop (i + 1) feeds k d))
+  -- the pairs of this one, of those of all
+  pub pairs_this : (i : ℕ) (one : X) → ((d : X) → one ≡ get_or xs i d) → AllPairs R xs → All (R one) (drop (i + 1) xs)
+  pairs_this i one is all k d below =
+      subst (λ y. R one y) (sym (get_or-drop (i + 1) xs k d)) (subst (λ x. R x (get_or xs (i + 1 + k) d)) (sym (is d)) (all i (i + 1 + k) d (omega arith) (omega (arith, length-drop (i + 1) xs))))

@@ -1,5 +1,5 @@
--- Scripts and feeds: the calls and messages that they have for each stream.
-use Rattle.std.specs.Prelude.{ℕ, zero, suc, ◌==◌, Bool, false, List, [], ◌∷◌, ◌++◌, length, if◌then◌else◌, Vec}
+-- Scripts, feeds and links: the calls and messages that they have for each stream.
+use Rattle.std.specs.Prelude.{ℕ, zero, suc, ◌==◌, ◌&&◌, Bool, false, Option, Some, None, List, [], ◌∷◌, ◌++◌, length, if◌then◌else◌, Vec}
 use Rattle.std.specs.Global.{Global}
 use Rattle.std.specs.List.{flat_map}
 use Rattle.strm_msg.specs.Message.{Msg}
@@ -9,6 +9,7 @@ use Rattle.strm_head_calls.specs.declared.event.Event.{Event}
 use Rattle.strm_head_calls.specs.declared.event.Event.TheVariants.{Asked}
 use Rattle.strm_run_input.specs.declared.script.ScriptCall.{ScriptCall}
 use Rattle.strm_run_input.specs.declared.script.Feed.{Feed}
+use Rattle.strm_run_input.specs.declared.run_link.RunLink.{RunLink}
 
 -- the calls of blocks, one block after another, and then others
 abbrev pub in_blocks : {P : Type 0} → List (Vec (ScriptCall P) Global) → List (ScriptCall P) → List (ScriptCall P)
@@ -35,3 +36,14 @@ script_of (script ∷ rest) (suc caller) = script_of rest caller
 abbrev pub feed_of : List Feed → ℕ → List Msg
 feed_of [] number = []
 feed_of (feed ∷ rest) number = if feed.stream == number then feed.messages.items else feed_of rest number
+
+-- the link that leads to a stream, if one does
+abbrev pub link_to : List RunLink → ℕ → Option RunLink
+link_to [] number = None
+link_to (link ∷ rest) number = if link.to == number then Some link else link_to rest number
+
+-- the link on which a caller carries from a stream, if there is one
+abbrev pub link_from : List RunLink → ℕ → ℕ → Option RunLink
+link_from [] caller number = None
+link_from (link ∷ rest) caller number =
+    if link.by == caller && link.from == number then Some link else link_from rest caller number

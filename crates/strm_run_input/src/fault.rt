@@ -12,8 +12,8 @@ use thiserror::Error;
 pub enum RunFault {
     /// Not 1 to 64 workers. Looked at first, before a thread starts.
     Workers,
-    /// A call on a stream or an end that is not there, a feed for no line, or a second feed for the same
-    /// line. Looked at second, before a thread starts.
+    /// A call on a stream or an end that is not there, a feed for no line, a second feed for the same line, or
+    /// a link that cannot be made. Looked at second, before a thread starts.
     NoSuch,
     /// Out of memory, or no thread could be started.
     NoMem,

@@ -1,8 +1,11 @@
 //! The conditions under which a run can be played: a possible number of workers, and all that scripts and
 //! feeds name is there.
 ghost use Rattle.std.specs.Prelude.{◌≡◌, ◌↔◌, true, All, AllPairs, slice_get};
-ghost use Rattle.strm_run_input.specs.Resolve.{end_is_there, line_is_there, is_worker_count, is_setup, CallsResolve, AreFromLine, NamesResolve, IsFromLine};
+ghost use Rattle.strm_run_input.specs.Resolve.{end_is_there, line_is_there, wire_is_there, link_is_there};
+ghost use Rattle.strm_run_input.specs.Resolve.{are_apart, is_worker_count, is_setup};
+ghost use Rattle.strm_run_input.specs.Resolve.{AreFromLine, CallsResolve, IsFromLine, LinksResolve, NamesResolve};
 
+use crate::run_link::RunLink;
 use crate::script::{Feed, Script, ScriptCall};
 use strm_head_calls::Setup;
 use strm_msg::End;
@@ -139,9 +142,74 @@ fn have_one_feed_each(feeds: &[Feed]) -> bool
     true
 }
 
-/// Whether all is there that scripts and feeds name, and no line has two feeds.
-pub fn names_resolve<P>(setups: &[Setup], scripts: &[Script<P>], feeds: &[Feed]) -> bool
-    ensures { result ≡ true ↔ NamesResolve setups.now scripts.now feeds.now }
+/// Whether a stream of this number is a wire.
+fn wire_is_there(setups: &[Setup], stream: u32) -> bool
+    ensures { result ≡ wire_is_there (slice_get setups.now stream) }
 {
-    scripts_resolve(setups, scripts) && feeds_resolve(setups, feeds) && have_one_feed_each(feeds)
+    match setups.get(stream as usize) {
+        Some(setup) => setup.driver.is_wire(),
+        None => false,
+    }
+}
+
+/// Whether a link leads from a wire to a wire, and one of so many callers carries on it.
+fn link_is_there(setups: &[Setup], callers: usize, link: &RunLink) -> bool
+    ensures { result ≡ link_is_there setups.now callers link.now }
+{
+    wire_is_there(setups, link.from)
+        && wire_is_there(setups, link.to)
+        && (link.by as usize) < callers
+}
+
+/// Whether two links lead to two wires, and no caller carries on both from the same wire.
+fn are_apart(one: &RunLink, other: &RunLink) -> bool
+    ensures { result ≡ are_apart one.now other.now }
+{
+    one.to != other.to && (one.by != other.by || one.from != other.from)
+}
+
+/// Whether a link is apart from each of these.
+fn is_apart_from_all(one: &RunLink, others: &[RunLink]) -> bool
+    ensures { result ≡ true ↔ All (λ other. are_apart one.now other ≡ true) others.now }
+{
+    others.iter().all(|other| are_apart(one, other))
+}
+
+/// Whether each two of these links are apart.
+fn all_are_apart(links: &[RunLink]) -> bool
+    ensures { result ≡ true ↔ AllPairs (λ one other. are_apart one other ≡ true) links.now }
+{
+    for i in 0..links.len() {
+        if !is_apart_from_all(&links[i], &links[i + 1..]) {
+            return false;
+        }
+    }
+    true
+}
+
+/// Whether links can be made: all is there that they name, and nothing else comes to the wires that they
+/// lead to.
+pub fn links_resolve(setups: &[Setup], callers: usize, feeds: &[Feed], links: &[RunLink]) -> bool
+    ensures { result ≡ true ↔ LinksResolve setups.now callers feeds.now links.now }
+{
+    links
+        .iter()
+        .all(|link| link_is_there(setups, callers, link))
+        && all_are_apart(links)
+        && links.iter().all(|link| has_no_feed(link.to, feeds))
+}
+
+/// Whether all is there that scripts, feeds and links name, no line has two feeds, and links can be made.
+pub fn names_resolve<P>(
+    setups: &[Setup],
+    scripts: &[Script<P>],
+    feeds: &[Feed],
+    links: &[RunLink],
+) -> bool
+    ensures { result ≡ true ↔ NamesResolve setups.now scripts.now feeds.now links.now }
+{
+    scripts_resolve(setups, scripts)
+        && feeds_resolve(setups, feeds)
+        && have_one_feed_each(feeds)
+        && links_resolve(setups, scripts.len(), feeds, links)
 }

@@ -20,6 +20,12 @@ pub(crate) const FEED: &[u8] = b"feed";
 /// The word of a line in a process that awaits a feed.
 pub(crate) const AWAIT: &[u8] = b"await";
 
+/// The word of a line in a process that carries on a link.
+pub(crate) const CARRY: &[u8] = b"carry";
+
+/// The word of a link.
+pub(crate) const LINK: &[u8] = b"link";
+
 /// A line that has a fault.
 #[derive(Drop)]
 pub(crate) struct Faulty<'a> {
@@ -200,9 +206,11 @@ impl<'a> Faulty<'a> {
         Marked::Field(if number < self.texts.len() { number } else { 0 })
     }
 
-    /// Whether the line is for a stream that cannot have it: a feed, or an await in a process.
+    /// Whether the line is for a stream or a link that cannot have it: a feed, or an await or a carry in a
+    /// process.
     fn is_for_stream(&self) -> bool {
-        self.text(0) == FEED || self.section == Section::Process && self.text(0) == AWAIT
+        self.text(0) == FEED
+            || self.section == Section::Process && (self.text(0) == AWAIT || self.text(0) == CARRY)
     }
 
     /// What is at fault: one of the fields, if their number is right. Fails only when memory runs out.

@@ -10,6 +10,15 @@ use strm_script_words::{
     part_at,
 };
 
+/// The most of the odds of a link, together.
+pub(crate) const MOST_ODDS: u64 = 256;
+
+/// The most carries of a line.
+pub(crate) const MOST_CARRIES: u64 = 65_536;
+
+/// The most acts of a pattern.
+pub(crate) const MOST_ACTS: usize = 64;
+
 /// What may stand in a field.
 #[derive(Clone, Copy, Debug, PartialEq, Eq)]
 pub(crate) enum Form {
@@ -21,6 +30,16 @@ pub(crate) enum Form {
     NewStream,
     /// A name that no process above has.
     NewProcess,
+    /// A name that no link above has.
+    NewLink,
+    /// The name of a link above.
+    Link,
+    /// The letters of acts.
+    Acts,
+    /// The last of the odds of a link, which may be what makes them too many.
+    LastOdds,
+    /// How many carries a line stands for.
+    Carries,
     /// The name of a module.
     Module,
     /// A number of at most this.
@@ -135,6 +154,28 @@ pub(crate) const NEW_ERRNO: Field = Field(b"ERRNO", Form::OptionalChoice(Words::
 
 pub(crate) const ID: Field = Field(b"ID", Form::Upto(MOST_ID));
 
+pub(crate) const NEW_LINK: Field = Field(b"NAME", Form::NewLink);
+
+pub(crate) const FROM_WIRE: Field = Field(b"FROM and TO", Form::Stream);
+
+pub(crate) const TO_WIRE: Field = Field(b"TO", Form::Stream);
+
+pub(crate) const RULE: Field = Field(b"RULE", Form::Choice(Words::Rules));
+
+pub(crate) const LETTERS: Field = Field(b"ACTS", Form::Acts);
+
+pub(crate) const SEED: Field = Field(b"N", Form::Upto(MOST_ID));
+
+pub(crate) const LOSE: Field = Field(b"X", Form::Upto(MOST_ODDS));
+
+pub(crate) const DOUBLE: Field = Field(b"D", Form::Upto(MOST_ODDS));
+
+pub(crate) const HOLD: Field = Field(b"H", Form::LastOdds);
+
+pub(crate) const LINK: Field = Field(b"NAME", Form::Link);
+
+pub(crate) const CARRIES: Field = Field(b"[COUNT]", Form::Carries);
+
 pub(crate) const VALUE: Field = Field(b"RVAL", Form::Upto(MOST_ID));
 
 /// Whether a text is one of these words. Fails only when memory runs out.
@@ -160,6 +201,14 @@ fn is_number(text: &[u8], least: u64, most: u64) -> bool {
     }
 }
 
+/// Whether a text is a pattern of acts.
+fn is_pattern(text: &[u8]) -> bool {
+    text.len() <= MOST_ACTS
+        && text
+            .iter()
+            .all(|letter| matches!(letter, b'k' | b'x' | b'd' | b'h'))
+}
+
 impl Form {
     /// Whether `-` may stand in the place of a value.
     pub(crate) fn is_optional(self) -> bool {
@@ -182,8 +231,13 @@ impl Form {
             return Ok(false);
         }
         match self {
-            Form::Target | Form::Stream => Ok(cause == Cause::NoSuch),
-            Form::NewStream | Form::NewProcess | Form::Module => Ok(cause == Cause::Name),
+            Form::Target | Form::Stream | Form::Link => Ok(cause == Cause::NoSuch),
+            Form::NewStream | Form::NewProcess | Form::NewLink | Form::Module => {
+                Ok(cause == Cause::Name)
+            }
+            Form::Acts => Ok(cause == Cause::Part && !is_pattern(text)),
+            Form::LastOdds => Ok(cause == Cause::Number),
+            Form::Carries => Ok(cause == Cause::Number && !is_number(text, 1, MOST_CARRIES)),
             Form::Upto(most) => Ok(cause == Cause::Number && !is_number(text, 0, most)),
             Form::FromOne(most) => {
                 Ok(cause == Cause::Number && !is_number(text, 1, u64::from(most)))

@@ -1,8 +1,8 @@
 //! The fields that a line may have behind its first word.
-use crate::choosing::AWAIT;
+use crate::choosing::{AWAIT, CARRY};
 use crate::field::{self, Field};
 use crate::line::Section;
-use crate::words::{NOENABLE, driver_of};
+use crate::words::{ACTS, NOENABLE, SEED, driver_of};
 use std::alloc::Global;
 use strm_msg::NoMem;
 use strm_script_words::{InnerWord, KindWord, MessageWord, Verb, from_keyword};
@@ -41,6 +41,28 @@ fn add_stream(fields: &mut Vec<Field>, driver: &[u8]) -> Result<bool, NoMem> {
         add(fields, &[field::RING])?;
     }
     Ok(true)
+}
+
+/// Adds the fields behind `link`. Returns whether these are all. Fails only when memory runs out.
+fn add_link(fields: &mut Vec<Field>, texts: &[&[u8]]) -> Result<bool, NoMem> {
+    add(fields, &[field::NEW_LINK, field::FROM_WIRE, field::TO_WIRE])?;
+    if texts.len() <= 4 {
+        return Ok(true);
+    }
+    add(fields, &[field::RULE])?;
+    let rule = word_at(texts, 4);
+    if rule == ACTS {
+        add(fields, &[field::LETTERS])?;
+        return Ok(true);
+    }
+    if rule == SEED {
+        add(
+            fields,
+            &[field::SEED, field::LOSE, field::DOUBLE, field::HOLD],
+        )?;
+        return Ok(true);
+    }
+    Ok(false)
 }
 
 /// Adds the fields of a message behind its word, as a feed offers it. Fails only when memory runs out.
@@ -195,6 +217,10 @@ fn add_inside(fields: &mut Vec<Field>, section: Section, texts: &[&[u8]]) -> Res
                 add(fields, &[field::STREAM])?;
                 Ok(true)
             }
+            None if word == CARRY => {
+                add(fields, &[field::LINK, field::CARRIES])?;
+                Ok(true)
+            }
             None => Ok(false),
         },
         Section::Feed => match from_keyword::<MessageWord>(word) {
@@ -221,6 +247,7 @@ pub(crate) fn layout_of(alloc: Global, section: Section, texts: &[&[u8]]) -> Res
             add(&mut fields, &[field::STREAM])?;
             true
         }
+        b"link" => add_link(&mut fields, texts)?,
         _ => add_inside(&mut fields, section, texts)?,
     };
     Ok(Layout { fields, is_whole })

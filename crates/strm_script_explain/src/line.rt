@@ -29,7 +29,7 @@ fn first_word(line: &[u8]) -> &[u8] {
 /// The section behind a line of some section.
 fn section_after(section: Section, line: &[u8]) -> Section {
     match first_word(line) {
-        b"stream" => Section::Nowhere,
+        b"stream" | b"link" => Section::Nowhere,
         b"process" => Section::Process,
         b"feed" => Section::Feed,
         _ => section,

@@ -1,6 +1,6 @@
 //! What is wanted where a fault is, in words.
-use crate::choosing::{AWAIT, FEED, Faulty};
-use crate::field::{Field, Form, TO};
+use crate::choosing::{AWAIT, CARRY, FEED, Faulty, LINK};
+use crate::field::{Field, Form, MOST_ACTS, MOST_CARRIES, MOST_ODDS, TO};
 use crate::line::Section;
 use crate::mark::Marked;
 use crate::near::meant;
@@ -11,11 +11,14 @@ use strm_module::LONGEST_NAME;
 use strm_msg::NoMem;
 use strm_script_words::{Cause, MOST_ASKED, MOST_U32, MessageWord, Verb, from_keyword};
 
-/// The longest name of a stream or a process, in bytes.
+/// The longest name of a stream, a process or a link, in bytes.
 const LONGEST: u64 = 16;
 
 /// The most streams of a script.
 const MOST_STREAMS: u64 = 64;
+
+/// The most links of a script.
+const MOST_LINKS: u64 = 64;
 
 /// The most processes of a script.
 const MOST_PROCESSES: u64 = 256;
@@ -32,8 +35,8 @@ const MOST_MESSAGES: u64 = 65_536;
 /// The digits of a byte.
 const DIGITS: &[u8; 16] = b"0123456789abcdef";
 
-/// The words that begin a stream, a process and a feed.
-const FIRST_WORDS: [&[u8]; 3] = [b"stream", b"process", FEED];
+/// The words that begin a stream, a link, a process and a feed.
+const FIRST_WORDS: [&[u8]; 4] = [b"stream", LINK, b"process", FEED];
 
 /// Adds texts, one behind another. Fails only when memory runs out.
 fn add(words: &mut Vec<u8>, texts: &[&[u8]]) -> Result<(), NoMem> {
@@ -92,6 +95,26 @@ fn add_form(alloc: Global, words: &mut Vec<u8>, form: Form, cause: Cause) -> Res
             LONGEST,
             b" letters, digits and `_`, which no process above has, and not `line`",
         ),
+        Form::NewLink => add_number(
+            words,
+            b"1 to ",
+            LONGEST,
+            b" letters, digits and `_`, which no link above has",
+        ),
+        Form::Link => add(words, &[b"a link that is declared above"]),
+        Form::Acts => add_number(
+            words,
+            b"1 to ",
+            MOST_ACTS as u64,
+            b" of the letters `k`, `x`, `d` and `h`",
+        ),
+        Form::LastOdds => add_number(
+            words,
+            b"a number, so that X, D and H are together at most ",
+            MOST_ODDS,
+            b"",
+        ),
+        Form::Carries => add_number(words, b"a number from 1 to ", MOST_CARRIES, b""),
         Form::Module => add_number(
             words,
             b"1 to ",
@@ -161,6 +184,7 @@ fn add_first_word(
     if section != Section::Feed {
         add_all::<Verb>(&mut choices)?;
         choices.push(AWAIT)?;
+        choices.push(CARRY)?;
     }
     if section != Section::Process {
         add_all::<MessageWord>(&mut choices)?;
@@ -234,6 +258,20 @@ fn add_place(words: &mut Vec<u8>, section: Section, word: &[u8]) -> Result<(), N
         };
         return add(words, &[wanted]);
     }
+    if word == CARRY {
+        let wanted: &[u8] = if section == Section::Process {
+            b"wanted NAME: a link of no other process, and the only one of this process from its wire"
+        } else {
+            b"a carry belongs below `process NAME`"
+        };
+        return add(words, &[wanted]);
+    }
+    if word == LINK {
+        return add(
+            words,
+            &[b"wanted FROM and TO: wires, and no feed of TO and no other link to TO"],
+        );
+    }
     if word == FEED {
         return add(
             words,
@@ -266,6 +304,7 @@ fn add_limit(words: &mut Vec<u8>, section: Section, word: &[u8]) -> Result<(), N
                 b" processes",
             )
         }
+        (LINK, _) => add_number(words, b"a script has at most ", MOST_LINKS, b" links"),
         (AWAIT, Section::Process) => {
             add_number(words, b"a process has at most ", MOST_AWAITS, b" awaits")
         }

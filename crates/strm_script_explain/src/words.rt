@@ -38,10 +38,18 @@ pub(crate) enum Words {
     Sides,
     /// The errnos.
     Errnos,
+    /// The words of the rules of links.
+    Rules,
 }
 
 /// The word before the kind of a module whose service procedures are the program's.
 pub(crate) const NOENABLE: &[u8] = b"noenable";
+
+/// The word of a rule that is a pattern of acts.
+pub(crate) const ACTS: &[u8] = b"acts";
+
+/// The word of a rule that draws acts.
+pub(crate) const SEED: &[u8] = b"seed";
 
 /// Adds the words of all values of a type. Fails only when memory runs out.
 pub(crate) fn add_all<W: Keyword>(words: &mut Vec<&'static [u8]>) -> Result<(), NoMem> {
@@ -72,7 +80,7 @@ impl Words {
     pub(crate) fn is_head(self) -> bool {
         matches!(
             self,
-            Words::Drivers | Words::Pushed | Words::Kinds | Words::Messages
+            Words::Drivers | Words::Pushed | Words::Kinds | Words::Messages | Words::Rules
         )
     }
 
@@ -103,6 +111,10 @@ impl Words {
             Words::Controls => add_all::<Prot>(&mut words)?,
             Words::Sides => add_all::<Side>(&mut words)?,
             Words::Errnos => add_all::<Errno>(&mut words)?,
+            Words::Rules => {
+                words.push(ACTS)?;
+                words.push(SEED)?;
+            }
         }
         Ok(words)
     }

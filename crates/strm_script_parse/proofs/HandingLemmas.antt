@@ -1,9 +1,10 @@
 -- What a run is given of a plan that was read meets what a run asks for.
-use Rattle.std.proofs.Common.{◌≡◌, ℕ, zero, suc, ◌<◌, ◌≤◌, ◌&&◌, Bool, true, List, [], ◌∷◌, map, length, get_or, slice_get, All, refl, ap, sym, ◌∙◌, subst, arith}
+use Rattle.std.proofs.Common.{◌≡◌, ℕ, zero, suc, ◌<◌, ◌≤◌, ◌==◌, ◌&&◌, ◌||◌, not, Bool, true, false, Option, Some, None, IfSome, List, [], ◌∷◌, ◌++◌, map, length, get_or, slice_get, All, refl, ap, sym, ◌∙◌, subst, arith}
 use Rattle.std.specs.List.{AllPairs}
 use Rattle.std.proofs.lemmas.List.{length-map}
 use Rattle.std.proofs.lemmas.List.Elements.{All-map, All-head, All-tail, All-cons, All-nil}
-use Rattle.std.proofs.lemmas.Bool.{and_from}
+use Rattle.std.proofs.lemmas.List.Kept.{AllPairs-cons}
+use Rattle.std.proofs.lemmas.Bool.{and_from, lt-ltb}
 use Rattle.arrayvec.specs.ArrayVec.{ArrayVec}
 use Rattle.strm_msg.specs.Kind.{is_from_line}
 use Rattle.strm_msg.specs.declared.words.End.{End}
@@ -13,13 +14,15 @@ use Rattle.strm_head_calls.specs.Setup.{is_fit, is_ring}
 use Rattle.strm_head_calls.specs.declared.setup.Setup.{Setup}
 use Rattle.strm_run_input.specs.declared.script.Feed.{Feed}
 use Rattle.strm_run_input.specs.declared.script.ScriptCall.{ScriptCall}
+use Rattle.strm_run_input.specs.declared.run_link.RunLink.{RunLink}
 use Rattle.strm_run_input.specs.Scripts as jobs
 use Rattle.strm_run_input.specs.Resolve as runs
-use Rattle.strm_script_parse.specs.Plan.{streams_view, feed_view, process_view, call_view}
+use Rattle.strm_script_parse.specs.Plan.{Fed, Linked, streams_view, feed_view, process_view, call_view, link_view}
 use Rattle.strm_script_parse.specs.Sound as plans
-use Rattle.strm_script_parse.specs.Sound.{AreSetups, AreFromLine, AreProcessesThere, AreLinesThere, AreOnce}
+use Rattle.strm_script_parse.specs.Sound.{AreSetups, AreFromLine, AreProcessesThere, AreLinesThere, AreLinked, AreOnce, IsUnfed}
 use Rattle.strm_script_parse.specs.declared.plan.ProcessDecl.{ProcessDecl}
-use Rattle.strm_script_parse.specs.RunInput.{calls_of_processes}
+use Rattle.strm_script_parse.specs.declared.plan.LinkDecl.{LinkDecl}
+use Rattle.strm_script_parse.specs.RunInput.{calls_of_processes, run_link, run_links}
 
 -- what holds of what is made of each element
 unmapped : {X Y : Type 0} (P : Y → Type 0) (f : X → Y) (xs : List X) → All P (map f xs) → All (λ x. P (f x)) xs
@@ -112,10 +115,77 @@ pairs_unmapped R f xs all i j d before under =
     subst (λ y. R y (f (get_or xs j d))) (at_map f xs i d (omega (arith, before, under)))
     (subst (λ y. R (get_or (map f xs) i (f d)) y) (at_map f xs j d under) (all i j (f d) before (omega (arith, many, under))))
 
+-- ---- the links of a run
+
+abbrev run_of : LinkDecl → ℕ → RunLink
+run_of link by = record { by = by; from = link.from; to = link.to; rule = link.rule }
+
+-- what holds of each link that has a carrier
+module _ (P : LinkDecl → Type 0) (Q : RunLink → Type 0) (goes : (link : LinkDecl) (by : ℕ) → link.by ≡ Some by → P link → Q (run_of link by)) where
+  one_run : (link : LinkDecl) (by : Option ℕ) (rest : List RunLink) → link.by ≡ by → P link → All Q rest → All Q (run_link link by ++ rest)
+  one_run link None rest is holds all = all
+  one_run link (Some by) rest is holds all = All-cons Q (run_of link by) rest (goes link by is holds) all
+
+  each_run : (links : List LinkDecl) → All P links → All Q (run_links links)
+  each_run [] all = All-nil Q
+  each_run (link ∷ links) all = one_run link link.by (run_links links) refl (All-head P link links all) (each_run links (All-tail P link links all))
+
+-- what holds of each two
+module _ (P : LinkDecl → LinkDecl → Type 0) (Q : RunLink → RunLink → Type 0) (goes : (one other : LinkDecl) (a b : ℕ) → one.by ≡ Some a → other.by ≡ Some b → P one other → Q (run_of one a) (run_of other b)) where
+  pair_run : (link : LinkDecl) (by : Option ℕ) (links : List LinkDecl) → link.by ≡ by → All (P link) links → AllPairs Q (run_links links) → AllPairs Q (run_link link by ++ run_links links)
+  pair_run link None links is heads rest = rest
+  pair_run link (Some by) links is heads rest =
+      AllPairs-cons Q (run_of link by) (run_links links) (each_run (P link) (Q (run_of link by)) (λ other b its holds. goes link other by b is its holds) links heads) rest
+
+  pairs_run : (links : List LinkDecl) → AllPairs P links → AllPairs Q (run_links links)
+  pairs_run [] all = λ i j d before within. absurd (omega (arith, within))
+  pairs_run (link ∷ links) all =
+      pair_run link link.by links refl (λ k d within. all 0 (suc k) d (omega arith) (omega arith)) (pairs_run links (λ i j d before within. all (suc i) (suc j) d (omega arith) (omega arith)))
+
+same_wire : (entries : Entries) (number : ℕ) → plans.wire_is_there (slice_get (streams_view entries) number) ≡ runs.wire_is_there (slice_get (setups_in entries) number)
+same_wire [] number = refl
+same_wire (entry ∷ entries) zero = refl
+same_wire (entry ∷ entries) (suc number) = same_wire entries number
+
+abbrev IsWired : Entries → ℕ → LinkDecl → Type 0
+IsWired entries processes link =
+    (plans.wire_is_there (slice_get (streams_view entries) link.from) ≡ true) × (plans.wire_is_there (slice_get (streams_view entries) link.to) ≡ true) × IfSome link.by (λ by. by < processes)
+
+link_there : (entries : Entries) (processes : ℕ) (link : LinkDecl) (by : ℕ) → link.by ≡ Some by → IsWired entries processes link → runs.link_is_there (setups_in entries) processes (run_of link by) ≡ true
+link_there entries processes link by is wired =
+    let below : by < processes = subst (λ (o : Option ℕ). IfSome o (λ by. by < processes)) is wired.2 in
+    and_from _ _ (and_from _ _ (sym (same_wire entries link.from) ∙ wired.0) (sym (same_wire entries link.to) ∙ wired.1)) (lt-ltb by processes below)
+
+either_not : (a b c : Bool) → (not a && not (b && c)) ≡ true → (not a && (not b || not c)) ≡ true
+either_not true b c is = absurd cc
+either_not false true true is = absurd cc
+either_not false true false is = refl
+either_not false false c is = refl
+
+links_apart : (one other : LinkDecl) (a b : ℕ) → one.by ≡ Some a → other.by ≡ Some b → plans.are_apart (link_view one) (link_view other) ≡ true → runs.are_apart (run_of one a) (run_of other b) ≡ true
+links_apart one other a b first second is =
+    let both : plans.is_by_one one.by other.by ≡ (a == b) = ap (λ (o : Option ℕ). plans.is_by_one o other.by) first ∙ ap (λ (o : Option ℕ). plans.is_by_one (Some a) o) second in
+    either_not (one.to == other.to) (a == b) (one.from == other.from) (sym (ap (λ (c : Bool). not (one.to == other.to) && not (c && (one.from == other.from))) both) ∙ is)
+
+-- the links of a run can be made
+links_there : (entries : Entries) (feeds : List Feed) (processes callers : ℕ) (links : List LinkDecl) → processes ≡ callers → AreLinked (streams_view entries) (map feed_view feeds) processes (map link_view links) → runs.LinksResolve (setups_in entries) callers feeds (run_links links)
+links_there entries feeds processes callers links many are =
+    let from = unmapped (λ (link : Linked). plans.wire_is_there (slice_get (streams_view entries) link.from) ≡ true) link_view links are.from in
+    let to = unmapped (λ (link : Linked). plans.wire_is_there (slice_get (streams_view entries) link.to) ≡ true) link_view links are.to in
+    let by = unmapped (λ (link : Linked). IfSome link.by (λ by. by < processes)) link_view links are.by in
+    let unfed = unmapped (λ (link : Linked). IsUnfed (map feed_view feeds) link.to) link_view links are.unfed in
+    let apart = pairs_unmapped (λ (one other : Linked). plans.are_apart one other ≡ true) link_view links are.apart in
+    record {
+      there = each_run (IsWired entries processes) (λ (link : RunLink). runs.link_is_there (setups_in entries) callers link ≡ true) (λ link by is wired. subst (λ (n : ℕ). runs.link_is_there (setups_in entries) n (run_of link by) ≡ true) many (link_there entries processes link by is wired)) links (λ k d within. (from k d within, to k d within, by k d within));
+      apart = pairs_run (λ (one other : LinkDecl). plans.are_apart (link_view one) (link_view other) ≡ true) (λ (one other : RunLink). runs.are_apart one other ≡ true) links_apart links apart;
+      unfed = each_run (λ (link : LinkDecl). IsUnfed (map feed_view feeds) link.to) (λ (link : RunLink). All (λ (feed : Feed). link.to ≡ feed.stream → ⊥) feeds) (λ link by is none. let each = unmapped (λ (feed : Fed). feed.stream ≡ link.to → ⊥) feed_view feeds none in (λ k d within same. each k d within (sym same))) links unfed;
+    }
+
 -- so all is there that the run of a plan names
-pub all_there : {K : Type 0} (entries : Entries) (scripts : List (List (ScriptCall (Shape K)))) (processes : List (ProcessDecl (Shape K))) (feeds : List Feed) → scripts ≡ calls_of_processes processes → AreProcessesThere (streams_view entries) (map process_view processes) → AreLinesThere (streams_view entries) (map feed_view feeds) → AreOnce (map feed_view feeds) → runs.NamesResolve (setups_in entries) scripts feeds
-all_there entries scripts processes feeds same calls lines once = record {
+pub all_there : {K : Type 0} (entries : Entries) (scripts : List (List (ScriptCall (Shape K)))) (processes : List (ProcessDecl (Shape K))) (feeds : List Feed) (links : List LinkDecl) → scripts ≡ calls_of_processes processes → AreProcessesThere (streams_view entries) (map process_view processes) → AreLinesThere (streams_view entries) (map feed_view feeds) → AreOnce (map feed_view feeds) → AreLinked (streams_view entries) (map feed_view feeds) (length (map process_view processes)) (map link_view links) → runs.NamesResolve (setups_in entries) scripts feeds (run_links links)
+all_there entries scripts processes feeds links same calls lines once linked = record {
   calls = scripts_there entries scripts processes same calls;
   lines = feeds_there entries feeds lines;
   once = pairs_unmapped (λ one other. one.stream ≡ other.stream → ⊥) feed_view feeds once;
+  joined = links_there entries feeds (length (map process_view processes)) (length scripts) links (length-map processes process_view ∙ sym (length-map processes (λ process. process.calls)) ∙ sym (ap (λ l. length l) same)) linked;
 }

@@ -1,7 +1,9 @@
+pub mod CarryLemmas
 pub mod ExpectedLemmas
 pub mod FieldLemmas
 pub mod HandingLemmas
 pub mod LineLemmas
+pub mod LinkedLemmas
 pub mod MoreLemmas
 pub mod ReadLemmas
 pub mod SectionLemmas

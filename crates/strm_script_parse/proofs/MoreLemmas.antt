@@ -1,9 +1,13 @@
 -- One element more of a list that is made from another, and one element that is written back.
-use Rattle.std.proofs.Common.{◌≡◌, ℕ, zero, suc, List, [], ◌∷◌, ◌++◌, map, length, take, drop, ap, sym, refl, ◌∙◌, Vec, Global, slice_index_or, slice_set}
+use Rattle.std.proofs.Common.{◌≡◌, ◌<◌, ◌+◌, ℕ, zero, suc, Option, List, [], ◌∷◌, ◌++◌, map, length, take, drop, get_or, add-one, ap, sym, refl, ◌∙◌, Vec, Global, slice_index_or, slice_set}
 use Rattle.std.specs.List.{flat_map}
 use Rattle.std.specs.Vec.{with_items}
-use Rattle.std.proofs.Math.Seq.{take-append_seam}
-use Rattle.std.proofs.lemmas.List.{map-append}
+use Rattle.std.proofs.Math.Seq.{take-append_seam, take-suc}
+use Rattle.std.proofs.lemmas.List.{append-nil, map-append}
+use Rattle.std.proofs.lemmas.List.Concat.{flat_map-append}
+use Rattle.strm_run_input.specs.declared.run_link.RunLink.{RunLink}
+use Rattle.strm_script_parse.specs.declared.plan.LinkDecl.{LinkDecl}
+use Rattle.strm_script_parse.specs.RunInput.{run_link, run_links}
 
 -- what was made of the elements so far, and of one more
 pub one_more : {B C : Type 0} (g : B → C) (made : List C) (seen : List B) (new : C) (one : B) → made ≡ map g seen → new ≡ g one → made ++ new ∷ [] ≡ map g (seen ++ one ∷ [])
@@ -36,3 +40,15 @@ module _ {A : Type 0} where
 -- the same where both are seen
 pub one_more_seen : {X B C : Type 0} (f : X → C) (g : B → C) (made : List X) (seen : List B) (new : X) (one : B) → map f made ≡ map g seen → f new ≡ g one → map f (made ++ new ∷ []) ≡ map g (seen ++ one ∷ [])
 one_more_seen f g made seen new one so_far same = map-append f made (new ∷ []) ∙ one_more g (map f made) seen (f new) one so_far same
+
+-- one link more, if it has a carrier
+pub one_carried : (links : List LinkDecl) (i : ℕ) (link : LinkDecl) (made all : List RunLink) (by : Option ℕ) → i < length links → link ≡ get_or links i link → link.by ≡ by → made ≡ run_links (take i links) → all ≡ made ++ run_link link by → all ≡ run_links (take (i + 1) links)
+one_carried links i link made all by within is its so_far more =
+    let first : take (i + 1) links ≡ take i links ++ link ∷ [] =
+    ap (λ (n : ℕ). take n links) (add-one i) ∙ take-suc links i link within ∙ ap (λ (x : LinkDecl). take i links ++ x ∷ []) (sym is) in
+    more
+    ∙ ap (λ (o : Option ℕ). made ++ run_link link o) (sym its)
+    ∙ ap (λ (l : List RunLink). l ++ run_link link link.by) so_far
+    ∙ ap (λ (l : List RunLink). run_links (take i links) ++ l) (sym (append-nil (run_link link link.by)))
+    ∙ sym (flat_map-append (λ (link : LinkDecl). run_link link link.by) (take i links) (link ∷ []))
+    ∙ sym (ap run_links first)

@@ -1,5 +1,5 @@
 -- Lines that were read, and sections that were.
-use Rattle.std.proofs.Common.{◌≡◌, inl, inr, ℕ, suc, ◌+◌, ◌<◌, ◌≤◌, ◌==◌, ◌&&◌, nat_le, Bool, true, false, List, [], ◌∷◌, ◌++◌, length, map, take, get_or, slice_get, Vec, All, Result, Ok, Err, IfOk, IfErr, refl, sym, ap, subst, ◌∙◌, arith}
+use Rattle.std.proofs.Common.{◌≡◌, inl, inr, ℕ, suc, ◌+◌, ◌<◌, ◌≤◌, ◌==◌, nat_le, true, List, [], ◌∷◌, ◌++◌, length, map, take, get_or, slice_get, Vec, All, Result, Ok, Err, IfOk, IfErr, refl, sym, ap, subst, ◌∙◌, arith}
 use Rattle.std.specs.Global.{Global}
 use Rattle.std.specs.List.{flat_map}
 use Rattle.std.specs.Str.Lines.{lines}
@@ -11,18 +11,19 @@ use Rattle.std.proofs.lemmas.List.Elements.{All-append}
 use Rattle.strm_script_words.specs.Naming.{KindWords}
 use Rattle.strm_msg.specs.declared.memory.NoMem.{NoMem}
 use Rattle.strm_module.specs.declared.shape.Shape.{Shape}
-use Rattle.strm_script_parse.specs.Plan.{Call, Streams, Whole, Partial, Place, Nowhere, In_process, In_feed, plan_view}
+use Rattle.strm_script_parse.specs.Plan.{Call, Linked, Streams, Whole, Partial, Place, Nowhere, In_process, In_feed, plan_view}
 use Rattle.strm_script_parse.specs.Reading.{FaultAt, line_onto, lines_onto, nothing_yet, plan_of}
 use Rattle.strm_script_parse.specs.Sound.{end_is_there, AreCallsThere, IsSound}
 use Rattle.strm_script_parse.specs.Spelling.{Spells}
 use Rattle.strm_script_parse.specs.declared.plan.Plan.{Plan}
-use Rattle.strm_script_parse.specs.Draft.{IsDraft, IsAt, IsPlaceThere, AreGoing, going}
+use Rattle.strm_script_parse.specs.Draft.{IsDraft, IsAt, IsPlaceThere, IsUnled, AreGoing, going}
 use Rattle.strm_script_parse.specs.Section.{takes, HasRoom, called, with_calls, IsMore, AddCalls, AreRead, IsSection, IsFaultOfLine, IsFaultOfLines}
 use Rattle.strm_script_parse.specs.declared.draft.TheConstants.{MOST_CALLS}
 use Rattle.strm_script_parse.specs.declared.section.Section.{Section}
 use Rattle.strm_script_parse.specs.declared.fault.ScriptFault.{ScriptFault}
 use Rattle.strm_script_parse.proofs.LineLemmas.{one_more, one_fault}
 use Rattle.strm_script_parse.proofs.SoundLemmas.{line_keeps, lines_sound, nothing_kept}
+use Rattle.strm_script_parse.proofs.LinkedLemmas.{linked_by}
 use Rattle.strm_script_parse.proofs.ThereLemmas.{awaits_stay}
 
 -- ---- streams that are declared one after another
@@ -69,6 +70,11 @@ place_there {K} streams d (In_process process) calls there are =
     (All-append (λ (call : Call K). end_is_there (slice_get streams call.stream) call.end ≡ true) process.calls calls there.0 are, awaits_stay streams process calls process.expected there.1)
 place_there streams d (In_feed feed) calls there are = there
 
+still_unled : {K : Type 0} (links : List Linked) (place : Place K) (calls : List (Call K)) → IsUnled links place → IsUnled links (called place calls)
+still_unled links Nowhere calls none = tt
+still_unled links (In_process process) calls none = tt
+still_unled links (In_feed feed) calls none = none
+
 calls_kept : {K : Type 0} (d : Partial K) (calls : List (Call K)) → IsDraft d → AreCallsThere d.streams calls → IsDraft (with_calls d calls)
 calls_kept d calls k are = record {
   setups = k.setups;
@@ -76,7 +82,7 @@ calls_kept d calls k are = record {
   few_processes = omega (arith, k.few_processes, going_on d.place calls);
   messages = k.messages;
   going_on = are_going d.place calls k.going_on;
-  there = record { calls = k.there.calls; awaits = k.there.awaits; lines = k.there.lines; once = k.there.once; going_on = place_there d.streams d d.place calls k.there.going_on are };
+  there = record { calls = k.there.calls; awaits = k.there.awaits; lines = k.there.lines; once = k.there.once; going_on = place_there d.streams d d.place calls k.there.going_on are; links = linked_by d.streams d.feeds (length d.processes + going d.place) (length d.processes + going (called d.place calls)) d.links (omega (arith, going_on d.place calls)) k.there.links; unled = still_unled d.links d.place calls k.there.unled };
 }
 
 -- ---- a line, and those behind it

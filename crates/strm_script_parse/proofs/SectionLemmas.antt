@@ -18,16 +18,14 @@ use Rattle.strm_script_words.specs.Service.{is_service}
 use Rattle.strm_script_words.specs.declared.fault.Cause.{Cause}
 use Rattle.strm_script_words.specs.declared.fault.Cause.TheVariants as causes
 use Rattle.strm_script_words.specs.declared.verb.Verb.{Verb}
-use Rattle.strm_script_words.specs.declared.verb.Verb.TheVariants as Verb
 use Rattle.strm_msg.specs.declared.memory.NoMem.{NoMem}
 use Rattle.strm_module.specs.declared.shape.Shape.{Shape}
 use Rattle.strm_script_parse.specs.Plan.{Call, Expect, Process, Streams, Partial, Place, Nowhere, In_process, In_feed, call_view}
 use Rattle.strm_script_parse.specs.Expected.{call_fields, reply_fields, expected_of}
-use Rattle.strm_script_parse.specs.Reading.{ended, stream_onto, process_onto, feed_onto, await_onto, is_await, process_line_onto, call_at, call_onto, with_call, fields_in, fields_onto, word_onto, inner_onto, outside, line_onto, lines_onto, modules_after}
+use Rattle.strm_script_parse.specs.Reading.{ended, ended_at, stream_onto, process_onto, feed_onto, link_onto, await_onto, carry_onto, is_await, is_carry, is_link, process_line_onto, other_onto, call_at, call_onto, with_call, fields_in, fields_onto, word_onto, inner_onto, outside, line_onto, lines_onto, modules_after}
 use Rattle.strm_script_parse.specs.Sound.{end_is_there, AreCallsThere}
 use Rattle.strm_script_parse.specs.Section.{HasRoom, called, with_calls, AddsCalls, Says}
 use Rattle.strm_script_parse.specs.declared.section.Said.{Said}
-use Rattle.strm_script_parse.specs.declared.section.Said.TheVariants as Said
 use Rattle.strm_script_parse.specs.Targets.{target_of}
 use Rattle.strm_script_parse.specs.declared.draft.TheConstants.{MOST_CALLS}
 use Rattle.strm_script_parse.proofs.LineLemmas.{one_more}
@@ -109,43 +107,43 @@ found_passes : {A : Type 0} (p : A → Bool) (all : List A) (y : A) → find p a
 found_passes p [] y is = absurd cc
 found_passes p (x ∷ all) y is = found_by p x y (p x) (find p all) refl is (λ is. found_passes p all y is)
 
--- no verb is the word of a declaration, or of an await
+-- no verb is the word of a declaration, of an await or of a carry
 abbrev IsNoDeclaration : List ℕ → Type 0
-IsNoDeclaration word = (bytes_eq word (codes "stream") ≡ false) × (bytes_eq word (codes "process") ≡ false) × (bytes_eq word (codes "feed") ≡ false) × (is_await word ≡ false)
+IsNoDeclaration word = (bytes_eq word (codes "stream") ≡ false) × (bytes_eq word (codes "process") ≡ false) × (bytes_eq word (codes "feed") ≡ false) × (is_await word ≡ false) × (is_carry word ≡ false) × (is_link word ≡ false)
 
 no_declaration : (verb : Verb) → IsNoDeclaration (word_of verb)
-no_declaration Verb.Putmsg = (refl, refl, refl, refl)
-no_declaration Verb.Putpmsg = (refl, refl, refl, refl)
-no_declaration Verb.Getmsg = (refl, refl, refl, refl)
-no_declaration Verb.Getpmsg = (refl, refl, refl, refl)
-no_declaration Verb.Read = (refl, refl, refl, refl)
-no_declaration Verb.Write = (refl, refl, refl, refl)
-no_declaration Verb.Push = (refl, refl, refl, refl)
-no_declaration Verb.Pop = (refl, refl, refl, refl)
-no_declaration Verb.Look = (refl, refl, refl, refl)
-no_declaration Verb.List = (refl, refl, refl, refl)
-no_declaration Verb.Find = (refl, refl, refl, refl)
-no_declaration Verb.Str = (refl, refl, refl, refl)
-no_declaration Verb.Strput = (refl, refl, refl, refl)
-no_declaration Verb.Strget = (refl, refl, refl, refl)
-no_declaration Verb.Flush = (refl, refl, refl, refl)
-no_declaration Verb.FlushBand = (refl, refl, refl, refl)
-no_declaration Verb.Nread = (refl, refl, refl, refl)
-no_declaration Verb.Peek = (refl, refl, refl, refl)
-no_declaration Verb.SetRead = (refl, refl, refl, refl)
-no_declaration Verb.GetRead = (refl, refl, refl, refl)
-no_declaration Verb.Canput = (refl, refl, refl, refl)
-no_declaration Verb.Ckband = (refl, refl, refl, refl)
-no_declaration Verb.Getband = (refl, refl, refl, refl)
-no_declaration Verb.Close = (refl, refl, refl, refl)
-no_declaration Verb.Take = (refl, refl, refl, refl)
-no_declaration Verb.Getq = (refl, refl, refl, refl)
-no_declaration Verb.Putbq = (refl, refl, refl, refl)
-no_declaration Verb.Putnext = (refl, refl, refl, refl)
-no_declaration Verb.Bcanputnext = (refl, refl, refl, refl)
-no_declaration Verb.Qsize = (refl, refl, refl, refl)
-no_declaration Verb.Tick = (refl, refl, refl, refl)
-no_declaration Verb.Poll = (refl, refl, refl, refl)
+no_declaration Verb.Putmsg = (refl, refl, refl, refl, refl, refl)
+no_declaration Verb.Putpmsg = (refl, refl, refl, refl, refl, refl)
+no_declaration Verb.Getmsg = (refl, refl, refl, refl, refl, refl)
+no_declaration Verb.Getpmsg = (refl, refl, refl, refl, refl, refl)
+no_declaration Verb.Read = (refl, refl, refl, refl, refl, refl)
+no_declaration Verb.Write = (refl, refl, refl, refl, refl, refl)
+no_declaration Verb.Push = (refl, refl, refl, refl, refl, refl)
+no_declaration Verb.Pop = (refl, refl, refl, refl, refl, refl)
+no_declaration Verb.Look = (refl, refl, refl, refl, refl, refl)
+no_declaration Verb.List = (refl, refl, refl, refl, refl, refl)
+no_declaration Verb.Find = (refl, refl, refl, refl, refl, refl)
+no_declaration Verb.Str = (refl, refl, refl, refl, refl, refl)
+no_declaration Verb.Strput = (refl, refl, refl, refl, refl, refl)
+no_declaration Verb.Strget = (refl, refl, refl, refl, refl, refl)
+no_declaration Verb.Flush = (refl, refl, refl, refl, refl, refl)
+no_declaration Verb.FlushBand = (refl, refl, refl, refl, refl, refl)
+no_declaration Verb.Nread = (refl, refl, refl, refl, refl, refl)
+no_declaration Verb.Peek = (refl, refl, refl, refl, refl, refl)
+no_declaration Verb.SetRead = (refl, refl, refl, refl, refl, refl)
+no_declaration Verb.GetRead = (refl, refl, refl, refl, refl, refl)
+no_declaration Verb.Canput = (refl, refl, refl, refl, refl, refl)
+no_declaration Verb.Ckband = (refl, refl, refl, refl, refl, refl)
+no_declaration Verb.Getband = (refl, refl, refl, refl, refl, refl)
+no_declaration Verb.Close = (refl, refl, refl, refl, refl, refl)
+no_declaration Verb.Take = (refl, refl, refl, refl, refl, refl)
+no_declaration Verb.Getq = (refl, refl, refl, refl, refl, refl)
+no_declaration Verb.Putbq = (refl, refl, refl, refl, refl, refl)
+no_declaration Verb.Putnext = (refl, refl, refl, refl, refl, refl)
+no_declaration Verb.Bcanputnext = (refl, refl, refl, refl, refl, refl)
+no_declaration Verb.Qsize = (refl, refl, refl, refl, refl, refl)
+no_declaration Verb.Tick = (refl, refl, refl, refl, refl, refl)
+no_declaration Verb.Poll = (refl, refl, refl, refl, refl, refl)
 
 verb_declares_nothing : (word : List ℕ) (verb : Verb) → verb_named word ≡ Some verb → IsNoDeclaration word
 verb_declares_nothing word verb is =
@@ -156,8 +154,15 @@ verb_declares_nothing word verb is =
 pub verb_line : {K : Type 0} (words : KindWords K) (n : ℕ) (d : Partial K) (process : Process K) (word : List ℕ) (texts : List (List ℕ)) (verb : Verb) → verb_named word ≡ Some verb → process_line_onto words n d process word texts ≡ call_onto words n d process verb texts
 verb_line {K} words n d process word texts verb named =
     let call : Result Verb Cause → Result (Partial K) Cause = λ r. r >>= λ verb. call_onto words n d process verb texts in
-    ap (λ (b : Bool). cond b (await_onto d process texts) (call (or_fault (outside word) (verb_named word)))) (verb_declares_nothing word verb named).3
+    let other = verb_declares_nothing word verb named in
+    ap (λ (b : Bool). cond b (await_onto d process texts) (cond (is_carry word) (carry_onto d process texts) (call (or_fault (outside word) (verb_named word))))) other.3
+    ∙ ap (λ (b : Bool). cond b (carry_onto d process texts) (call (or_fault (outside word) (verb_named word)))) other.4
     ∙ ap (λ (found : Option Verb). call (or_fault (outside word) found)) named
+
+-- whatever goes on
+pub verb_other : {K : Type 0} (words : KindWords K) (n : ℕ) (d : Partial K) (place : Place K) (word : List ℕ) (texts : List (List ℕ)) (verb : Verb) → verb_named word ≡ Some verb → other_onto words n d place word texts ≡ inner_onto words n d place word texts
+verb_other words n d place word texts verb named =
+    ap (λ (b : Bool). cond b (link_onto (ended_at d place) texts) (inner_onto words n d place word texts)) (verb_declares_nothing word verb named).5
 
 module _ {K : Type 0} (words : KindWords K) (streams : Streams) where
   -- what is no push is read by itself as it is anywhere
@@ -204,10 +209,10 @@ module _ {K : Type 0} (words : KindWords K) (streams : Streams) where
   says_call word texts verb call named none bare read = record {
     onto = λ n d same room.
         let other = verb_declares_nothing word verb named in
-        let no_stream = ap (λ (b : Bool). cond b (stream_onto (ended d) texts) (cond (bytes_eq word (codes "process")) (process_onto (ended d) texts) (cond (bytes_eq word (codes "feed")) (feed_onto (ended d) texts) (inner_onto words n d d.place word texts)))) other.0 in
-        let no_process = ap (λ (b : Bool). cond b (process_onto (ended d) texts) (cond (bytes_eq word (codes "feed")) (feed_onto (ended d) texts) (inner_onto words n d d.place word texts))) other.1 in
-        let no_feed = ap (λ (b : Bool). cond b (feed_onto (ended d) texts) (inner_onto words n d d.place word texts)) other.2 in
-        no_stream ∙ no_process ∙ no_feed ∙ inner_call n d d.place word texts verb call named none bare read same room;
+        let no_stream = ap (λ (b : Bool). cond b (stream_onto (ended d) texts) (cond (bytes_eq word (codes "process")) (process_onto (ended d) texts) (cond (bytes_eq word (codes "feed")) (feed_onto (ended d) texts) (other_onto words n d d.place word texts)))) other.0 in
+        let no_process = ap (λ (b : Bool). cond b (process_onto (ended d) texts) (cond (bytes_eq word (codes "feed")) (feed_onto (ended d) texts) (other_onto words n d d.place word texts))) other.1 in
+        let no_feed = ap (λ (b : Bool). cond b (feed_onto (ended d) texts) (other_onto words n d d.place word texts)) other.2 in
+        no_stream ∙ no_process ∙ no_feed ∙ verb_other words n d d.place word texts verb named ∙ inner_call n d d.place word texts verb call named none bare read same room;
     there = All-cons (λ (call : Call K). end_is_there (slice_get streams call.stream) call.end ≡ true) call [] (call_there words streams 0 verb (call_fields texts) None call read) (All-nil (λ (call : Call K). end_is_there (slice_get streams call.stream) call.end ≡ true));
   }
 

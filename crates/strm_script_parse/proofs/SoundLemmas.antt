@@ -1,10 +1,10 @@
 -- Each line keeps what a run asks of a plan.
-use Rattle.std.proofs.Common.{◌≡◌, ◌≤◌, ℕ, ◌+◌, ◌==◌, nat_lt, ◌&&◌, not, Bool, true, false, cond, List, [], ◌∷◌, ◌++◌, length, get_or, slice_get, codes, Some, Result, Ok, Err, refl, sym, ap, subst, ◌∙◌, arith}
+use Rattle.std.proofs.Common.{◌≡◌, ◌≤◌, ℕ, ◌+◌, ◌==◌, nat_lt, ◌&&◌, ◌||◌, not, Bool, true, false, cond, List, [], ◌∷◌, ◌++◌, length, get_or, replicate, slice_get, codes, Some, Result, Ok, Err, refl, sym, ap, subst, ◌∙◌, arith}
 use Rattle.std.specs.List.{All}
 use Rattle.std.specs.Str.{bytes_eq}
-use Rattle.std.proofs.lemmas.Bool.{ltb-true}
+use Rattle.std.proofs.lemmas.Bool.{ltb-true, or_parts}
 use Rattle.std.proofs.lemmas.List.{append-nil, length-append}
-use Rattle.std.proofs.lemmas.List.Elements.{All-nil, All-push}
+use Rattle.std.proofs.lemmas.List.Elements.{All-nil, All-push, All-append}
 use Rattle.strm_msg.specs.Message.{Msg}
 use Rattle.strm_msg.specs.Kind.{is_from_line}
 use Rattle.strm_module.specs.declared.driver.Driver.{Driver}
@@ -19,16 +19,17 @@ use Rattle.strm_script_words.specs.declared.arrival.MessageWord.{MessageWord}
 use Rattle.strm_script_words.specs.declared.fault.Cause.{Cause}
 use Rattle.strm_script_words.specs.declared.fault.Cause.TheVariants as causes
 use Rattle.strm_script_words.specs.declared.verb.Verb.{Verb}
-use Rattle.strm_script_parse.specs.Plan.{Call, Expect, Process, Fed, Streams, Partial, Whole, Place, Nowhere, In_process, In_feed}
-use Rattle.strm_script_parse.specs.Reading.{ended, ended_at, plan_of, fresh_name, driver_at, setup_arity, setup_at, setup_onto, declared_at, has_room, with_stream, stream_onto, process_name, with_process, process_onto, has_feed, with_feed, feed_onto, call_at, with_call, call_onto, await_of, with_await, only_field, await_onto, is_await, process_line_onto, with_message, message_onto, inner_onto, outside, word_onto, fields_in, fields_onto, line_onto, modules_after, nothing_yet, FaultAt, lines_onto, then_lines}
+use Rattle.strm_script_parse.specs.Plan.{Call, Expect, Process, Fed, Linked, Streams, Partial, Whole, Place, Nowhere, In_process, In_feed}
+use Rattle.strm_script_parse.specs.Reading.{ended, ended_at, plan_of, fresh_name, driver_at, setup_arity, setup_at, setup_onto, declared_at, has_room, with_stream, stream_onto, process_name, with_process, process_onto, has_feed, with_feed, leads_to, feed_onto, link_at, with_link, link_onto, call_at, with_call, call_onto, Carrying, carry_at, with_carries, take_from, carry_onto, await_of, with_await, only_field, await_onto, is_await, is_carry, is_link, process_line_onto, other_onto, with_message, message_onto, inner_onto, outside, word_onto, fields_in, fields_onto, line_onto, modules_after, nothing_yet, FaultAt, lines_onto, then_lines}
 use Rattle.strm_script_parse.specs.Targets.{stream_names, stream_at}
 use Rattle.strm_script_parse.specs.Expected.{call_fields, reply_fields, expected_of}
 use Rattle.strm_script_parse.specs.Sound.{end_is_there, line_is_there, AreCallsThere, AreAwaits, IsSound}
-use Rattle.strm_script_parse.specs.declared.draft.TheConstants.{MOST_STREAMS, MOST_PROCESSES, MOST_CALLS, MOST_AWAITS, MOST_MESSAGES}
+use Rattle.strm_script_parse.specs.declared.draft.TheConstants.{MOST_STREAMS, MOST_PROCESSES, MOST_CALLS, MOST_AWAITS, MOST_MESSAGES, MOST_LINKS}
 use Rattle.strm_script_parse.specs.Section.{IsMore}
-use Rattle.strm_script_parse.specs.Draft.{IsDraft}
+use Rattle.strm_script_parse.specs.Draft.{IsDraft, IsUnled, going}
 use Rattle.strm_script_parse.proofs.StepLemmas.{through, passed, either, same, found_in}
 use Rattle.strm_script_parse.proofs.FieldLemmas.{setup_fits, message_from_line}
+use Rattle.strm_script_parse.proofs.LinkedLemmas.{unled, none_linked, linked_by, linked_more, linked_fed, linked_push, IsNew, link_new, linked_carried, IsCarry, carry_may, takes_there, going_small}
 use Rattle.strm_script_parse.proofs.ThereLemmas.{call_there, stream_found, line_there, processes_more, awaits_more, lines_more, place_more, no_awaits, awaits_stay, await_more, unfed, both_of, once_more}
 
 -- what a line keeps, which declares one module at most
@@ -57,6 +58,8 @@ ended_at_kept {K} d (In_process process) k = record {
     lines = k.there.lines;
     once = k.there.once;
     going_on = tt;
+    links = linked_by d.streams d.feeds (length d.processes + 1) (length (d.processes ++ process ∷ []) + 0) d.links (omega (arith, length-append d.processes (process ∷ []))) k.there.links;
+    unled = tt;
   };
 }
 ended_at_kept {K} d (In_feed feed) k = record {
@@ -71,6 +74,8 @@ ended_at_kept {K} d (In_feed feed) k = record {
     lines = All-push (λ (f : Fed). line_is_there (slice_get d.streams f.stream) ≡ true) d.feeds feed k.there.lines k.there.going_on.0;
     once = once_more d.feeds feed k.there.once k.there.going_on.1;
     going_on = tt;
+    links = linked_fed d.streams d.feeds feed (length d.processes + 0) d.links k.there.unled k.there.links;
+    unled = tt;
   };
 }
 
@@ -93,6 +98,9 @@ ended_place d Nowhere = refl
 ended_place d (In_process process) = refl
 ended_place d (In_feed feed) = refl
 
+none_going : {K : Type 0} (place : Place K) → place ≡ Nowhere → going place ≡ 0
+none_going place none = ap (λ place. going place) none
+
 -- so a plan that is kept is sound when it ends
 pub kept_sound : {K : Type 0} (d : Partial K) → IsDraft d → IsSound (plan_of d)
 kept_sound d k =
@@ -106,6 +114,7 @@ kept_sound d k =
       awaits = e.there.awaits;
       lines = e.there.lines;
       once = e.there.once;
+      links = linked_by (ended d).streams (ended d).feeds (length (ended d).processes + going (ended d).place) (length (ended d).processes) (ended d).links (omega (arith, none_going (ended d).place (ended_place d d.place))) e.there.links;
     }
 
 pub nothing_kept : {K : Type 0} → IsDraft {K = K} nothing_yet
@@ -121,6 +130,8 @@ nothing_kept {K} = record {
     lines = All-nil (λ (f : Fed). line_is_there (slice_get [] f.stream) ≡ true);
     once = λ i j d before within. absurd (omega (arith, within));
     going_on = tt;
+    links = none_linked [] [] 0;
+    unled = tt;
   };
 }
 
@@ -145,6 +156,8 @@ with_stream_keeps d e name setup fits is k =
           lines = lines_more d.streams (named name setup) d.feeds k.there.lines;
           once = k.there.once;
           going_on = place_more d.streams (named name setup) d.feeds d.place k.there.going_on;
+          links = linked_more d.streams d.feeds (named name setup) (length d.processes + going d.place) d.links k.there.links;
+          unled = k.there.unled;
         };
       };
       modules = omega arith;
@@ -187,6 +200,8 @@ with_process_keeps {K} d e name is k =
           lines = k.there.lines;
           once = k.there.once;
           going_on = (All-nil (λ (call : Call K). end_is_there (slice_get d.streams call.stream) call.end ≡ true), no_awaits d.streams (new_process name) refl);
+          links = linked_by d.streams d.feeds (length d.processes + going d.place) (length d.processes + 1) d.links (omega (arith, going_small d.place)) k.there.links;
+          unled = tt;
         };
       };
       modules = omega arith;
@@ -207,10 +222,11 @@ new_feed number = record { stream = number; messages = [] }
 from_line : Msg → Type 0
 from_line m = is_from_line m.kind ≡ true
 
-with_feed_keeps : {K : Type 0} (d e : Partial K) (text : List ℕ) (found : ℕ × Driver) → stream_at d.streams text ≡ Some found → with_feed d found ≡ Ok e → IsDraft d → Keeps d e
-with_feed_keeps d e text found named is k =
-    passed (is_line found.1 && not (has_feed d.feeds found.0)) (Ok (record d { place = In_feed (new_feed found.0) })) e causes.OutOfPlace is (λ free is.
-    let line = both_of (is_line found.1) (has_feed d.feeds found.0) free in
+with_feed_keeps : {K : Type 0} (d e : Partial K) (text : List ℕ) (found : ℕ × Driver) → stream_at d.streams text ≡ Some found → with_feed d found ≡ Ok e → d.place ≡ Nowhere → IsDraft d → Keeps d e
+with_feed_keeps d e text found named is none k =
+    passed (is_line found.1 && not (has_feed d.feeds found.0 || leads_to d.links found.0)) (Ok (record d { place = In_feed (new_feed found.0) })) e causes.OutOfPlace is (λ free is.
+    let line = both_of (is_line found.1) (has_feed d.feeds found.0 || leads_to d.links found.0) free in
+    let nothing = or_parts (has_feed d.feeds found.0) (leads_to d.links found.0) line.1 in
     same (Keeps d) (record d { place = In_feed (new_feed found.0) }) e is (record {
       kept = record {
         setups = k.setups;
@@ -223,18 +239,52 @@ with_feed_keeps d e text found named is k =
           awaits = k.there.awaits;
           lines = k.there.lines;
           once = k.there.once;
-          going_on = (line_there d.streams found (stream_found d.streams text found named) line.0, unfed d.feeds found.0 line.1);
+          going_on = (line_there d.streams found (stream_found d.streams text found named) line.0, unfed d.feeds found.0 nothing.0);
+          links = linked_by d.streams d.feeds (length d.processes + going d.place) (length d.processes + 0) d.links (omega (arith, none_going d.place none)) k.there.links;
+          unled = unled d.links found.0 nothing.1;
         };
       };
       modules = omega arith;
       streams = none_more d.streams;
     }))
 
-feed_keeps : {K : Type 0} (d e : Partial K) (texts : List (List ℕ)) → feed_onto d texts ≡ Ok e → IsDraft d → Keeps d e
+feed_keeps : {K : Type 0} (d e : Partial K) (texts : List (List ℕ)) → feed_onto d texts ≡ Ok e → d.place ≡ Nowhere → IsDraft d → Keeps d e
 unfolding feed_onto
-feed_keeps d e [] is k = absurd cc
-feed_keeps d e (name ∷ []) is k = through (or_fault causes.NoSuch (stream_at d.streams name)) (λ found. with_feed d found) e is (λ found named is. with_feed_keeps d e name found (found_in (stream_at d.streams name) causes.NoSuch found named) is k)
-feed_keeps d e (name ∷ more ∷ texts) is k = absurd cc
+feed_keeps d e [] is none k = absurd cc
+feed_keeps d e (name ∷ []) is none k = through (or_fault causes.NoSuch (stream_at d.streams name)) (λ found. with_feed d found) e is (λ found named is. with_feed_keeps d e name found (found_in (stream_at d.streams name) causes.NoSuch found named) is none k)
+feed_keeps d e (name ∷ more ∷ texts) is none k = absurd cc
+
+-- ---- a link
+
+with_link_keeps : {K : Type 0} (d e : Partial K) (link : Linked) → IsNew d.streams d.feeds d.links link → with_link d link ≡ Ok e → d.place ≡ Nowhere → IsDraft d → Keeps d e
+with_link_keeps {K} d e link new is none k =
+    passed (nat_lt (length d.links) MOST_LINKS) (Ok (record d { links = d.links ++ link ∷ [] })) e causes.TooMany is (λ _ is.
+    same (Keeps d) (record d { links = d.links ++ link ∷ [] }) e is (record {
+      kept = record {
+        setups = k.setups;
+        few_streams = k.few_streams;
+        few_processes = k.few_processes;
+        messages = k.messages;
+        going_on = k.going_on;
+        there = record {
+          calls = k.there.calls;
+          awaits = k.there.awaits;
+          lines = k.there.lines;
+          once = k.there.once;
+          going_on = k.there.going_on;
+          links = linked_push d.streams d.feeds (length d.processes + going d.place) d.links link new k.there.links;
+          unled = subst (λ (place : Place K). IsUnled (d.links ++ link ∷ []) place) (sym none) tt;
+        };
+      };
+      modules = omega arith;
+      streams = none_more d.streams;
+    }))
+
+link_keeps : {K : Type 0} (d e : Partial K) (texts : List (List ℕ)) → link_onto d texts ≡ Ok e → d.place ≡ Nowhere → IsDraft d → Keeps d e
+unfolding link_onto
+link_keeps d e texts is none k =
+    through (link_at d.streams d.feeds d.links texts) (λ link. with_link d link) e is (λ link read is.
+    with_link_keeps d e link (link_new d.streams d.feeds d.links texts link read) is none k)
 
 -- ---- a call of a process
 
@@ -264,6 +314,8 @@ call_keeps {K} words n d e process verb texts is k =
           lines = k.there.lines;
           once = k.there.once;
           going_on = (All-push (λ (c : Call K). end_is_there (slice_get d.streams c.stream) c.end ≡ true) process.calls call k.there.going_on.0 (call_there words d.streams (d.modules + 1) verb (call_fields texts) (reply_fields texts) call read), awaits_stay d.streams process (call ∷ []) (process.expected ++ expected) k.there.going_on.1);
+          links = k.there.links;
+          unled = tt;
         };
       };
       modules = one_module verb d.modules (is_push verb);
@@ -292,6 +344,8 @@ with_await_keeps d e process text found named is k =
           lines = k.there.lines;
           once = k.there.once;
           going_on = (k.there.going_on.0, await_more d.streams process found.0 (line_there d.streams found (stream_found d.streams text found named) line) k.there.going_on.1);
+          links = k.there.links;
+          unled = tt;
         };
       };
       modules = omega arith;
@@ -304,6 +358,38 @@ await_keeps d e process texts is k =
     through (only_field texts) _ e is (λ name _ is.
     through (or_fault causes.NoSuch (stream_at d.streams name)) (λ found. with_await d process found) e is (λ found named is.
     with_await_keeps d e process name found (found_in (stream_at d.streams name) causes.NoSuch found named) is k))
+
+-- ---- carries of a process
+
+with_carries_keeps : {K : Type 0} (d : Partial K) (process : Process K) (carries : Carrying) → IsCarry d.links (length d.processes) carries → IsDraft (record d { place = In_process process }) → Keeps d (with_carries d process carries)
+with_carries_keeps {K} d process carries carry k =
+    let takes = replicate carries.many (take_from carries.from) in
+    record {
+      kept = record {
+        setups = k.setups;
+        few_streams = k.few_streams;
+        few_processes = k.few_processes;
+        messages = k.messages;
+        going_on = tt;
+        there = record {
+          calls = k.there.calls;
+          awaits = k.there.awaits;
+          lines = k.there.lines;
+          once = k.there.once;
+          going_on = (All-append (λ (c : Call K). end_is_there (slice_get d.streams c.stream) c.end ≡ true) process.calls takes k.there.going_on.0 (takes_there d.streams d.feeds (length d.processes + 1) d.links (length d.processes) carries k.there.links carry), awaits_stay d.streams process takes process.expected k.there.going_on.1);
+          links = linked_carried (length d.processes) d.streams d.feeds (length d.processes + 1) d.links carries.link carry.link carry.there carry.may (omega arith) k.there.links;
+          unled = tt;
+        };
+      };
+      modules = omega arith;
+      streams = none_more d.streams;
+    }
+
+carry_keeps : {K : Type 0} (d e : Partial K) (process : Process K) (texts : List (List ℕ)) → carry_onto d process texts ≡ Ok e → IsDraft (record d { place = In_process process }) → Keeps d e
+unfolding carry_onto
+carry_keeps d e process texts is k =
+    through (carry_at d.links (length d.processes) (length process.calls) texts) (λ carries. Ok (with_carries d process carries)) e is (λ carries read is.
+    same (Keeps d) (with_carries d process carries) e is (with_carries_keeps d process carries (carry_may d.links (length d.processes) (length process.calls) texts carries read) k))
 
 -- ---- a message of a feed
 
@@ -322,7 +408,7 @@ message_keeps d e feed word texts is k =
         few_processes = k.few_processes;
         messages = k.messages;
         going_on = All-push (λ (m : Msg). is_from_line m.kind ≡ true) feed.messages m k.going_on (message_from_line word texts m read);
-        there = record { calls = k.there.calls; awaits = k.there.awaits; lines = k.there.lines; once = k.there.once; going_on = k.there.going_on };
+        there = record { calls = k.there.calls; awaits = k.there.awaits; lines = k.there.lines; once = k.there.once; going_on = k.there.going_on; links = k.there.links; unled = k.there.unled };
       };
       modules = omega arith;
       streams = none_more d.streams;
@@ -333,7 +419,8 @@ message_keeps d e feed word texts is k =
 process_line_keeps : {K : Type 0} (words : KindWords K) (n : ℕ) (d e : Partial K) (process : Process K) (word : List ℕ) (texts : List (List ℕ)) → process_line_onto words n d process word texts ≡ Ok e → IsDraft (record d { place = In_process process }) → Keeps d e
 process_line_keeps words n d e process word texts is k =
     either (is_await word) (await_onto d process texts) _ e is (λ is. await_keeps d e process texts is k) (λ is.
-    through (or_fault (outside word) (verb_named word)) (λ verb. call_onto words n d process verb texts) e is (λ verb _ is. call_keeps words n d e process verb texts is k))
+    either (is_carry word) (carry_onto d process texts) _ e is (λ is. carry_keeps d e process texts is k) (λ is.
+    through (or_fault (outside word) (verb_named word)) (λ verb. call_onto words n d process verb texts) e is (λ verb _ is. call_keeps words n d e process verb texts is k)))
 
 inner_keeps : {K : Type 0} (words : KindWords K) (n : ℕ) (d e : Partial K) (place : Place K) (word : List ℕ) (texts : List (List ℕ)) → inner_onto words n d place word texts ≡ Ok e → IsDraft (record d { place = place }) → Keeps d e
 inner_keeps words n d e Nowhere word texts is k = absurd cc
@@ -348,14 +435,19 @@ since_ended d e keeps = record {
   streams = (keeps.streams.0, keeps.streams.1 ∙ ap (λ (s : Streams). s ++ keeps.streams.0) (ended_streams d d.place));
 }
 
+other_keeps : {K : Type 0} (words : KindWords K) (n : ℕ) (d e : Partial K) (word : List ℕ) (texts : List (List ℕ)) → other_onto words n d d.place word texts ≡ Ok e → IsDraft d → Keeps d e
+other_keeps words n d e word texts is k =
+    either (is_link word) (link_onto (ended d) texts) _ e is (λ is. since_ended d e (link_keeps (ended d) e texts is (ended_place d d.place) (ended_kept d k))) (λ is.
+    inner_keeps words n d e d.place word texts is k)
+
 word_keeps : {K : Type 0} (words : KindWords K) (n : ℕ) (d e : Partial K) (word : List ℕ) (texts : List (List ℕ)) → word_onto words n d word texts ≡ Ok e → IsDraft d → Keeps d e
 unfolding word_onto
 word_keeps words n d e word texts is k =
     let after = ended_kept d k in
     either (bytes_eq word (codes "stream")) (stream_onto (ended d) texts) _ e is (λ is. since_ended d e (stream_keeps (ended d) e texts is after)) (λ is.
     either (bytes_eq word (codes "process")) (process_onto (ended d) texts) _ e is (λ is. since_ended d e (process_keeps (ended d) e texts is after)) (λ is.
-    either (bytes_eq word (codes "feed")) (feed_onto (ended d) texts) _ e is (λ is. since_ended d e (feed_keeps (ended d) e texts is after)) (λ is.
-    inner_keeps words n d e d.place word texts is k)))
+    either (bytes_eq word (codes "feed")) (feed_onto (ended d) texts) _ e is (λ is. since_ended d e (feed_keeps (ended d) e texts is (ended_place d d.place) after)) (λ is.
+    other_keeps words n d e word texts is k)))
 
 unchanged : {K : Type 0} (d e : Partial K) → ◌≡◌ {A = Result (Partial K) Cause} (Ok d) (Ok e) → IsDraft d → Keeps d e
 unchanged d e is k = same (Keeps d) d e is (record { kept = k; modules = omega arith; streams = none_more d.streams })

@@ -1,5 +1,5 @@
 -- The streams of a plan by their names, whichever keys the map has; and names among processes.
-use Rattle.std.proofs.Common.{◌≡◌, ℕ, suc, ◌+◌, ◌==◌, Bool, true, false, cond, not, ◌||◌, is_some, List, [], ◌∷◌, ◌++◌, length, map, slice_get, position, nat_lt, Option, Some, None, refl, sym, ap, ◌∙◌}
+use Rattle.std.proofs.Common.{◌≡◌, ◌≤◌, ℕ, zero, suc, ◌+◌, ◌==◌, Bool, true, false, cond, not, ◌||◌, is_some, List, [], ◌∷◌, ◌++◌, length, map, get_or, slice_get, slice_set, position, nat_lt, Option, Some, None, refl, sym, ap, ◌∙◌, arith}
 use Rattle.std.specs.Map.{keys_of, lookup}
 use Rattle.std.specs.Option.{option_map, option_and_then}
 use Rattle.std.specs.List.{position_or_len, list_any}
@@ -10,10 +10,11 @@ use Rattle.std.proofs.lemmas.Bool.{or_parts}
 use Rattle.strm_module.specs.declared.driver.Driver.{Driver}
 use Rattle.strm_module.specs.declared.shape.Shape.{Shape}
 use Rattle.strm_head_calls.specs.declared.setup.Setup.{Setup}
-use Rattle.strm_script_parse.specs.Plan.{Streams, process_view, feed_view}
-use Rattle.strm_script_parse.specs.Reading.{has_feed, has_process}
+use Rattle.strm_script_parse.specs.Plan.{Linked, Streams, process_view, feed_view, link_view}
+use Rattle.strm_script_parse.specs.Reading.{any_carries, carried_by, carries_from, has_feed, has_link, has_process, leads_to, link_names}
 use Rattle.strm_script_parse.specs.Targets.{has_stream, stream_names, stream_of}
 use Rattle.strm_script_parse.specs.declared.plan.ProcessDecl.{ProcessDecl}
+use Rattle.strm_script_parse.specs.declared.plan.LinkDecl.{LinkDecl}
 use Rattle.strm_run_input.specs.declared.script.Feed.{Feed}
 
 abbrev at : ℕ → Driver → ℕ × Driver
@@ -76,3 +77,47 @@ any_name wanted (process ∷ processes) = ap (λ (b : Bool). bytes_eq wanted pro
 pub any_feed : (number : ℕ) (feeds : List Feed) → list_any (λ (feed : Feed). feed.stream == number) feeds ≡ has_feed (map feed_view feeds) number
 any_feed number [] = refl
 any_feed number (feed ∷ feeds) = ap (λ (b : Bool). (feed.stream == number) || b) (any_feed number feeds)
+
+-- ---- links
+
+-- a link of some name
+pub any_link : (wanted : List ℕ) (links : List LinkDecl) → list_any (λ (link : LinkDecl). bytes_eq wanted link.name.items) links ≡ has_link (map link_view links) wanted
+any_link wanted [] = refl
+any_link wanted (link ∷ links) = ap (λ (b : Bool). bytes_eq wanted link.name.items || b) (any_link wanted links)
+
+-- a link to some stream
+pub any_to : (number : ℕ) (links : List LinkDecl) → list_any (λ (link : LinkDecl). link.to == number) links ≡ leads_to (map link_view links) number
+any_to number [] = refl
+any_to number (link ∷ links) = ap (λ (b : Bool). (link.to == number) || b) (any_to number links)
+
+-- a link on which a process carries from some wire
+pub any_by : (process wire : ℕ) (links : List LinkDecl) → list_any (λ (link : LinkDecl). carries_from process wire (link_view link)) links ≡ any_carries (map link_view links) process wire
+any_by process wire [] = refl
+any_by process wire (link ∷ links) = ap (λ (b : Bool). carries_from process wire (link_view link) || b) (any_by process wire links)
+
+-- where the link of a name is
+module _ (wanted : List ℕ) where
+  abbrev pub has_name_of : LinkDecl → Bool
+  has_name_of link = bytes_eq wanted link.name.items
+
+  first_link : (links : List LinkDecl) → position_or_len has_name_of links ≡ position_or_len (bytes_eq wanted) (link_names (map link_view links))
+  first_link [] = refl
+  first_link (link ∷ links) = ap (λ (n : ℕ). cond (not (bytes_eq wanted link.name.items)) (1 + n) 0) (first_link links)
+
+  as_many_links : (links : List LinkDecl) → length links ≡ length (link_names (map link_view links))
+  as_many_links [] = refl
+  as_many_links (link ∷ links) = ap suc (as_many_links links)
+
+  pub link_place : (links : List LinkDecl) → position has_name_of links ≡ position (bytes_eq wanted) (link_names (map link_view links))
+  link_place links = λ i. cond (nat_lt (first_link links i) (as_many_links links i)) (Some (first_link links i)) None
+
+-- the link of a number gets a carrier; there is none past the last
+pub carrier_set : (process : ℕ) (links : List LinkDecl) (i : ℕ) (d : LinkDecl) → map link_view (slice_set links i (record (get_or links i d) { by = Some process })) ≡ carried_by process (map link_view links) i
+carrier_set process [] i d = refl
+carrier_set process (link ∷ links) zero d = refl
+carrier_set process (link ∷ links) (suc i) d = ap (λ (l : List Linked). link_view link ∷ l) (carrier_set process links i d)
+
+pub carrier_past : (process : ℕ) (links : List LinkDecl) (i : ℕ) → length links ≤ i → map link_view links ≡ carried_by process (map link_view links) i
+carrier_past process [] i past = refl
+carrier_past process (link ∷ links) zero past = absurd (omega (arith, past))
+carrier_past process (link ∷ links) (suc i) past = ap (λ (l : List Linked). link_view link ∷ l) (carrier_past process links i (omega (arith, past)))

@@ -1,5 +1,5 @@
 -- Each line keeps that all is there which processes and feeds name, and that no line has two feeds.
-use Rattle.std.proofs.Common.{◌≡◌, ◌≤◌, ℕ, zero, suc, ◌==◌, ◌&&◌, ◌||◌, not, Bool, true, false, List, [], ◌∷◌, ◌++◌, length, position, slice_get, get_or, Option, Some, Ok, refl, ap, ◌∙◌, codes, arith}
+use Rattle.std.proofs.Common.{◌≡◌, ◌≤◌, ℕ, zero, suc, ◌==◌, ◌&&◌, not, Bool, true, false, List, [], ◌∷◌, ◌++◌, length, position, slice_get, get_or, Option, Some, Ok, refl, ap, ◌∙◌, codes, arith}
 use Rattle.std.specs.Str.{bytes_eq}
 use Rattle.std.proofs.lemmas.Bool.{eqb-false, or_parts}
 use Rattle.std.proofs.lemmas.List.{length-append}
@@ -23,8 +23,8 @@ use Rattle.strm_script_parse.specs.Expected.{are_choices}
 use Rattle.strm_script_parse.specs.Reading.{await_of, call_at, placed_call, has_feed}
 use Rattle.strm_script_parse.specs.Targets.{stream_names, stream_at, stream_of, target_of, end_of, end_a}
 use Rattle.strm_script_parse.specs.declared.plan.TheConstants.{LONGEST}
-use Rattle.strm_script_parse.specs.Draft.{IsUnfed, IsPlaceThere}
-use Rattle.strm_script_parse.specs.Sound.{end_is_there, line_is_there, AreCallsThere, AreProcessesThere, AreAwaits, AreLinesThere, AreOnce}
+use Rattle.strm_script_parse.specs.Draft.{IsPlaceThere}
+use Rattle.strm_script_parse.specs.Sound.{end_is_there, line_is_there, AreCallsThere, AreProcessesThere, AreAwaits, AreLinesThere, AreOnce, IsUnfed}
 use Rattle.strm_script_parse.proofs.StepLemmas.{through, passed, on, under, same, same_found, found_in}
 
 -- ---- what a line names is there

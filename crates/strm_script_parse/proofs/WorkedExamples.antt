@@ -4,6 +4,8 @@
 use Rattle.std.proofs.Common.{◌≡◌, ℕ, true, false, Some, None, List, [], ◌∷◌, length, replicate, codes, Result, Ok, Err, is_ok, refl}
 use Rattle.strm_msg.specs.Message.{data_msg, ioctl_msg, pcproto_msg}
 use Rattle.strm_msg.specs.declared.words.Side.TheVariants.{Rd}
+use Rattle.strm_link.specs.declared.act.Act.TheVariants.{Keep, Lose, Double, Hold}
+use Rattle.strm_link.specs.Rule.{Pattern, Drawn, generator_of}
 use Rattle.strm_module.specs.Builtin.{builtin}
 use Rattle.strm_module.specs.Calm.{options_of}
 use Rattle.strm_module.specs.Module.{serve_of}
@@ -11,7 +13,7 @@ use Rattle.strm_module.specs.Shape.{is_name, is_split, new_shape}
 use Rattle.strm_module.specs.declared.shape.Shape.{Shape}
 use Rattle.strm_module.specs.declared.kind.Kind.{Kind}
 use Rattle.strm_module.specs.declared.kind.Kind.TheVariants as kinds
-use Rattle.strm_module.specs.declared.driver.Driver.TheVariants.{Line}
+use Rattle.strm_module.specs.declared.driver.Driver.TheVariants.{Line, Wire}
 use Rattle.strm_head_calls.specs.Setup.{is_ring}
 use Rattle.strm_head_calls.specs.declared.setup.Setup.{Setup}
 use Rattle.strm_run_input.specs.Resolve.{is_worker_count}
@@ -24,9 +26,9 @@ use Rattle.strm_script_words.specs.declared.fault.Cause.{Cause}
 use Rattle.strm_script_words.specs.declared.fault.Cause.TheVariants as causes
 use Rattle.strm_script_words.specs.declared.verb.Verb.{Verb}
 use Rattle.strm_script_words.specs.declared.verb.Verb.TheVariants as verbs
-use Rattle.strm_script_parse.specs.Plan.{Call, Fed, Partial, Process, Streams}
+use Rattle.strm_script_parse.specs.Plan.{Call, Fed, Linked, Partial, Process, Streams}
 use Rattle.strm_script_parse.specs.Expected.{are_choices, call_fields, expected_of, reply_fields}
-use Rattle.strm_script_parse.specs.Reading.{fields_in, fresh_name, has_room, lines_onto, nothing_yet, spelt, with_await, with_call, with_message, with_process}
+use Rattle.strm_script_parse.specs.Reading.{Carrying, acts_at, carried_by, carry_at, fields_in, fresh_name, has_room, link_at, linked_at, lines_onto, may_carry, nothing_yet, odds_at, outside, spelt, with_await, with_call, with_link, with_message, with_process}
 use Rattle.strm_script_parse.specs.declared.loading.TheConstants.{MOST_READ}
 use Rattle.std.specs.Str.Lines.{lines}
 
@@ -237,3 +239,143 @@ second_colon = refl
 -- the first field is NAME:END, whatever it is
 colon_in_place_of_a_target : call_fields (codes ":" ∷ codes "=c" ∷ []) ≡ codes ":" ∷ codes "=c" ∷ []
 colon_in_place_of_a_target = refl
+
+-- ---- links
+
+-- 1 to 64 letters
+four_acts : acts_at (codes "kxdh") ≡ Ok (Pattern (Keep ∷ Lose ∷ Double ∷ Hold ∷ []))
+four_acts = refl
+
+most_acts : acts_at (replicate 64 120) ≡ Ok (Pattern (replicate 64 Lose))
+most_acts = refl
+
+too_many_acts : acts_at (replicate 65 120) ≡ Err causes.Part
+too_many_acts = refl
+
+no_act : acts_at (codes "kq") ≡ Err causes.Part
+no_act = refl
+
+all_odds : odds_at (codes "18446744073709551615") (codes "128") (codes "64") (codes "64") ≡ Ok (Drawn (record { lose = 128; double = 64; hold = 64 }) (generator_of 18446744073709551615))
+all_odds = refl
+
+more_than_all : odds_at (codes "7") (codes "128") (codes "64") (codes "65") ≡ Err causes.Number
+more_than_all = refl
+
+odds_too_great : odds_at (codes "7") (codes "257") (codes "0") (codes "0") ≡ Err causes.Number
+odds_too_great = refl
+
+-- two wires and a line: u, v and n
+abbrev wire_setup : Setup
+wire_setup = record { driver = Wire; head = (16, 4); drv = (16, 4); ring = 1 }
+
+abbrev three : Streams
+three = (codes "u", wire_setup) ∷ (codes "v", wire_setup) ∷ (codes "n", ringed 1) ∷ []
+
+-- the link of a line on these streams, where the link `k` leads to v already, or nothing yet
+abbrev link_to_v : Linked
+link_to_v = record { name = codes "k"; from = 0; to = 1; rule = Pattern (Keep ∷ []); by = None }
+
+abbrev second : List (List ℕ) → Result Linked Cause
+second texts = link_at three [] (link_to_v ∷ []) texts
+
+abbrev first : List (List ℕ) → Result Linked Cause
+first texts = link_at three [] [] texts
+
+keeps_all : first (codes "k" ∷ codes "u" ∷ codes "v" ∷ []) ≡ Ok link_to_v
+unfolding link_at linked_at
+keeps_all = refl
+
+-- the faults of a link line, in order
+two_fields : second (codes "k" ∷ codes "x" ∷ []) ≡ Err causes.Fields
+unfolding link_at linked_at
+two_fields = refl
+
+no_such_rule : second (codes "k" ∷ codes "x" ∷ codes "x" ∷ codes "act" ∷ codes "k" ∷ codes "k" ∷ []) ≡ Err causes.UnknownWord
+unfolding link_at linked_at
+no_such_rule = refl
+
+too_many_fields : second (codes "k" ∷ codes "x" ∷ codes "x" ∷ codes "acts" ∷ codes "q" ∷ codes "k" ∷ []) ≡ Err causes.Fields
+unfolding link_at linked_at
+too_many_fields = refl
+
+taken_name : second (codes "k" ∷ codes "x" ∷ codes "x" ∷ codes "acts" ∷ codes "q" ∷ []) ≡ Err causes.Name
+unfolding link_at linked_at
+taken_name = refl
+
+no_wire : second (codes "l" ∷ codes "x" ∷ codes "x" ∷ codes "acts" ∷ codes "q" ∷ []) ≡ Err causes.NoSuch
+unfolding link_at linked_at
+no_wire = refl
+
+from_a_line : second (codes "l" ∷ codes "n" ∷ codes "x" ∷ codes "acts" ∷ codes "q" ∷ []) ≡ Err causes.OutOfPlace
+unfolding link_at linked_at
+from_a_line = refl
+
+to_the_same : second (codes "l" ∷ codes "u" ∷ codes "v" ∷ codes "acts" ∷ codes "q" ∷ []) ≡ Err causes.OutOfPlace
+unfolding link_at linked_at
+to_the_same = refl
+
+bad_letter : second (codes "l" ∷ codes "u" ∷ codes "u" ∷ codes "acts" ∷ codes "q" ∷ []) ≡ Err causes.Part
+unfolding link_at linked_at
+bad_letter = refl
+
+abbrev linked : ℕ → Partial Kind
+linked many = record nothing { links = replicate many link_to_v }
+
+link_64 : is_ok (with_link (linked 63) link_to_v) ≡ true
+link_64 = refl
+
+link_65 : with_link (linked 64) link_to_v ≡ Err causes.TooMany
+link_65 = refl
+
+-- ---- carries
+
+-- a carry line of process 3, which has 65530 calls, with the link `k`
+abbrev carry_line : List (List ℕ) → Result Carrying Cause
+carry_line texts = carry_at (link_to_v ∷ []) 3 65530 texts
+
+carries_once : carry_line (codes "k" ∷ []) ≡ Ok (record { link = 0; from = 0; many = 1 })
+unfolding carry_at
+carries_once = refl
+
+most_carries : carry_line (codes "k" ∷ codes "6" ∷ []) ≡ Ok (record { link = 0; from = 0; many = 6 })
+unfolding carry_at
+most_carries = refl
+
+too_many_carries : carry_line (codes "k" ∷ codes "7" ∷ []) ≡ Err causes.TooMany
+unfolding carry_at
+too_many_carries = refl
+
+no_carries : carry_line (codes "k" ∷ codes "0" ∷ []) ≡ Err causes.Number
+unfolding carry_at
+no_carries = refl
+
+no_link : carry_line (codes "u" ∷ codes "0" ∷ []) ≡ Err causes.NoSuch
+unfolding carry_at
+no_link = refl
+
+-- no reply is expected of a carry
+no_replies : carry_line (codes "k" ∷ codes ":" ∷ codes "EAGAIN" ∷ []) ≡ Err causes.Fields
+unfolding carry_at
+no_replies = refl
+
+-- process 3 carries on a link from wire 0, and so not on another one from there
+abbrev carried : List Linked
+carried = carried_by 3 (link_to_v ∷ []) 0
+
+once_from_a_wire : may_carry carried 3 0 None ≡ false
+once_from_a_wire = refl
+
+from_another_wire : may_carry carried 3 1 None ≡ true
+from_another_wire = refl
+
+another_process : may_carry carried 4 0 None ≡ true
+another_process = refl
+
+its_own : may_carry carried 3 0 (Some 3) ≡ true
+its_own = refl
+
+of_another_process : may_carry carried 4 0 (Some 3) ≡ false
+of_another_process = refl
+
+carry_out_of_place : outside (codes "carry") ≡ causes.OutOfPlace
+carry_out_of_place = refl

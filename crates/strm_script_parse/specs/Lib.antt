@@ -4,6 +4,7 @@ pub mod Last
 pub mod Targets
 pub mod Expected
 pub mod Reading
+pub mod Carries
 pub mod Reads
 pub mod Spelling
 pub mod Sound

@@ -1,9 +1,11 @@
--- The plan that a script spells: streams in order, processes with their calls, and feeds with their messages.
-use Rattle.std.specs.Prelude.{ℕ, List, Vec, map}
+-- The plan that a script spells: streams in order, processes with their calls, feeds with their messages, and
+-- links.
+use Rattle.std.specs.Prelude.{ℕ, Option, List, Vec, map}
 use Rattle.std.specs.Global.{Global}
 use Rattle.strm_msg.specs.Message.{Msg}
 use Rattle.strm_msg.specs.declared.words.End.{End}
 use Rattle.strm_module.specs.declared.shape.Shape.{Shape}
+use Rattle.strm_link.specs.Rule.{RuleValue}
 use Rattle.strm_script_text.specs.Text.{name_texts}
 use Rattle.strm_script_words.specs.Table.{Asked, asked_of}
 use Rattle.strm_run_input.specs.declared.script.ScriptCall.{ScriptCall}
@@ -12,6 +14,7 @@ use Rattle.strm_run_input.specs.declared.script.Await.{Await}
 pub use Rattle.strm_script_parse.specs.Streams.{Streams, streams_view, streams_of}
 use Rattle.strm_script_parse.specs.declared.plan.Expected.{Expected}
 use Rattle.strm_script_parse.specs.declared.plan.ProcessDecl.{ProcessDecl}
+use Rattle.strm_script_parse.specs.declared.plan.LinkDecl.{LinkDecl}
 use Rattle.strm_script_parse.specs.declared.plan.Plan.{Plan}
 use Rattle.strm_script_parse.specs.declared.plan.Names.{Names}
 use Rattle.strm_script_parse.specs.declared.draft.Current.{Current}
@@ -43,16 +46,28 @@ pub record Fed : Type 0 where
   pub stream : ℕ
   pub messages : List Msg
 
+-- a link: its name, the wire that is taken from, the wire at which it arrives, its rule, and the number of the
+-- process that carries on it, if one does
+pub record Linked : Type 0 where
+  pub name : List ℕ
+  pub from : ℕ
+  pub to : ℕ
+  pub rule : RuleValue
+  pub by : Option ℕ
+
 -- the plan that a script spells
 pub record Whole (K : Type 0) : Type 0 where
   pub streams : Streams
   pub processes : List (Process K)
   pub feeds : List Fed
+  pub links : List Linked
 
--- the names of the streams, each with its setup, and of the processes; a transcript is printed by them
+-- the names of the streams, each with its setup, and of the processes, and the links; a transcript is printed
+-- by them
 pub record NamesValue : Type 0 where
   pub streams : Streams
   pub processes : List (List ℕ)
+  pub links : List Linked
 
 -- the process or feed to which the next lines belong
 pub data Place (K : Type 0) : Type 0 where
@@ -60,12 +75,13 @@ pub data Place (K : Type 0) : Type 0 where
   In_process : (process : Process K) → Place K
   In_feed : (feed : Fed) → Place K
 
--- a plan while it is read: the processes and feeds that have ended, the number of declared modules, and the
--- process or feed that goes on
+-- a plan while it is read: the processes and feeds that have ended, the links, the number of declared modules,
+-- and the process or feed that goes on
 pub record Partial (K : Type 0) : Type 0 where
   pub streams : Streams
   pub processes : List (Process K)
   pub feeds : List Fed
+  pub links : List Linked
   pub modules : ℕ
   pub place : Place K
 
@@ -98,16 +114,33 @@ process_view process =
 abbrev pub feed_view : Feed → Fed
 feed_view feed = record { stream = feed.stream; messages = feed.messages.items }
 
+-- a link
+abbrev pub link_view : LinkDecl → Linked
+link_view link = record { name = link.name.items; from = link.from; to = link.to; rule = link.rule; by = link.by }
+
 -- a plan
 abbrev pub plan_view : {K : Type 0} → Plan (Shape K) → Whole K
 plan_view plan =
-    record { streams = streams_of plan.streams; processes = map process_view plan.processes.items; feeds = map feed_view plan.feeds.items }
+    record {
+      streams = streams_of plan.streams;
+      processes = map process_view plan.processes.items;
+      feeds = map feed_view plan.feeds.items;
+      links = map link_view plan.links.items;
+    }
 
 -- the names of a plan
 abbrev pub names_view : Names → NamesValue
-names_view names = record { streams = streams_of names.streams; processes = name_texts names.processes.items }
+names_view names =
+    record {
+      streams = streams_of names.streams;
+      processes = name_texts names.processes.items;
+      links = map link_view names.links.items;
+    }
 
--- the place in a process that goes on, and in a feed
+-- the place where nothing goes on, that in a process that goes on, and that in a feed
+abbrev pub no_place : {K : Type 0} → Place K
+no_place = Nowhere
+
 abbrev pub process_place : {K : Type 0} → ProcessDecl (Shape K) → Place K
 process_place process = In_process (process_view process)
 
@@ -127,6 +160,7 @@ draft_view draft =
       streams = streams_of draft.streams.map;
       processes = map process_view draft.processes.items;
       feeds = map feed_view draft.feeds.items;
+      links = map link_view draft.links.items;
       modules = draft.modules;
       place = place_view draft.current;
     }

@@ -1,13 +1,15 @@
 -- The input of a run, made of a plan, and the names of the plan.
-use Rattle.std.specs.Prelude.{ℕ, List, [], ◌∷◌, Vec, map}
+use Rattle.std.specs.Prelude.{ℕ, Option, Some, None, List, [], ◌∷◌, Vec, map}
 use Rattle.std.specs.Global.{Global}
 use Rattle.std.specs.List.{flat_map}
 use Rattle.arrayvec.specs.ArrayVec.{ArrayVec}
 use Rattle.strm_head_calls.specs.declared.setup.Setup.{Setup}
 use Rattle.strm_run_input.specs.declared.script.ScriptCall.{ScriptCall}
+use Rattle.strm_run_input.specs.declared.run_link.RunLink.{RunLink}
 use Rattle.strm_script_parse.specs.Plan.{Expect, expected_view}
 use Rattle.strm_script_parse.specs.declared.plan.Expected.{Expected}
 use Rattle.strm_script_parse.specs.declared.plan.ProcessDecl.{ProcessDecl}
+use Rattle.strm_script_parse.specs.declared.plan.LinkDecl.{LinkDecl}
 use Rattle.strm_script_parse.specs.declared.plan.Plan.{Plan}
 use Rattle.strm_script_parse.specs.declared.run_input.Replies.{Replies}
 
@@ -49,3 +51,12 @@ replies_view replies = record { streams = replies.streams.items; expected = map 
 abbrev pub replies_of : {P : Type 0} → ProcessDecl P → RepliesValue
 replies_of process =
     record { streams = streams_if process.expected.items process.calls; expected = map expected_view process.expected.items }
+
+-- the link of a run, if the link has a carrier
+abbrev pub run_link : LinkDecl → Option ℕ → List RunLink
+run_link link None = []
+run_link link (Some by) = record { by = by; from = link.from; to = link.to; rule = link.rule } ∷ []
+
+-- the links of a run: those that have a carrier, in order
+abbrev pub run_links : List LinkDecl → List RunLink
+run_links links = flat_map (λ link. run_link link link.by) links

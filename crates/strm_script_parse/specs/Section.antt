@@ -15,7 +15,6 @@ use Rattle.strm_script_parse.specs.declared.draft.Draft.{Draft}
 use Rattle.strm_script_parse.specs.declared.draft.TheConstants.{MOST_CALLS}
 use Rattle.strm_script_parse.specs.declared.fault.ScriptFault.{ScriptFault}
 use Rattle.strm_script_parse.specs.declared.section.Said.{Said}
-use Rattle.strm_script_parse.specs.declared.section.Said.TheVariants as Said
 use Rattle.strm_script_parse.specs.declared.section.Calls.{Calls}
 use Rattle.strm_script_parse.specs.declared.section.Section.{Section}
 

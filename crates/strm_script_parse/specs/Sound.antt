@@ -1,12 +1,12 @@
 -- The soundness of each plan that is read from a script: it meets all conditions of a run, and everything
 -- that it names is there.
-use Rattle.std.specs.Prelude.{◌≡◌, ◌≤◌, ℕ, Bool, true, false, Option, Some, None, List, length, All, AllPairs, slice_get}
+use Rattle.std.specs.Prelude.{◌≡◌, ◌≤◌, ◌<◌, ℕ, ◌==◌, ◌&&◌, not, Bool, true, false, Option, Some, None, List, length, All, AllPairs, IfSome, slice_get}
 use Rattle.strm_msg.specs.Kind.{is_from_line}
 use Rattle.strm_msg.specs.declared.words.End.{End}
-use Rattle.strm_module.specs.Driver.{has_end, is_line}
+use Rattle.strm_module.specs.Driver.{has_end, is_line, is_wire}
 use Rattle.strm_head_calls.specs.Setup.{is_fit, is_ring}
 use Rattle.strm_head_calls.specs.declared.setup.Setup.{Setup}
-use Rattle.strm_script_parse.specs.Plan.{Streams, Call, Process, Fed, Whole}
+use Rattle.strm_script_parse.specs.Plan.{Streams, Call, Process, Fed, Linked, Whole}
 use Rattle.strm_script_parse.specs.declared.draft.TheConstants.{MOST_STREAMS, MOST_PROCESSES}
 
 -- each stream can be opened
@@ -50,6 +50,34 @@ AreLinesThere streams feeds = All (λ feed. line_is_there (slice_get streams fee
 abbrev pub AreOnce : List Fed → Type 0
 AreOnce feeds = AllPairs (λ one other. one.stream ≡ other.stream → ⊥) feeds
 
+-- no feed is for this stream
+abbrev pub IsUnfed : List Fed → ℕ → Type 0
+IsUnfed feeds number = All (λ other. other.stream ≡ number → ⊥) feeds
+
+-- whether the stream is there, and is a wire
+abbrev pub wire_is_there : Option (List ℕ × Setup) → Bool
+wire_is_there None = false
+wire_is_there (Some stream) = is_wire stream.1.driver
+
+-- whether a process carries on both links
+abbrev pub is_by_one : Option ℕ → Option ℕ → Bool
+is_by_one None other = false
+is_by_one (Some one) None = false
+is_by_one (Some one) (Some other) = one == other
+
+-- whether two links lead to two wires, and no process carries on both from the same wire
+abbrev pub are_apart : Linked → Linked → Bool
+are_apart one other = not (one.to == other.to) && not (is_by_one one.by other.by && (one.from == other.from))
+
+-- each link leads from a wire to a wire that has no feed, each two are apart, and the process that carries on
+-- one is one of so many
+pub record AreLinked (streams : Streams) (feeds : List Fed) (processes : ℕ) (links : List Linked) : Type 0 where
+  pub from : All (λ link. wire_is_there (slice_get streams link.from) ≡ true) links
+  pub to : All (λ link. wire_is_there (slice_get streams link.to) ≡ true) links
+  pub unfed : All (λ link. IsUnfed feeds link.to) links
+  pub apart : AllPairs (λ one other. are_apart one other ≡ true) links
+  pub by : All (λ link. IfSome link.by (λ by. by < processes)) links
+
 -- everything that a run asks of a plan, and everything that it looks up there
 pub record IsSound {K : Type 0} (plan : Whole K) : Type 0 where
   pub setups : AreSetups plan.streams
@@ -60,3 +88,4 @@ pub record IsSound {K : Type 0} (plan : Whole K) : Type 0 where
   pub awaits : All (λ process. AreAwaits plan.streams process) plan.processes
   pub lines : AreLinesThere plan.streams plan.feeds
   pub once : AreOnce plan.feeds
+  pub links : AreLinked plan.streams plan.feeds (length plan.processes) plan.links

@@ -1,22 +1,25 @@
 //! A plan while it is read, line by line.
-ghost use Rattle.std.specs.Prelude.{◌≡◌, ◌≤◌, ◌<◌, ◌^◌, true, Ok, length, map, IsErrOf};
-ghost use Rattle.strm_script_parse.specs.Plan.{call_view, draft_view, feed_view};
+ghost use Rattle.std.specs.Prelude.{◌≡◌, ◌≤◌, ◌<◌, ◌^◌, true, Ok, None, length, map, IsErrOf};
+ghost use Rattle.strm_script_parse.specs.Plan.{call_view, draft_view, feed_place, feed_view, no_place, process_place};
 ghost use Rattle.strm_script_parse.specs.Plan.{plan_view, process_view, streams_of};
 ghost use Rattle.strm_script_parse.specs.Reading as reading;
-ghost use Rattle.strm_script_parse.specs.Reading.{IsTooLong, await_onto, call_onto, fed_onto, feed_onto};
-ghost use Rattle.strm_script_parse.specs.Reading.{fields_onto, inner_onto, line_onto, message_onto};
-ghost use Rattle.strm_script_parse.specs.Reading.{process_line_onto, process_onto, setup_onto, stream_onto};
-ghost use Rattle.strm_script_parse.specs.Reading.{word_onto};
+ghost use Rattle.strm_script_parse.specs.Reading.{IsTooLong, await_onto, call_onto, carry_onto, ended_at};
+ghost use Rattle.strm_script_parse.specs.Reading.{feed_onto, fields_onto, line_onto};
+ghost use Rattle.strm_script_parse.specs.Reading.{link_onto, message_onto, other_onto, process_onto};
+ghost use Rattle.strm_script_parse.specs.Reading.{setup_onto, stream_onto, word_onto};
 ghost use Rattle.strm_script_parse.specs.Reads.{Becomes, Reads, TakesMemoryLast};
 ghost use Rattle.strm_script_parse.specs.Section.{takes, with_calls};
 ghost use Rattle.strm_script_text.specs.Text.{texts_of};
 ghost use Rattle.strm_script_words.specs.Fault.{Gives};
+ghost use Rattle.strm_script_words.specs.Table.{verb_named};
 
 use crate::call_line::{call_at, modules_after};
+use crate::carry_line::{carry_at, push_takes, set_carrier};
 use crate::declared::Declared;
 use crate::expected::{add_expected, cut_replies};
+use crate::link_line::{leads_to, link_at};
 use crate::names::{add_stream, process_name, stream_name};
-use crate::plan::{Name, Plan, ProcessDecl};
+use crate::plan::{LinkDecl, Name, Plan, ProcessDecl};
 use crate::setup::{arity, driver_at, setup_at};
 use crate::target::stream_at;
 use indexmap::IndexMap;
@@ -37,13 +40,16 @@ const MOST_STREAMS: usize = 64;
 const MOST_PROCESSES: usize = 256;
 
 /// The most calls of a process.
-const MOST_CALLS: usize = 65_536;
+pub(crate) const MOST_CALLS: usize = 65_536;
 
 /// The most awaits of a process.
 const MOST_AWAITS: usize = 65_536;
 
 /// The most messages of a feed.
 const MOST_MESSAGES: usize = 65_536;
+
+/// The most links of a plan.
+const MOST_LINKS: usize = 64;
 
 /// The longest line, in bytes, without its LF and a CR before it.
 const LONGEST_LINE: usize = 16_384;
@@ -59,8 +65,8 @@ enum Current<P> {
     Feed(Feed),
 }
 
-/// A plan while it is read: the processes and feeds that have ended, the number of declared modules, and the
-/// process or feed that goes on.
+/// A plan while it is read: the processes and feeds that have ended, the links, the number of declared modules,
+/// and the process or feed that goes on.
 #[derive(Drop)]
 pub(crate) struct Draft<P> {
     /// The streams that were declared.
@@ -69,6 +75,8 @@ pub(crate) struct Draft<P> {
     processes: Vec<ProcessDecl<P>>,
     /// The feeds that have ended.
     feeds: Vec<Feed>,
+    /// The links.
+    links: Vec<LinkDecl>,
     /// The number of modules that all processes have declared.
     modules: u64,
     /// The process or feed that goes on.
@@ -83,7 +91,7 @@ fn has_room(streams: &IndexMap<Name, Setup>) -> bool
 }
 
 /// Whether the stream of this number has a feed.
-fn has_feed(feeds: &[Feed], number: u32) -> bool
+pub(crate) fn has_feed(feeds: &[Feed], number: u32) -> bool
     ensures { result ≡ reading.has_feed (map feed_view feeds.now) number }
 {
     feeds.iter().any(|feed| feed.stream == number)
@@ -115,6 +123,20 @@ fn is_await(word: &[u8]) -> bool
     word == b"await".as_slice()
 }
 
+/// Whether this is the word of a carry.
+fn is_carry(word: &[u8]) -> bool
+    ensures { result ≡ reading.is_carry word.now }
+{
+    word == b"carry".as_slice()
+}
+
+/// Whether this is the word of a link.
+fn is_link(word: &[u8]) -> bool
+    ensures { result ≡ reading.is_link word.now }
+{
+    word == b"link".as_slice()
+}
+
 /// The cause of the fault of a word that cannot be at its place.
 fn outside(word: &[u8]) -> Cause
     ensures { result ≡ reading.outside word.now }
@@ -122,6 +144,7 @@ fn outside(word: &[u8]) -> Cause
     if from_keyword::<Verb>(word).is_some()
         || from_keyword::<MessageWord>(word).is_some()
         || is_await(word)
+        || is_carry(word)
     {
         Cause::OutOfPlace
     } else {
@@ -144,6 +167,7 @@ where
             },
             processes: Vec::new(alloc),
             feeds: Vec::new(alloc),
+            links: Vec::new(alloc),
             modules: 0,
             current: Current::Nowhere,
         }
@@ -217,7 +241,8 @@ where
         Ok(())
     }
 
-    /// Reads the NAME of a line or a wire, whose feed goes on from here. Takes no memory.
+    /// Reads the NAME of a line or a wire, whose feed goes on from here. No link leads to it. Takes
+    /// no memory.
     #[tactic(auto, unfolding(crate::specs::Reading::feed_onto))]
     fn feed_line(&mut self, alloc: Global, texts: &[&[u8]]) -> Result<(), ReadError>
         requires { length self.old.streams.map.entries ≤ MOST_STREAMS }
@@ -230,11 +255,27 @@ where
         let Some((stream, driver)) = stream_at(&self.streams.map, &mut None, name) else {
             return Err(ReadError::Fault(Cause::NoSuch));
         };
-        if !driver.is_line() || has_feed(&self.feeds, stream) {
+        if !driver.is_line() || has_feed(&self.feeds, stream) || leads_to(&self.links, stream) {
             return Err(ReadError::Fault(Cause::OutOfPlace));
         }
         let messages = Vec::new(alloc);
         self.current = Current::Feed(Feed { stream, messages });
+        Ok(())
+    }
+
+    /// Reads NAME, FROM and TO of a link, and its rule. Takes memory only if nothing is wrong.
+    #[tactic(auto, unfolding(crate::specs::Reading::link_onto))]
+    fn link_line(&mut self, texts: &[&[u8]]) -> Result<(), ReadError>
+        requires { length self.old.streams.map.entries ≤ MOST_STREAMS }
+        ensures line { Reads link_onto texts.now self.old self.new result }
+        ensures memory { TakesMemoryLast link_onto texts.now self.old result }
+    {
+        let streams = &self.streams;
+        let link = link_at(&streams.map, &self.feeds, &self.links, texts)?;
+        if self.links.len() >= MOST_LINKS {
+            return Err(ReadError::Fault(Cause::TooMany));
+        }
+        self.links.push(link)?;
         Ok(())
     }
 
@@ -299,6 +340,29 @@ where
         Ok(())
     }
 
+    /// Reads the NAME of a link and the COUNT of carries on it, each of which is a take of the process that goes
+    /// on. Takes memory only if nothing is wrong.
+    #[tactic(auto, unfolding(crate::specs::Reading::carry_onto))]
+    fn carry_line(
+        &mut self,
+        alloc: Global,
+        mut process: Box<ProcessDecl<BoxedModule<M>>>,
+        texts: &[&[u8]],
+    ) -> Result<(), ReadError>
+        requires { length self.old.processes.items ≤ MOST_PROCESSES }
+        ensures line { Reads (λ d. carry_onto d (process_view process.value))
+            texts.now self.old self.new result }
+        ensures memory { TakesMemoryLast (λ d. carry_onto d (process_view process.value))
+            texts.now self.old result }
+    {
+        let by = self.processes.len() as u32;
+        let carries = carry_at(&self.links, by, process.calls.len(), texts)?;
+        push_takes(alloc, &mut process.calls, carries.from, carries.many)?;
+        set_carrier(&mut self.links, carries.link, by);
+        self.current = Current::Process(process);
+        Ok(())
+    }
+
     /// Reads a message of the feed that goes on.
     #[tactic(auto, unfolding(crate::specs::Reading::message_onto))]
     fn message_line(
@@ -319,6 +383,48 @@ where
         Ok(())
     }
 
+    /// Reads a link line behind a process, which ends.
+    fn link_behind_process(
+        &mut self,
+        process: Box<ProcessDecl<BoxedModule<M>>>,
+        texts: &[&[u8]],
+    ) -> Result<(), ReadError>
+        requires { length self.old.streams.map.entries ≤ MOST_STREAMS }
+        ensures { Reads (λ d. link_onto (ended_at d (process_place process.value)))
+            texts.now self.old self.new result }
+    {
+        self.current = Current::Process(process);
+        self.close()?;
+        self.link_line(texts)
+    }
+
+    /// Reads a line of a process, by its word, which is no verb.
+    fn process_other(
+        &mut self,
+        alloc: Global,
+        number: u64,
+        process: Box<ProcessDecl<BoxedModule<M>>>,
+        word: &[u8],
+        texts: &[&[u8]],
+    ) -> Result<(), ReadError>
+        requires few { length self.old.streams.map.entries ≤ MOST_STREAMS }
+        requires processes { length self.old.processes.items ≤ MOST_PROCESSES }
+        requires none { verb_named word.now ≡ None }
+        ensures { Reads (λ d. other_onto M.Kind.words number d (process_place process.value) word.now)
+            texts.now self.old self.new result }
+    {
+        if is_link(word) {
+            return self.link_behind_process(process, texts);
+        }
+        if is_await(word) {
+            return self.await_line(process, texts);
+        }
+        if is_carry(word) {
+            return self.carry_line(alloc, process, texts);
+        }
+        Err(ReadError::Fault(outside(word)))
+    }
+
     /// Reads a line of a process, by its word.
     fn process_word(
         &mut self,
@@ -329,15 +435,25 @@ where
         texts: &[&[u8]],
     ) -> Result<(), ReadError>
         requires few { length self.old.streams.map.entries ≤ MOST_STREAMS }
+        requires processes { length self.old.processes.items ≤ MOST_PROCESSES }
         requires modules { self.old.modules < 2 ^ 63 }
-        ensures { Reads (λ d. process_line_onto M.Kind.words number d (process_view process.value) word.now)
+        ensures { Reads (λ d. other_onto M.Kind.words number d (process_place process.value) word.now)
             texts.now self.old self.new result }
     {
         match from_keyword(word) {
             Some(verb) => self.call_line(alloc, number, process, verb, texts),
-            None if is_await(word) => self.await_line(process, texts),
-            None => Err(ReadError::Fault(outside(word))),
+            None => self.process_other(alloc, number, process, word, texts),
         }
+    }
+
+    /// Reads a link line behind a feed, which ends.
+    fn link_behind_feed(&mut self, feed: Feed, texts: &[&[u8]]) -> Result<(), ReadError>
+        requires { length self.old.streams.map.entries ≤ MOST_STREAMS }
+        ensures { Reads (λ d. link_onto (ended_at d (feed_place feed))) texts.now self.old self.new result }
+    {
+        self.current = Current::Feed(feed);
+        self.close()?;
+        self.link_line(texts)
     }
 
     /// Reads a line of a feed, by its word.
@@ -348,16 +464,32 @@ where
         word: &[u8],
         texts: &[&[u8]],
     ) -> Result<(), ReadError>
-        ensures { Reads (λ d. fed_onto d (feed_view feed) word.now) texts.now self.old self.new result }
+        requires { length self.old.streams.map.entries ≤ MOST_STREAMS }
+        ensures { Reads (λ d. other_onto M.Kind.words 0 d (feed_place feed) word.now)
+            texts.now self.old self.new result }
     {
         match from_keyword(word) {
             Some(word) => self.message_line(alloc, feed, word, texts),
+            None if is_link(word) => self.link_behind_feed(feed, texts),
             None => Err(ReadError::Fault(outside(word))),
         }
     }
 
-    /// Reads a line of the process or feed that goes on, by its word.
-    #[tactic(auto, unfolding(crate::specs::Reading::await_onto, crate::specs::Reading::call_onto, crate::specs::Reading::message_onto))]
+    /// Reads a line where nothing goes on, by its word: a link, or one that is out of place.
+    fn lone_word(&mut self, word: &[u8], texts: &[&[u8]]) -> Result<(), ReadError>
+        requires { length self.old.streams.map.entries ≤ MOST_STREAMS }
+        ensures { Reads (λ d. other_onto M.Kind.words 0 d no_place word.now)
+            texts.now self.old self.new result }
+    {
+        if is_link(word) {
+            self.current = Current::Nowhere;
+            return self.link_line(texts);
+        }
+        Err(ReadError::Fault(outside(word)))
+    }
+
+    /// Reads a link line, or one of the process or feed that goes on, by its word.
+    #[tactic(auto, unfolding(crate::specs::Reading::await_onto, crate::specs::Reading::call_onto, crate::specs::Reading::carry_onto, crate::specs::Reading::message_onto))]
     fn inner_line(
         &mut self,
         alloc: Global,
@@ -366,12 +498,13 @@ where
         texts: &[&[u8]],
     ) -> Result<(), ReadError>
         requires few { length self.old.streams.map.entries ≤ MOST_STREAMS }
+        requires processes { length self.old.processes.items ≤ MOST_PROCESSES }
         requires modules { self.old.modules < 2 ^ 63 }
-        ensures { Reads (λ d. inner_onto M.Kind.words number d d.place word.now)
+        ensures { Reads (λ d. other_onto M.Kind.words number d d.place word.now)
             texts.now self.old self.new result }
     {
         match mem::replace(&mut self.current, Current::Nowhere) {
-            Current::Nowhere => Err(ReadError::Fault(outside(word))),
+            Current::Nowhere => self.lone_word(word, texts),
             Current::Process(process) => self.process_word(alloc, number, process, word, texts),
             Current::Feed(feed) => self.feed_word(alloc, feed, word, texts),
         }
@@ -387,6 +520,7 @@ where
         texts: &[&[u8]],
     ) -> Result<(), ReadError>
         requires few { length self.old.streams.map.entries ≤ MOST_STREAMS }
+        requires processes { length self.old.processes.items ≤ MOST_PROCESSES }
         requires modules { self.old.modules < 2 ^ 63 }
         ensures { Reads (λ d. word_onto M.Kind.words number d word.now) texts.now self.old self.new result }
     {
@@ -408,6 +542,7 @@ where
     /// Reads the line of this number, by its fields. A line without fields adds nothing.
     fn fields_line(&mut self, alloc: Global, number: u64, texts: &[&[u8]]) -> Result<(), ReadError>
         requires few { length self.old.streams.map.entries ≤ MOST_STREAMS }
+        requires processes { length self.old.processes.items ≤ MOST_PROCESSES }
         requires modules { self.old.modules < 2 ^ 63 }
         ensures { Reads (fields_onto M.Kind.words number) texts.now self.old self.new result }
     {
@@ -428,6 +563,7 @@ where
         texts: &mut Vec<&'a [u8]>,
     ) -> Result<(), ReadError>
         requires few { length self.old.streams.map.entries ≤ MOST_STREAMS }
+        requires processes { length self.old.processes.items ≤ MOST_PROCESSES }
         requires modules { self.old.modules < 2 ^ 63 }
         ensures line { Becomes (λ d. line_onto M.Kind.words number d line.now) self.old self.new result }
         ensures length { IsTooLong line.now → IsErrOf result (ReadError.Fault Cause.TooLong) }
@@ -472,6 +608,7 @@ where
             streams,
             processes,
             feeds,
+            links,
             modules: _,
             current: _,
         } = self;
@@ -480,6 +617,7 @@ where
             streams: map,
             processes,
             feeds,
+            links,
         })
     }
 }

@@ -138,16 +138,19 @@ pub fn with_modules<M: ModuleOf, F: Fn(&Shape<M::Kind>) -> Result<M, NoMem>>(
     ensures streams { IfOk result (λ made. made.streams ≡ plan.streams) }
     ensures processes { IfOk result (λ made. made.processes.items ≡ plan.processes.items) }
     ensures feeds { IfOk result (λ made. made.feeds ≡ plan.feeds) }
+    ensures links { IfOk result (λ made. made.links ≡ plan.links) }
 {
     let Plan {
         streams,
         processes: declared,
         feeds,
+        links,
     } = plan;
     let processes = processes(alloc, declared, make)?;
     Ok(Plan {
         streams,
         processes,
         feeds,
+        links,
     })
 }

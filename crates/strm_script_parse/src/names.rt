@@ -1,12 +1,12 @@
-//! The names of streams and of processes, each of which is given once.
+//! The names of streams, of processes and of links, each of which is given once.
 ghost use Rattle.std.specs.Prelude.{◌≡◌, ◌++◌, ◌∷◌, [], false, map, IfOk, Ok};
-ghost use Rattle.strm_script_parse.specs.Plan.{process_view, streams_of};
-ghost use Rattle.strm_script_parse.specs.Reading.{has_process, process_name, stream_name};
+ghost use Rattle.strm_script_parse.specs.Plan.{link_view, process_view, streams_of};
+ghost use Rattle.strm_script_parse.specs.Reading.{has_link, has_process, link_name, process_name, stream_name};
 ghost use Rattle.strm_script_parse.specs.Targets.{has_stream};
 ghost use Rattle.strm_script_text.specs.Text.{name_text};
 ghost use Rattle.strm_script_words.specs.Fault.{Gives, Tells};
 
-use crate::plan::{LONGEST, Name, ProcessDecl};
+use crate::plan::{LONGEST, LinkDecl, Name, ProcessDecl};
 use indexmap::IndexMap;
 use strm_head_calls::Setup;
 use strm_module::{BoxedModule, ModuleOf};
@@ -25,6 +25,13 @@ fn has_process<M: ModuleOf>(processes: &[ProcessDecl<BoxedModule<M>>], chosen: &
     ensures { result ≡ has_process (map process_view processes.now) chosen.now.items }
 {
     processes.iter().any(|process| *chosen == process.name)
+}
+
+/// Whether a link has this name.
+fn has_link(links: &[LinkDecl], chosen: &Name) -> bool
+    ensures { result ≡ has_link (map link_view links.now) chosen.now.items }
+{
+    links.iter().any(|link| *chosen == link.name)
 }
 
 /// The name of a new stream. Refused if the text is no name, or if a stream has it.
@@ -53,6 +60,19 @@ pub(crate) fn process_name<M: ModuleOf>(
         return Err(Cause::Name);
     };
     if has_process(processes, &chosen) || chosen.as_slice() == b"line".as_slice() {
+        return Err(Cause::Name);
+    }
+    Ok(chosen)
+}
+
+/// The name of a new link. Refused if the text is no name, or if a link has it.
+pub(crate) fn link_name(links: &[LinkDecl], text: &[u8]) -> Result<Name, Cause>
+    ensures { Tells name_text result (link_name (map link_view links.now) text.now) }
+{
+    let Some(chosen) = name::<LONGEST>(text) else {
+        return Err(Cause::Name);
+    };
+    if has_link(links, &chosen) {
         return Err(Cause::Name);
     }
     Ok(chosen)

@@ -1,14 +1,14 @@
 //! The input of a run, made of a plan.
 ghost use Rattle.std.specs.Prelude.{◌≡◌, ◌++◌, map, IfOk, OnOk};
-ghost use Rattle.strm_script_parse.specs.RunInput.{calls_of_processes, call_streams, names_of};
+ghost use Rattle.strm_script_parse.specs.RunInput.{calls_of_processes, call_streams, names_of, run_links};
 ghost use Rattle.strm_script_parse.specs.RunInput.{replies_of, replies_view, setups_of, streams_if};
 
-use crate::plan::{Expected, Name, Names, Plan, ProcessDecl};
+use crate::plan::{Expected, LinkDecl, Name, Names, Plan, ProcessDecl};
 use indexmap::IndexMap;
 use std::alloc::Global;
 use strm_head_calls::Setup;
 use strm_msg::NoMem;
-use strm_run_input::{Feed, Script, ScriptCall};
+use strm_run_input::{Feed, RunLink, Script, ScriptCall};
 
 /// The replies that are expected of the calls of a process.
 #[derive(Drop)]
@@ -22,7 +22,7 @@ pub struct Replies {
 /// The input of a run, made of a plan, and the names of the plan.
 #[derive(Drop)]
 pub struct RunInput<P> {
-    /// The names of its streams and processes, by which a transcript is printed.
+    /// The names of its streams and processes, and its links, by which a transcript is printed.
     pub names: Names,
     /// The setup of each stream, in order of declaration.
     pub setups: Vec<Setup>,
@@ -30,6 +30,8 @@ pub struct RunInput<P> {
     pub scripts: Vec<Script<P>>,
     /// The feeds, as the plan had them.
     pub feeds: Vec<Feed>,
+    /// The links that have a carrier, in order.
+    pub links: Vec<RunLink>,
     /// The replies that are expected of the calls of each process, in order.
     pub expected: Vec<Replies>,
 }
@@ -116,8 +118,27 @@ fn parts_of<P: Drop>(alloc: Global, processes: Vec<ProcessDecl<P>>) -> Result<Pa
     })
 }
 
-/// Makes the input of a run of a plan: the setup of each stream, the calls of each process, and each feed.
-/// The names of the streams and processes are returned with it, and the replies that are expected.
+/// The links that have a carrier, in order. Fails only when memory runs out.
+fn carried_links(alloc: Global, links: &[LinkDecl]) -> Result<Vec<RunLink>, NoMem>
+    ensures { IfOk result (λ all. all.items ≡ run_links links.now) }
+{
+    let mut all = Vec::new(alloc);
+    for link in links {
+        if let Some(by) = link.by {
+            all.push(RunLink {
+                by,
+                from: link.from,
+                to: link.to,
+                rule: link.rule.copy(),
+            })?;
+        }
+    }
+    Ok(all)
+}
+
+/// Makes the input of a run of a plan: the setup of each stream, the calls of each process, each feed, and
+/// each link that has a carrier. The names of the streams and processes are returned with it, the links, and
+/// the replies that are expected.
 ///
 /// Fails only when memory runs out.
 pub fn into_run_input<P: Drop>(alloc: Global, plan: Plan<P>) -> Result<RunInput<P>, NoMem>
@@ -126,6 +147,8 @@ pub fn into_run_input<P: Drop>(alloc: Global, plan: Plan<P>) -> Result<RunInput<
     ensures setups { IfOk result (λ handed. handed.setups.items ≡ setups_of plan) }
     ensures scripts { IfOk result (λ handed. handed.scripts.items ≡ calls_of_processes plan.processes.items) }
     ensures feeds { IfOk result (λ handed. handed.feeds.items ≡ plan.feeds.items) }
+    ensures links { IfOk result (λ handed. handed.links.items ≡ run_links plan.links.items) }
+    ensures named { IfOk result (λ handed. handed.names.links.items ≡ plan.links.items) }
     ensures expected { IfOk result
         (λ handed. map replies_view handed.expected.items ≡ map replies_of plan.processes.items) }
 {
@@ -133,8 +156,10 @@ pub fn into_run_input<P: Drop>(alloc: Global, plan: Plan<P>) -> Result<RunInput<
         streams,
         processes,
         feeds,
+        links,
     } = plan;
     let setups = setups(alloc, &streams)?;
+    let carried = carried_links(alloc, &links)?;
     let Parts {
         names,
         scripts,
@@ -144,10 +169,12 @@ pub fn into_run_input<P: Drop>(alloc: Global, plan: Plan<P>) -> Result<RunInput<
         names: Names {
             streams,
             processes: names,
+            links,
         },
         setups,
         scripts,
         feeds,
+        links: carried,
         expected,
     })
 }

@@ -22,7 +22,7 @@ use strm_shared_log::SameKind;
 /// The outcome of a script that was played.
 #[derive(Drop)]
 pub struct Outcome<K = Kind> {
-    /// The names of its streams and processes.
+    /// The names of its streams and processes, and its links.
     pub names: Names,
     /// The log of each stream.
     pub transcript: Transcript<K>,
@@ -62,9 +62,10 @@ where
         setups,
         scripts,
         feeds,
+        links,
         expected,
     } = into_run_input(alloc, plan)?;
-    let transcript = run(rt, alloc, setups, scripts, feeds, workers, &Open)?;
+    let transcript = run(rt, alloc, setups, scripts, feeds, links, workers, &Open)?;
     Ok(Outcome {
         names,
         transcript,
@@ -95,9 +96,10 @@ where
         setups,
         scripts,
         feeds,
+        links,
         expected,
     } = into_run_input(alloc, plan)?;
-    let transcript = run_in_order(rt, alloc, setups, scripts, feeds, order, &Open)?;
+    let transcript = run_in_order(rt, alloc, setups, scripts, feeds, links, order, &Open)?;
     Ok(Outcome {
         names,
         transcript,

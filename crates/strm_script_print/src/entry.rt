@@ -79,6 +79,7 @@ fn add_call<W: Write, K: PrintKind + Drop>(
 
 /// Adds an event as a transcript has it: ` VERB NAME:END FIELDS` for a call, or ` MESSAGE` for a message that
 /// came in.
+#[inline(always)]
 fn add_event<W: Write, K: PrintKind + Drop>(
     w: &mut W,
     out: &mut LineBuffer,

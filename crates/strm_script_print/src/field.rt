@@ -53,6 +53,7 @@ pub(crate) fn maximum_field<'a>(most: Option<u16>) -> Field<'a>
 }
 
 /// Adds a field behind a space.
+#[inline(always)]
 fn add_field<W: Write>(w: &mut W, out: &mut LineBuffer, field: Field<'_>)
     ensures { AddsFields W.contents w.old w.new out.old out.new (said field.entry ∷ []) }
 {
@@ -66,6 +67,7 @@ fn add_field<W: Write>(w: &mut W, out: &mut LineBuffer, field: Field<'_>)
 
 /// Adds fields, each behind a space.
 #[tactic(auto, using(crate::proofs::GatheredLemmas::puts_nothing, crate::proofs::GatheredLemmas::field_put))]
+#[inline(always)]
 pub(crate) fn add_all<W: Write>(w: &mut W, out: &mut LineBuffer, fields: &[Field<'_>])
     ensures { AddsFields W.contents w.old w.new out.old out.new (map said fields.now) }
 {

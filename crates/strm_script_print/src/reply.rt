@@ -189,6 +189,7 @@ fn add_said<W: Write>(w: &mut W, out: &mut LineBuffer, answer: &Answer)
 
 /// Adds an answer as a transcript has it: ` : REPLY`, and the end of the line.
 #[tactic(auto, using(crate::proofs::GatheredLemmas::puts), unfolding(crate::specs::Lines::answer_text))]
+#[inline(always)]
 pub(crate) fn add_answer<W: Write>(w: &mut W, out: &mut LineBuffer, answer: &Answer)
     ensures { Adds W.contents w.old w.new out.old out.new (answer_text answer.now) }
 {

@@ -1,5 +1,6 @@
 pub mod FieldLemmas
 pub mod LineLemmas
+pub mod PlaceLemmas
 pub mod ReadBackLemmas
 pub mod RunLemmas
 pub mod SpellingLemmas

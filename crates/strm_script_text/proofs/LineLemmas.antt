@@ -26,7 +26,7 @@ lines_at_end text there =
     ∙ line_before (before_first ends_line text) (slice_split ends_line (after_first ends_line text)) (omega (arith, length-slice_split ends_line (after_first ends_line text)))
 
 -- what was found under a condition
-found_under : {A : Type 0} (b : Bool) (x y : A) → Some x ≡ cond b (Some y) None → (b ≡ true) × (x ≡ y)
+pub found_under : {A : Type 0} (b : Bool) (x y : A) → Some x ≡ cond b (Some y) None → (b ≡ true) × (x ≡ y)
 found_under true x y is = (refl, cc)
 found_under false x y is = absurd cc
 

@@ -25,6 +25,12 @@ fields_of line = filter (λ field. nat_lt 0 (length field)) (slice_split is_blan
 abbrev pub field_in : List ℕ → List (List ℕ)
 field_in text = filter (λ field. nat_lt 0 (length field)) (text ∷ [])
 
+-- the place of the first of a byte (no public clause cites it)
+abbrev pub place_of : ℕ → List ℕ → Option ℕ
+place_of byte text =
+    if nat_lt (position_or_len (λ other. other == byte) text) (length text) then Some (position_or_len (λ other. other == byte) text)
+    else None
+
 -- the text before the first of a byte, and the text behind it
 abbrev pub halves_of : ℕ → List ℕ → Option (List ℕ × List ℕ)
 halves_of byte text =

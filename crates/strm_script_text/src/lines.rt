@@ -4,8 +4,9 @@ ghost use Rattle.std.specs.Option.{option_map};
 ghost use Rattle.std.specs.List.{list_all};
 ghost use Rattle.std.specs.Str.Lines.{lines, strip_carriage_return};
 ghost use Rattle.strm_script_text.specs.Bytes as bytes;
-ghost use Rattle.strm_script_text.specs.Text.{field_in, fields_of, halves_of, texts_of};
+ghost use Rattle.strm_script_text.specs.Text.{field_in, fields_of, halves_of, place_of, texts_of};
 
+use memchr::memchr;
 use std::alloc::AllocError;
 
 /// Whether a byte separates fields: a space or a tab.
@@ -35,14 +36,24 @@ fn without_return(line: &[u8]) -> &[u8]
     }
 }
 
+/// The place of the first LF; nothing if there is none.
+#[inline(always)]
+fn end_of_first(text: &[u8]) -> Option<usize>
+    ensures place { result ≡ place_of 10 text.now }
+    ensures within { IfSome result (λ at. at < length text.now) }
+{
+    memchr(b'\n', text)
+}
+
 /// The first line, without its LF and a CR before it, and the text behind it. The last LF may be missing.
+#[inline(always)]
 pub fn first_line(text: &[u8]) -> (&[u8], &[u8])
     requires { 0 < length text.now }
     ensures first { lines text.now ≡ result.0.now ∷ lines result.1.now }
     ensures shorter { length result.1.now < length text.now }
 {
-    match split_once(text, b'\n') {
-        Some((line, rest)) => (without_return(line), rest),
+    match end_of_first(text) {
+        Some(at) => (without_return(&text[..at]), &text[at + 1..]),
         None => (text, &[]),
     }
 }

@@ -1,8 +1,9 @@
 -- What a word names, and that it is one of the words.
-use Rattle.std.proofs.Common.{◌≡◌, ◌↔◌, ℕ, ◌+◌, ◌<◌, ◌||◌, Bool, true, false, cond, List, [], ◌∷◌, length, map, drop, get_or, Option, Some, None, Ok, Err, refl, sym, ap, ◌∙◌}
+use Rattle.std.proofs.Common.{◌≡◌, ◌↔◌, ℕ, ◌+◌, ◌<◌, ◌||◌, ◌==◌, Bool, true, false, cond, List, [], ◌∷◌, length, map, drop, filter, get_or, Option, Some, None, Ok, Err, refl, sym, ap, ◌∙◌}
 use Rattle.std.specs.Str.{bytes_eq}
 use Rattle.std.specs.List.{find, list_any}
 use Rattle.std.proofs.lemmas.List.{at_drop_more}
+use Rattle.std.proofs.lemmas.Bool.{eqb-false}
 use Rattle.std.proofs.lemmas.Slice.Eq.{bytes_eq-Decides}
 use Rattle.strm_script_words.specs.Field.{keyword_at}
 use Rattle.strm_script_words.specs.Words.{named}
@@ -37,6 +38,22 @@ module _ {A : Type 0} (word : A → List ℕ) (text : List ℕ) where
   stops all i d seen same inside is compared this so_far =
       let yes : has_word (get_or all i d) ≡ true = ap (λ (w : List ℕ). bytes_eq w text) (sym is) ∙ sym compared ∙ this in
       ap (λ (b : Bool). cond b (Some (get_or all i d)) (find has_word (drop (i + 1) all))) (sym yes) ∙ sym (at_drop_more (find has_word) all i d inside) ∙ so_far
+
+  -- a word of another length is another word
+  differs : (one : A) (b : Bool) → has_word one ≡ b → (length (word one) == length text) ≡ false → b ≡ false
+  differs one false is other = refl
+  differs one true is other =
+      let same : word one ≡ text = (bytes_eq-Decides (word one) text).0 is in
+      absurd (eqb-false (length (word one)) (length text) other (ap length same))
+
+  kept_by : (b : Bool) (one : A) (some all : List A) → (length (word one) == length text) ≡ b → find has_word some ≡ find has_word all → find has_word (cond b (one ∷ some) some) ≡ find has_word (one ∷ all)
+  kept_by true one some all is rest = ap (λ (r : Option A). cond (has_word one) (Some one) r) rest
+  kept_by false one some all is rest = rest ∙ ap (λ (b : Bool). cond b (Some one) (find has_word all)) (sym (differs one (has_word one) refl is))
+
+  -- it is enough to look among those whose words have the length of the text
+  pub named_by_length : (all : List A) → named word (filter (λ one. length (word one) == length text) all) text ≡ named word all text
+  named_by_length [] = refl
+  named_by_length (one ∷ all) = kept_by (length (word one) == length text) one (filter (λ one. length (word one) == length text) all) all refl (named_by_length all)
 
   -- it is one of the words
   record IsChosen (all : List A) (one : A) : Type 0 where

@@ -1,5 +1,5 @@
 -- The calls of a script: the word and the fields of each. Both reading and printing use this one table.
-use Rattle.std.specs.Prelude.{ℕ, ◌||◌, Bool, true, false, List, [], ◌∷◌, length, Option, Result, Ok, Err, codes, map, if◌then◌else◌}
+use Rattle.std.specs.Prelude.{ℕ, ◌||◌, ◌==◌, Bool, true, false, List, [], ◌∷◌, length, filter, Option, Result, Ok, Err, codes, map, if◌then◌else◌}
 use Rattle.std.specs.List.{list_any}
 use Rattle.strm_module.specs.declared.shape.Shape.{Shape}
 use Rattle.strm_msg.specs.declared.words.Side.{Side}
@@ -52,6 +52,10 @@ word_of Verb.Poll = codes "poll"
 
 abbrev pub all_verbs : List Verb
 all_verbs = Verb.Putmsg ∷ Verb.Putpmsg ∷ Verb.Getmsg ∷ Verb.Getpmsg ∷ Verb.Read ∷ Verb.Write ∷ Verb.Push ∷ Verb.Pop ∷ Verb.Look ∷ Verb.List ∷ Verb.Find ∷ Verb.Str ∷ Verb.Strput ∷ Verb.Strget ∷ Verb.Flush ∷ Verb.FlushBand ∷ Verb.Nread ∷ Verb.Peek ∷ Verb.SetRead ∷ Verb.GetRead ∷ Verb.Canput ∷ Verb.Ckband ∷ Verb.Getband ∷ Verb.Close ∷ Verb.Take ∷ Verb.Getq ∷ Verb.Putbq ∷ Verb.Putnext ∷ Verb.Bcanputnext ∷ Verb.Qsize ∷ Verb.Tick ∷ Verb.Poll ∷ []
+
+-- the calls whose words have this length (no public clause cites it)
+abbrev pub verbs_of_length : ℕ → List Verb
+verbs_of_length n = filter (λ verb. length (word_of verb) == n) all_verbs
 
 -- the call of a word
 abbrev pub verb_named : List ℕ → Option Verb

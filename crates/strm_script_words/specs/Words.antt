@@ -1,5 +1,5 @@
 -- The words of the fields of a script and of a transcript.
-use Rattle.std.specs.Prelude.{ℕ, Bool, true, false, List, [], ◌∷◌, Option, codes}
+use Rattle.std.specs.Prelude.{◌≡◌, ℕ, Bool, true, false, List, [], ◌∷◌, length, Option, codes}
 use Rattle.std.specs.List.{find}
 use Rattle.std.specs.Str.{bytes_eq}
 use Rattle.strm_msg.specs.declared.errno.Errno.{Errno}
@@ -22,6 +22,10 @@ use Rattle.strm_head_calls.specs.declared.request.GetFlag.TheVariants as gets
 -- the value of a text, among values that have words
 abbrev pub named : {A : Type 0} → (A → List ℕ) → List A → List ℕ → Option A
 named word all text = find (λ one. bytes_eq (word one) text) all
+
+-- a text of this length names the same among these values as among all
+abbrev pub AreEnough : {A : Type 0} → (A → List ℕ) → List A → ℕ → List A → Type 0
+AreEnough word all n some = (text : List ℕ) → length text ≡ n → named word some text ≡ named word all text
 
 -- the priority of a putmsg
 abbrev pub priority_word : Priority → List ℕ

@@ -6,7 +6,7 @@ ghost use Rattle.strm_script_words.specs.Service.{is_service};
 ghost use Rattle.strm_script_words.specs.Table as table;
 
 use crate::fault::Cause;
-use crate::keyword::{Keyword, from_keyword};
+use crate::keyword::Keyword;
 use crate::kinds::{ReadKind, push_arity};
 use crate::service::service_arity;
 
@@ -79,6 +79,54 @@ pub enum Verb {
     Poll,
 }
 
+/// The calls whose words have this length.
+fn verbs_of_length(len: usize) -> &'static [Verb]
+    ensures { result.now ≡ table.verbs_of_length len }
+{
+    match len {
+        3 => &[Verb::Pop, Verb::Str],
+        4 => &[
+            Verb::Read,
+            Verb::Push,
+            Verb::Look,
+            Verb::List,
+            Verb::Find,
+            Verb::Peek,
+            Verb::Take,
+            Verb::Getq,
+            Verb::Tick,
+            Verb::Poll,
+        ],
+        5 => &[
+            Verb::Write,
+            Verb::Flush,
+            Verb::Nread,
+            Verb::Close,
+            Verb::Putbq,
+            Verb::Qsize,
+        ],
+        6 => &[
+            Verb::Putmsg,
+            Verb::Getmsg,
+            Verb::Strput,
+            Verb::Strget,
+            Verb::Canput,
+            Verb::Ckband,
+        ],
+        7 => &[
+            Verb::Putpmsg,
+            Verb::Getpmsg,
+            Verb::SetRead,
+            Verb::GetRead,
+            Verb::Getband,
+            Verb::Putnext,
+        ],
+        9 => &[Verb::FlushBand],
+        11 => &[Verb::Bcanputnext],
+        _ => &[],
+    }
+}
+
 impl Verb {
     /// The number of fields of the call behind NAME:END, if it is no push and no service call.
     fn count(self) -> usize
@@ -127,6 +175,7 @@ impl Verb {
     /// The number of fields of the call behind NAME:END. For a push it depends on the first of them, or on
     /// the second behind `noenable`, and for a call that sends a message on that message's word. Refused if
     /// these are missing, or name no kind of module and no message.
+    #[inline(always)]
     pub fn arity<K: ReadKind>(self, texts: &[&[u8]]) -> Result<usize, Cause>
         ensures { Tells (λ n. n) result (table.arity_at K.words self (texts_of texts.now)) }
     {
@@ -219,5 +268,10 @@ impl Keyword for Verb {
             Verb::Tick,
             Verb::Poll,
         ]
+    }
+
+    #[inline(always)]
+    fn of_length(len: usize) -> &'static [Verb] {
+        verbs_of_length(len)
     }
 }

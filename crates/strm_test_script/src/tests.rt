@@ -28,6 +28,7 @@ fn names_of(rt: &impl Abort, alloc: Global, script: &[u8]) -> Names {
         setups: _,
         scripts: _,
         feeds: _,
+        links: _,
         expected: _,
     } = handed(rt, alloc, script);
     names

@@ -36,6 +36,7 @@ pub(crate) fn lanes_of(alloc: Global, plan: Plan<BoxedModule<Plain>>) -> Result<
         streams,
         processes,
         mut feeds,
+        links: _,
     } = plan;
     feeds.sort_unstable_by_key(|feed| feed.stream);
     let mut lanes = Vec::new(alloc);

@@ -191,7 +191,8 @@ where
     let feeds = feeds_of(rt, alloc, feeds);
     assert!(rt; can_open_all(setups.as_slice()) && are_from_line(feeds.as_slice()));
     assert!(rt; setups.len() < 1000 && scripts.len() < 1000);
-    run(rt, alloc, setups, scripts, feeds, workers, gate)
+    let links = Vec::new(alloc);
+    run(rt, alloc, setups, scripts, feeds, links, workers, gate)
 }
 
 /// The expected result of a run.

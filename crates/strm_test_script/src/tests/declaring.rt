@@ -28,6 +28,7 @@ fn calls_of<P: Drop>(rt: &impl Abort, plan: Plan<P>) -> (Call<P>, Call<P>) {
         streams: _,
         mut processes,
         feeds: _,
+        links: _,
     } = plan;
     let ProcessDecl {
         name: _,

@@ -1,11 +1,12 @@
-use Rattle.std.proofs.Common.{refl, rules}
+use Rattle.std.proofs.Common.{get_or, refl, rules, subst}
 use Rattle.strm_run_callers.specs.Play.{Fits}
+use Rattle.strm_run_callers.specs.Transcript.{offered_by, IsFed}
 use Rattle.strm_run.proofs.RunLemmas.{any_setup, if_ok, none_such, not_workers}
 use Rattle.strm_run.proofs.running.run_in_order.Goals as goal
 
 pub returns-then-not-names_resolve-clause-no_such : goal.returns-then-not-names_resolve-clause-no_such
 returns-then-not-names_resolve-clause-no_such g c =
-    let are = rw (c.as_slice.ensures.value, c.as_slice-2.ensures.value, c.as_slice-3.ensures.value) at c.names_resolve.ensures in
+    let are = rw (c.as_slice.ensures.value, c.as_slice-2.ensures.value, c.as_slice-3.ensures.value, c.as_slice-4.ensures.value) at c.names_resolve.ensures in
     ((λ is there. absurd (cc (are.1 there, c.if-not-names_resolve.true))), (λ all. refl))
 
 pub run_named_in_order-requires-clause-fits : goal.run_named_in_order-requires-clause-fits
@@ -14,13 +15,13 @@ run_named_in_order-requires-clause-fits g c κs within = c.requires.fits
 
 pub run_named_in_order-requires-clause-input : goal.run_named_in_order-requires-clause-input
 run_named_in_order-requires-clause-input g c κs within =
-    let are = rw (c.as_slice.ensures.value, c.as_slice-2.ensures.value, c.as_slice-3.ensures.value) at c.names_resolve.ensures in
+    let are = rw (c.as_slice.ensures.value, c.as_slice-2.ensures.value, c.as_slice-3.ensures.value, c.as_slice-4.ensures.value) at c.names_resolve.ensures in
     let there = are.0 c.if-not-names_resolve.false in
     search rules
 
 pub returns-clause-no_such : goal.returns-clause-no_such
 returns-clause-no_such g c =
-    let are = rw (c.as_slice.ensures.value, c.as_slice-2.ensures.value, c.as_slice-3.ensures.value) at c.names_resolve.ensures in
+    let are = rw (c.as_slice.ensures.value, c.as_slice-2.ensures.value, c.as_slice-3.ensures.value, c.as_slice-4.ensures.value) at c.names_resolve.ensures in
     ((λ is. none_such c.run_named_in_order.result c.run_named_in_order.ensures.late is), (λ all. absurd (all (are.0 c.if-not-names_resolve.false))))
 
 pub returns-clause-many : goal.returns-clause-many
@@ -33,7 +34,12 @@ pub returns-clause-calls : goal.returns-clause-calls
 returns-clause-calls g c = if_ok _ _ c.run_named_in_order.result (λ t logs k caller d below. (logs.each k any_setup d below).calls caller) c.run_named_in_order.ensures.logs
 
 pub returns-clause-arrivals : goal.returns-clause-arrivals
-returns-clause-arrivals g c = if_ok _ _ c.run_named_in_order.result (λ t logs k d below. (logs.each k any_setup d below).fed) c.run_named_in_order.ensures.logs
+returns-clause-arrivals g c =
+    if_ok _ _ c.run_named_in_order.result (λ t logs k d below none. subst (λ found. IsFed (offered_by (record { setups = c.args.setups.items; scripts = c.args.scripts.items; feeds = c.args.feeds.items; links = c.args.links.items }) t.streams.items k found) (get_or t.streams.items k d)) none (logs.fed k d below)) c.run_named_in_order.ensures.logs
+
+pub returns-clause-links : goal.returns-clause-links
+returns-clause-links g c =
+    if_ok _ _ c.run_named_in_order.result (λ t logs k link d below some. subst (λ found. IsFed (offered_by (record { setups = c.args.setups.items; scripts = c.args.scripts.items; feeds = c.args.feeds.items; links = c.args.links.items }) t.streams.items k found) (get_or t.streams.items k d)) some (logs.fed k d below)) c.run_named_in_order.ensures.logs
 
 pub returns-clause-workers : goal.returns-clause-workers
 returns-clause-workers g c is = not_workers c.run_named_in_order.result c.run_named_in_order.ensures.late is

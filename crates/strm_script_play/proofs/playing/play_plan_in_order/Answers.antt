@@ -1,5 +1,5 @@
 use Rattle.std.proofs.Common.{◌≡◌, true, [], length, get_or, rules, arith, refl, ap, ◌∙◌}
-use Rattle.strm_run_input.specs.Scripts.{calls_on}
+use Rattle.strm_run_input.specs.Scripts.{calls_on, link_to}
 use Rattle.strm_script_play.specs.Played.{may_have}
 use Rattle.strm_script_play.proofs.FaultLemmas.{may_be}
 use Rattle.strm_script_parse.proofs.HandingLemmas.{all_there, setups_meet, feeds_meet, few_setups, few_scripts, script_calls}
@@ -23,9 +23,9 @@ pub returns-in_err-transcript-clause-fault : goal.returns-in_err-transcript-clau
 returns-in_err-transcript-clause-fault g c =
     let handed = c.in_ok-names.ensures in
     let sound = c.requires.sound in
-    let there = all_there c.args.plan.streams.entries _ c.args.plan.processes.items c.args.plan.feeds.items handed.scripts sound.calls sound.lines sound.once in
+    let there = all_there c.args.plan.streams.entries _ c.args.plan.processes.items c.args.plan.feeds.items c.args.plan.links.items handed.scripts sound.calls sound.lines sound.once sound.links in
     let ran = c.in_err-transcript.ensures in
-    let told : may_have 1 c.in_err-transcript.field-0.0 ≡ true = may_be 1 c.in_err-transcript.field-0.0 _ refl ((λ is. absurd (ran.workers is)), (λ out. absurd cc)) ((λ is. (refl, ran.no_such.0 is)), (λ none. ran.no_such.1 none.1)) (rw (handed.setups, handed.feeds) there) in
+    let told : may_have 1 c.in_err-transcript.field-0.0 ≡ true = may_be 1 c.in_err-transcript.field-0.0 _ refl ((λ is. absurd (ran.workers is)), (λ out. absurd cc)) ((λ is. (refl, ran.no_such.0 is)), (λ none. ran.no_such.1 none.1)) (rw (handed.setups, handed.feeds, handed.links) there) in
     search rules
 
 pub returns-clause-played : goal.returns-clause-played
@@ -36,9 +36,11 @@ returns-clause-played g c =
     record {
       streams = handed.streams;
       names = handed.names;
+      links = handed.named;
       expected = handed.expected;
       many = ran.many ∙ as_many;
       legal = λ k setup log under. rw (← handed.setups) (ran.legal k setup log (rw as_many under));
       calls = λ k caller log under. ran.calls k caller log (rw as_many under) ∙ ap (λ calls. calls_on k calls) (script_calls _ caller ∙ ap (λ all. get_or all caller []) handed.scripts);
-      arrivals = λ k log under. rw (← handed.feeds) (ran.arrivals k log (rw as_many under));
+      arrivals = λ k log under none. rw (← handed.feeds) (ran.arrivals k log (rw as_many under) (ap (λ l. link_to l k) handed.links ∙ none));
+      carried = λ k link log under some. ran.links k link log (rw as_many under) (ap (λ l. link_to l k) handed.links ∙ some);
     }

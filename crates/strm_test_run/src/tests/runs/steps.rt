@@ -68,7 +68,8 @@ where
     let feeds = feeds_of(rt, alloc, feeds);
     assert!(rt; can_open_all(setups.as_slice()) && are_from_line(feeds.as_slice()));
     assert!(rt; setups.len() < 1000 && scripts.len() < 1000);
-    run_in_order(rt, alloc, setups, scripts, feeds, order, &Open)
+    let links = Vec::new(alloc);
+    run_in_order(rt, alloc, setups, scripts, feeds, links, order, &Open)
 }
 
 const TWO_EACH: &[&[Row]] = &[

@@ -1,4 +1,6 @@
-use Rattle.std.proofs.Common.{◌≡◌, true, [], ◌∷◌, ◌++◌, append_assoc, ap, sym, ◌∙◌}
+use Rattle.std.proofs.Common.{◌≡◌, true, None, Some, [], ◌∷◌, ◌++◌, append_assoc, if◌then◌else◌, ap, subst, sym, ◌∙◌}
+use Rattle.std.specs.Prelude.{is_some}
+use Rattle.strm_shared_ring.specs.StreamRunName.{IsNextOf}
 use Rattle.std.specs.Vec.Iter.{into_iter_items}
 use Rattle.strm_msg.specs.Message.{Msg}
 use Rattle.strm_msg.specs.Kind.{is_from_line}
@@ -15,7 +17,7 @@ accepts-requires-clause-next g c =
     let was = c.self.invariant.1 in
     let next = c.in-Some.ensures.items in
     let is : was.offered ++ c.in-Some.m ∷ into_iter_items c.next.new.self ≡ feed_of g.N.RunName.run.feeds c.self.inside.feeder.feed.number = ap (λ l. was.offered ++ l) (sym next) ∙ was.feed in
-    next_of_feed _ _ c.in-Some.m _ _ is was.offers
+    subst (λ found. IsNextOf (if is_some found then None else Some (feed_of g.N.RunName.run.feeds c.self.inside.feeder.feed.number)) c.self.inside.feeder.feed.offers c.in-Some.m) (sym was.apart) (next_of_feed _ _ c.in-Some.m _ _ is was.offers)
 
 pub invariant_of-self-then-not-accepts : goal.invariant_of-self-then-not-accepts
 invariant_of-self-then-not-accepts g c =
@@ -27,6 +29,7 @@ invariant_of-self-then-not-accepts g c =
       rest_shorter _ _ c.in-Some.m _ _ c.self.invariant.0 next c.in-Some.ensures.len,
       record {
         there = rw same was.there;
+        apart = rw same was.apart;
         few = rw same was.few;
         kinds = of_others (λ (m : Msg). is_from_line m.kind ≡ true) _ _ _ next was.kinds;
         offered = was.offered ++ c.in-Some.m ∷ [];
@@ -47,6 +50,7 @@ invariant_of-self-else-not-accepts g c =
       rest_shorter _ _ c.in-Some.m _ _ c.self.invariant.0 next c.in-Some.ensures.len,
       record {
         there = rw more was.there;
+        apart = rw more was.apart;
         few = rw more was.few;
         kinds = of_others (λ (m : Msg). is_from_line m.kind ≡ true) _ _ _ next was.kinds;
         offered = was.offered ++ c.in-Some.m ∷ [];

@@ -12,8 +12,6 @@ mod frame;
 mod laws;
 mod peer;
 mod refusal;
-#[cfg(test)]
-mod tests;
 mod waiting;
 
 pub use frame::{Frame, Numbered};

@@ -8,8 +8,6 @@
 mod arq;
 mod kinds;
 mod laws;
-#[cfg(test)]
-mod tests;
 mod words;
 
 pub use arq::ByShape;

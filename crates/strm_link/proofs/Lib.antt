@@ -1,4 +1,4 @@
 pub mod RuleLemmas
 pub mod LinkLemmas
-pub mod HoldingLemmas
+pub mod PassageLemmas
 pub mod WorkedExamples

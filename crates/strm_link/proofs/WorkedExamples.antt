@@ -1,11 +1,12 @@
 -- Links, computed on the definitions: what is passed on, and what is held then.
-use Rattle.std.proofs.Common.{◌≡◌, ℕ, false, Option, None, Some, Ok, Err, List, [], ◌∷◌, map, replicate, refl}
+use Rattle.std.proofs.Common.{◌≡◌, ℕ, true, false, Option, None, Some, Ok, Err, List, [], ◌∷◌, map, replicate, refl}
 use Rattle.strm_msg.specs.Message.{Msg, data_msg}
 use Rattle.strm_link.specs.declared.act.Act.TheVariants.{Keep, Lose, Double, Hold}
 use Rattle.strm_link.specs.declared.fault.RuleFault.TheVariants as faults
 use Rattle.strm_link.specs.declared.rule.Odds.{Odds}
 use Rattle.strm_link.specs.Rule.{RuleValue, Pattern, Drawn, can_come, generator_of, rule_of_acts, rule_of_odds}
 use Rattle.strm_link.specs.Link.{fresh, out_of, after_of}
+use Rattle.strm_link.specs.Passage.{passage_of}
 
 -- a message of one byte
 abbrev letter : ℕ → Msg
@@ -36,6 +37,10 @@ still_held = refl
 -- a message that is doubled goes before the one that is held
 three_at_once : passed_on (Pattern (Hold ∷ Double ∷ [])) (97 ∷ 98 ∷ []) ≡ (letters (98 ∷ 98 ∷ 97 ∷ []), None)
 three_at_once = refl
+
+-- of four messages one is lost, one is doubled and the last is held
+counted : passage_of (fresh (Pattern (Keep ∷ Lose ∷ Double ∷ Hold ∷ []))) (letters (97 ∷ 98 ∷ 99 ∷ 100 ∷ [])) ≡ record { given = 3; held = true }
+counted = refl
 
 -- two and two are exchanged
 exchanged : passed_on (Pattern (Hold ∷ Keep ∷ [])) (97 ∷ 98 ∷ 99 ∷ 100 ∷ []) ≡ (letters (98 ∷ 97 ∷ 100 ∷ 99 ∷ []), None)

@@ -2,6 +2,6 @@ pub mod Fault
 pub mod Rule
 pub mod Source
 pub mod Link
-pub mod Holding
+pub mod Passage
 pub mod Subsequence
 pub mod Laws

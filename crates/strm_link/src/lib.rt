@@ -9,12 +9,12 @@ mod act;
 mod fault;
 mod laws;
 mod link;
+mod passage;
 mod rule;
-#[cfg(test)]
-mod tests;
 
 pub use act::Act;
 pub use fault::RuleFault;
 pub use laws::{link_keeps, link_makes_none, link_only_holds, link_only_loses};
 pub use link::{Link, MOST_PASSED};
+pub use passage::Passage;
 pub use rule::{DRAWS, MOST_ACTS, Odds, Rule};

@@ -1,13 +1,14 @@
 //! The rule by which a link passes messages on.
-ghost use Rattle.std.specs.Prelude.{◌≡◌, ◌<◌, ◌+◌, ◌%◌, ◌^◌, false, List, length, is_some};
+ghost use Rattle.std.specs.Prelude.{◌≡◌, ◌<◌, ◌+◌, ◌%◌, ◌^◌, List, length};
 ghost use Rattle.rand_pcg.specs.Pcg.{pcg32};
-ghost use Rattle.strm_link.specs.Link.{fresh, after_of};
-ghost use Rattle.strm_link.specs.Holding.{holds, holds_behind};
+ghost use Rattle.strm_link.specs.Link.{fresh};
+ghost use Rattle.strm_link.specs.Passage.{nothing_yet, passage_behind, passage_of};
 ghost use Rattle.strm_msg.specs.Message.{Msg};
 ghost use Rattle.strm_link.specs.Rule.{act_drawn, act_of, after_act, draw_of, rule_of_acts, rule_of_odds};
 
 use crate::act::Act;
 use crate::fault::RuleFault;
+use crate::passage::Passage;
 use arrayvec::ArrayVec;
 use rand_core::utils::NextWord;
 use rand_pcg::Pcg32;
@@ -104,28 +105,18 @@ fn draw(rng: &Pcg32) -> u16
     (ahead.next_word() % u32::from(DRAWS)) as u16
 }
 
-/// Whether a message is held behind one with which this is done.
-fn holds(act: Act, held: bool) -> bool
-    ensures { result ≡ holds act held }
-{
-    match act {
-        Act::Keep | Act::Double => false,
-        Act::Lose => held,
-        Act::Hold => true,
-    }
-}
-
-/// Whether a link that holds nothing holds a message behind so many.
-fn holds_behind(from: &Rule, many: u64) -> bool
-    ensures { result ≡ holds_behind from.now false many }
+/// How far a link that holds nothing is behind so many messages.
+fn passage_behind(from: &Rule, many: u64) -> Passage
+    requires { many < 2 ^ 63 }
+    ensures { result ≡ passage_behind from.now nothing_yet many }
 {
     let mut rule = from.copy();
-    let mut held = false;
+    let mut passage = Passage::new();
     for _ in 0..many {
-        held = holds(rule.act(), held);
+        passage = passage.after(rule.act());
         rule.advance();
     }
-    held
+    passage
 }
 
 impl Rule {
@@ -204,11 +195,12 @@ impl Rule {
         }
     }
 
-    /// Whether a link of this rule, which holds nothing now, holds a message behind so many.
-    pub fn holds_after(&self, many: u64) -> bool
-        ensures { (taken : List Msg) → length taken ≡ many →
-            result ≡ is_some (after_of (fresh self.now) taken).held }
+    /// How far a link of this rule, which holds nothing now, is behind so many messages. Takes as long as the
+    /// messages are many.
+    pub fn passage(&self, many: u64) -> Passage
+        requires { many < 2 ^ 63 }
+        ensures { (taken : List Msg) → length taken ≡ many → result ≡ passage_of (fresh self.now) taken }
     {
-        holds_behind(self, many)
+        passage_behind(self, many)
     }
 }

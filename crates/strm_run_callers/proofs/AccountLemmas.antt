@@ -20,7 +20,8 @@ use Rattle.strm_shared.specs.Ending.{IsReceiptOf}
 use Rattle.strm_run_callers.specs.Account.{fresh_account, AccountValue, HasReceipts}
 use Rattle.strm_run_callers.specs.RunName.{RunValue}
 use Rattle.strm_run_input.specs.Scripts.{calls_on, script_of, link_from, link_to}
-use Rattle.strm_run_callers.specs.Carrying.{carrier_in, taken_by, taken, passed_on, CarrierValue, CarriesAll, CarriesOn, IsFreshCarrier}
+use Rattle.strm_shared_entry.specs.Taken.{taken_by, taken}
+use Rattle.strm_run_callers.specs.Carrying.{carrier_in, passed_on, CarrierValue, CarriesAll, CarriesOn, IsFreshCarrier}
 use Rattle.strm_run_callers.proofs.CarryLemmas.{after_append, out_append, out_bound}
 
 -- the entries that receipts show, with that of the next call of the caller's script

@@ -1,19 +1,12 @@
 -- The links of a run: what goes over them, and what their callers know of it while the run goes on.
-use Rattle.std.specs.Prelude.{◌≡◌, ℕ, ◌+◌, true, Option, Some, None, Box, List, [], ◌++◌, length, flat_map, option_map, IfSome, if◌then◌else◌}
+use Rattle.std.specs.Prelude.{◌≡◌, ℕ, ◌+◌, true, Option, Some, None, Box, List, [], ◌++◌, length, option_map, IfSome}
 use Rattle.std.specs.Global.{Global}
-use Rattle.std.specs.Option.{option_to_list}
-use Rattle.strm_msg.specs.Message.{Msg, bare}
+use Rattle.strm_msg.specs.Message.{Msg}
 use Rattle.strm_msg.specs.Kind.{is_from_line}
-use Rattle.strm_msg.specs.declared.kind.MsgKind.TheVariants.{MHangup}
-use Rattle.strm_head_calls.specs.declared.answer.Answer.{Answer}
-use Rattle.strm_head_calls.specs.declared.answer.Answer.TheVariants.{Done}
-use Rattle.strm_head_calls.specs.declared.answer.Reply.TheVariants as replies
-use Rattle.strm_head_calls.specs.declared.event.Event.{Event}
-use Rattle.strm_head_calls.specs.declared.event.Event.TheVariants.{Asked}
-use Rattle.strm_head_calls.specs.declared.request.Request.TheVariants as requests
 use Rattle.strm_link.specs.Link.{LinkValue, fresh, out_of, after_of}
 use Rattle.strm_link.specs.Subsequence.{IsSubsequence}
 use Rattle.strm_shared_entry.specs.Entry.{Entry}
+use Rattle.strm_shared_entry.specs.Taken.{taken}
 use Rattle.strm_shared.specs.Seat.{SeatValue}
 use Rattle.strm_shared_ring.specs.Feed.{FeedValue}
 use Rattle.strm_run_input.specs.declared.run_link.RunLink.{RunLink}
@@ -23,17 +16,6 @@ use Rattle.strm_run_callers.specs.Account.{AccountValue}
 use Rattle.strm_run_callers.specs.Feeding.{FeedResultValue}
 
 -- ---- what goes over a link
-
--- the message that a take has taken from a wire, if it is of a kind that comes from a line, as all are that
--- wait there; of a closed wire of which all was taken a hangup
-abbrev pub taken_by : {P : Type 0} → Event P → Answer → Option Msg
-taken_by (Asked requests.Take) (Done (replies.Message m)) = if is_from_line m.kind then Some m else None
-taken_by (Asked requests.Take) (Done replies.Hangup) = Some (bare MHangup)
-taken_by event answer = None
-
--- what was taken from wires by these calls, in order
-abbrev pub taken : {K : Type 0} → List (Entry K) → List Msg
-taken entries = flat_map (λ entry. option_to_list (taken_by entry.event entry.answer)) entries
 
 -- what a link passes on of what was taken by these calls
 abbrev pub passed_on : {K : Type 0} → RunLink → List (Entry K) → List Msg

@@ -1,5 +1,5 @@
 -- The logs that a run leaves of its streams.
-use Rattle.std.specs.Prelude.{◌≡◌, ℕ, zero, suc, ◌+◌, ◌<◌, Option, Some, None, List, [], ◌∷◌, ◌++◌, get_or, length, map}
+use Rattle.std.specs.Prelude.{◌≡◌, ℕ, ◌+◌, ◌<◌, Option, Some, None, List, ◌++◌, get_or, length, map}
 use Rattle.strm_msg.specs.Message.{Msg}
 use Rattle.strm_msg.specs.declared.words.End.TheVariants.{A, B}
 use Rattle.strm_module.specs.Kinds.{Meaning}
@@ -7,6 +7,7 @@ use Rattle.strm_chain_ends.specs.Image.{Image, end_of}
 use Rattle.strm_head_calls.specs.declared.setup.Setup.{Setup}
 use Rattle.strm_shared_entry.specs.Entry.{asked_of, Entry}
 use Rattle.strm_shared_entry.specs.Own.{arrivals, own}
+pub use Rattle.strm_shared_entry.specs.Logs.{history_at}
 use Rattle.strm_shared_log.specs.History.{Legal}
 use Rattle.strm_shared_log.specs.Serials.{AreAccounted}
 use Rattle.strm_shared_entry.specs.declared.transcript.StreamLog.{StreamLog}
@@ -28,12 +29,6 @@ pub record IsFed {K : Type 0} (offered : List Msg) (log : StreamLog K) : Type 0 
   pub many : log.accepted ≡ length accepted
   pub arrived : log.arrived ≡ length (arrivals log.history.items)
   pub all : log.accepted + log.overrun ≡ length offered
-
--- the history of a stream; past the last there is none
-abbrev pub history_at : {K : Type 0} → List (StreamLog K) → ℕ → List (Entry K)
-history_at [] number = []
-history_at (log ∷ rest) zero = log.history.items
-history_at (log ∷ rest) (suc number) = history_at rest number
 
 -- what a link passes on of all that its caller has taken of the first wire
 abbrev pub carried_on : {K : Type 0} → RunLink → List (StreamLog K) → List Msg

@@ -3,7 +3,8 @@ ghost use Rattle.std.specs.Prelude.{◌≡◌, ◌≤◌, ◌<◌, ◌+◌, ◌^
 ghost use Rattle.std.specs.Option.{option_to_list};
 ghost use Rattle.strm_link.specs.Link.{fresh};
 ghost use Rattle.strm_msg.specs.Kind.{is_from_line};
-ghost use Rattle.strm_run_callers.specs.Carrying.{carrier_in, taken_by, Carries, CarriesOn, IsCarrier, Offers};
+ghost use Rattle.strm_run_callers.specs.Carrying.{carrier_in, Carries, CarriesOn, IsCarrier, Offers};
+ghost use Rattle.strm_shared_entry.specs.Taken.{taken_by};
 
 use crate::feed_result::FeedResult;
 use crate::offering::accepts;

@@ -20,7 +20,7 @@ use Rattle.strm_script_words.specs.declared.fault.Cause.{Cause}
 use Rattle.strm_script_words.specs.declared.fault.Cause.TheVariants as causes
 use Rattle.strm_script_words.specs.declared.verb.Verb.{Verb}
 use Rattle.strm_script_parse.specs.Plan.{Call, Expect, Process, Fed, Linked, Streams, Partial, Whole, Place, Nowhere, In_process, In_feed}
-use Rattle.strm_script_parse.specs.Reading.{ended, ended_at, plan_of, fresh_name, driver_at, setup_arity, setup_at, setup_onto, declared_at, has_room, with_stream, stream_onto, process_name, with_process, process_onto, has_feed, with_feed, leads_to, feed_onto, link_at, with_link, link_onto, call_at, with_call, call_onto, Carrying, carry_at, with_carries, take_from, carry_onto, await_of, with_await, only_field, await_onto, is_await, is_carry, is_link, process_line_onto, other_onto, with_message, message_onto, inner_onto, outside, word_onto, fields_in, fields_onto, line_onto, modules_after, nothing_yet, FaultAt, lines_onto, then_lines}
+use Rattle.strm_script_parse.specs.Reading.{ended, ended_at, plan_of, fresh_name, driver_at, setup_arity, setup_at, setup_onto, declared_at, has_room, with_stream, stream_onto, process_name, with_process, process_onto, has_feed, with_feed, leads_to, feed_onto, link_at, with_link, link_onto, call_at, with_call, call_onto, Carrying, carry_at, with_carries, take_from, carry_onto, await_of, with_await, only_field, await_onto, is_await, is_carry, is_link, process_line_onto, other_onto, with_message, message_onto, fed_onto, inner_onto, outside, word_onto, fields_in, fields_onto, line_onto, modules_after, nothing_yet, FaultAt, lines_onto, then_lines}
 use Rattle.strm_script_parse.specs.Targets.{stream_names, stream_at}
 use Rattle.strm_script_parse.specs.Expected.{call_fields, reply_fields, expected_of}
 use Rattle.strm_script_parse.specs.Sound.{end_is_there, line_is_there, AreCallsThere, AreAwaits, IsSound}
@@ -396,12 +396,12 @@ carry_keeps d e process texts is k =
 abbrev fed : Fed → Msg → Fed
 fed feed m = record { stream = feed.stream; messages = feed.messages ++ m ∷ [] }
 
-message_keeps : {K : Type 0} (d e : Partial K) (feed : Fed) (word : MessageWord) (texts : List (List ℕ)) → message_onto d feed word texts ≡ Ok e → IsDraft (record d { place = In_feed feed }) → Keeps d e
+message_keeps : {K : Type 0} (d : Partial K) (feed after : Fed) (word : MessageWord) (texts : List (List ℕ)) → message_onto feed word texts ≡ Ok after → IsDraft (record d { place = In_feed feed }) → Keeps d (record d { place = In_feed after })
 unfolding message_onto
-message_keeps d e feed word texts is k =
-    through (message_at word texts) (λ m. with_message d feed m) e is (λ m read is.
-    passed (nat_lt (length feed.messages) MOST_MESSAGES) (Ok (record d { place = In_feed (fed feed m) })) e causes.TooMany is (λ _ is.
-    same (Keeps d) (record d { place = In_feed (fed feed m) }) e is (record {
+message_keeps d feed after word texts is k =
+    through (message_at word texts) (λ m. with_message feed m) after is (λ m read is.
+    passed (nat_lt (length feed.messages) MOST_MESSAGES) (Ok (fed feed m)) after causes.TooMany is (λ _ is.
+    same (λ (f : Fed). Keeps d (record d { place = In_feed f })) (fed feed m) after is (record {
       kept = record {
         setups = k.setups;
         few_streams = k.few_streams;
@@ -425,7 +425,10 @@ process_line_keeps words n d e process word texts is k =
 inner_keeps : {K : Type 0} (words : KindWords K) (n : ℕ) (d e : Partial K) (place : Place K) (word : List ℕ) (texts : List (List ℕ)) → inner_onto words n d place word texts ≡ Ok e → IsDraft (record d { place = place }) → Keeps d e
 inner_keeps words n d e Nowhere word texts is k = absurd cc
 inner_keeps words n d e (In_process process) word texts is k = process_line_keeps words n d e process word texts is k
-inner_keeps words n d e (In_feed feed) word texts is k = through (or_fault (outside word) (message_named word)) (λ m. message_onto d feed m texts) e is (λ m _ is. message_keeps d e feed m texts is k)
+inner_keeps words n d e (In_feed feed) word texts is k =
+    through (fed_onto feed word texts) (λ after. Ok (record d { place = In_feed after })) e is (λ after read is.
+    same (Keeps d) (record d { place = In_feed after }) e is (
+    through (or_fault (outside word) (message_named word)) (λ m. message_onto feed m texts) after read (λ m _ read. message_keeps d feed after m texts read k)))
 
 -- what a line keeps of what has ended, it keeps
 since_ended : {K : Type 0} (d e : Partial K) → Keeps (ended d) e → Keeps d e

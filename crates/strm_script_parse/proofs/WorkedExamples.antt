@@ -182,11 +182,11 @@ await_65536 d process many = rw many refl
 await_65537 : (d : Partial Kind) (process : Process Kind) → length process.awaits ≡ 65536 → with_await d process (0, Line) ≡ Err causes.TooMany
 await_65537 d process many = rw many refl
 
-message_65536 : (d : Partial Kind) (feed : Fed) → length feed.messages ≡ 65535 → is_ok (with_message d feed (data_msg 0 [])) ≡ true
-message_65536 d feed many = rw many refl
+message_65536 : (feed : Fed) → length feed.messages ≡ 65535 → is_ok (with_message feed (data_msg 0 [])) ≡ true
+message_65536 feed many = rw many refl
 
-message_65537 : (d : Partial Kind) (feed : Fed) → length feed.messages ≡ 65536 → with_message d feed (data_msg 0 []) ≡ Err causes.TooMany
-message_65537 d feed many = rw many refl
+message_65537 : (feed : Fed) → length feed.messages ≡ 65536 → with_message feed (data_msg 0 []) ≡ Err causes.TooMany
+message_65537 feed many = rw many refl
 
 -- of a comment, which has no fields
 longest_line : fields_in (35 ∷ replicate 16383 97) ≡ Ok []

@@ -18,6 +18,7 @@ use Rattle.strm_script_parse.specs.declared.plan.LinkDecl.{LinkDecl}
 use Rattle.strm_script_parse.specs.declared.plan.Plan.{Plan}
 use Rattle.strm_script_parse.specs.declared.plan.Names.{Names}
 use Rattle.strm_script_parse.specs.declared.draft.Current.{Current}
+use Rattle.strm_script_parse.specs.declared.draft.Ended.{Ended}
 use Rattle.strm_script_parse.specs.declared.draft.Draft.{Draft}
 
 -- a call: the number of its stream, the end, and the request
@@ -150,17 +151,21 @@ feed_place feed = In_feed (feed_view feed)
 -- the process or feed that goes on
 abbrev pub place_view : {K : Type 0} → Current (Shape K) → Place K
 place_view Current.Nowhere = Nowhere
-place_view (Current.Process process) = process_place process.value
+place_view (Current.Process process) = process_place process
 place_view (Current.Feed feed) = feed_place feed
+
+-- a plan where something goes on, by what has ended
+abbrev pub ended_view : {K : Type 0} → Ended (Shape K) → Place K → Partial K
+ended_view ended place =
+    record {
+      streams = streams_of ended.streams.map;
+      processes = map process_view ended.processes.items;
+      feeds = map feed_view ended.feeds.items;
+      links = map link_view ended.links.items;
+      modules = ended.modules;
+      place = place;
+    }
 
 -- a plan while it is read
 abbrev pub draft_view : {K : Type 0} → Draft (Shape K) → Partial K
-draft_view draft =
-    record {
-      streams = streams_of draft.streams.map;
-      processes = map process_view draft.processes.items;
-      feeds = map feed_view draft.feeds.items;
-      links = map link_view draft.links.items;
-      modules = draft.modules;
-      place = place_view draft.current;
-    }
+draft_view draft = ended_view draft.ended (place_view draft.current)

@@ -389,15 +389,15 @@ carry_onto d process texts =
 
 -- ---- a message of a feed
 
--- the plan with one more message of the feed that goes on
-abbrev pub with_message : {K : Type 0} → Partial K → Fed → Msg → Result (Partial K) Cause
-with_message d feed m =
-    if nat_lt (length feed.messages) MOST_MESSAGES then Ok (record d { place = In_feed (record { stream = feed.stream; messages = feed.messages ++ m ∷ [] }) })
+-- the feed with one more message
+abbrev pub with_message : Fed → Msg → Result Fed Cause
+with_message feed m =
+    if nat_lt (length feed.messages) MOST_MESSAGES then Ok (record { stream = feed.stream; messages = feed.messages ++ m ∷ [] })
     else Err causes.TooMany
 
--- the plan behind a message line
-unfoldable pub message_onto : {K : Type 0} → Partial K → Fed → MessageWord → List (List ℕ) → Result (Partial K) Cause
-message_onto d feed word texts = message_at word texts >>= λ m. with_message d feed m
+-- the feed behind a message line
+unfoldable pub message_onto : Fed → MessageWord → List (List ℕ) → Result Fed Cause
+message_onto feed word texts = message_at word texts >>= λ m. with_message feed m
 
 -- ---- a line
 
@@ -424,16 +424,16 @@ process_line_onto words n d process word texts =
     else if is_carry word then carry_onto d process texts
     else or_fault (outside word) (verb_named word) >>= λ verb. call_onto words n d process verb texts
 
--- the plan behind the line of a feed that begins with this word
-abbrev pub fed_onto : {K : Type 0} → Partial K → Fed → List ℕ → List (List ℕ) → Result (Partial K) Cause
-fed_onto d feed word texts = or_fault (outside word) (message_named word) >>= λ m. message_onto d feed m texts
+-- the feed behind a line of it that begins with this word
+abbrev pub fed_onto : Fed → List ℕ → List (List ℕ) → Result Fed Cause
+fed_onto feed word texts = or_fault (outside word) (message_named word) >>= λ m. message_onto feed m texts
 
 -- the plan behind a call, an await or a carry of the process that goes on, or a message of the feed that goes on;
 -- `flush` is a message in a feed, and a call elsewhere
 abbrev pub inner_onto : {K : Type 0} → KindWords K → ℕ → Partial K → Place K → List ℕ → List (List ℕ) → Result (Partial K) Cause
 inner_onto words n d Nowhere word texts = Err (outside word)
 inner_onto words n d (In_process process) word texts = process_line_onto words n d process word texts
-inner_onto words n d (In_feed feed) word texts = fed_onto d feed word texts
+inner_onto words n d (In_feed feed) word texts = fed_onto feed word texts >>= λ after. Ok (record d { place = In_feed after })
 
 -- the plan behind a link, which ends what goes on, or another line of what goes on
 abbrev pub other_onto : {K : Type 0} → KindWords K → ℕ → Partial K → Place K → List ℕ → List (List ℕ) → Result (Partial K) Cause

@@ -1,17 +1,15 @@
 //! A plan while it is read, line by line.
-ghost use Rattle.std.specs.Prelude.{◌≡◌, ◌≤◌, ◌<◌, ◌^◌, true, Ok, None, length, map, IsErrOf};
-ghost use Rattle.strm_script_parse.specs.Plan.{call_view, draft_view, feed_place, feed_view, no_place, process_place};
-ghost use Rattle.strm_script_parse.specs.Plan.{plan_view, process_view, streams_of};
+ghost use Rattle.std.specs.Prelude.{◌≡◌, ◌≤◌, ◌<◌, ◌^◌, true, Ok, length, map, IsErrOf};
+ghost use Rattle.strm_script_parse.specs.Plan.{call_view, draft_view, feed_view, plan_view, streams_of};
 ghost use Rattle.strm_script_parse.specs.Reading as reading;
-ghost use Rattle.strm_script_parse.specs.Reading.{IsTooLong, await_onto, call_onto, carry_onto, ended_at};
-ghost use Rattle.strm_script_parse.specs.Reading.{feed_onto, fields_onto, line_onto};
-ghost use Rattle.strm_script_parse.specs.Reading.{link_onto, message_onto, other_onto, process_onto};
+ghost use Rattle.strm_script_parse.specs.Reading.{IsTooLong, await_onto, call_onto, carry_onto, fed_onto};
+ghost use Rattle.strm_script_parse.specs.Reading.{feed_onto, fields_onto, inner_onto, line_onto};
+ghost use Rattle.strm_script_parse.specs.Reading.{link_onto, message_onto, process_line_onto, process_onto};
 ghost use Rattle.strm_script_parse.specs.Reading.{setup_onto, stream_onto, word_onto};
-ghost use Rattle.strm_script_parse.specs.Reads.{Becomes, Reads, TakesMemoryLast};
+ghost use Rattle.strm_script_parse.specs.Reads.{Becomes, Continues, ContinuesMemoryLast, Reads, TakesMemoryLast};
 ghost use Rattle.strm_script_parse.specs.Section.{takes, with_calls};
 ghost use Rattle.strm_script_text.specs.Text.{texts_of};
 ghost use Rattle.strm_script_words.specs.Fault.{Gives};
-ghost use Rattle.strm_script_words.specs.Table.{verb_named};
 
 use crate::call_line::{call_at, modules_after};
 use crate::carry_line::{carry_at, push_takes, set_carrier};
@@ -59,16 +57,15 @@ const LONGEST_LINE: usize = 16_384;
 enum Current<P> {
     /// Neither a process nor a feed.
     Nowhere,
-    /// A process, in a box, which each of its lines passes on.
-    Process(Box<ProcessDecl<P>>),
+    /// A process.
+    Process(ProcessDecl<P>),
     /// A feed.
     Feed(Feed),
 }
 
-/// A plan while it is read: the processes and feeds that have ended, the links, the number of declared modules,
-/// and the process or feed that goes on.
+/// What was read of a plan, but for the process or feed that goes on.
 #[derive(Drop)]
-pub(crate) struct Draft<P> {
+pub(crate) struct Ended<P> {
     /// The streams that were declared.
     streams: Declared,
     /// The processes that have ended.
@@ -79,6 +76,13 @@ pub(crate) struct Draft<P> {
     links: Vec<LinkDecl>,
     /// The number of modules that all processes have declared.
     modules: u64,
+}
+
+/// A plan while it is read.
+#[derive(Drop)]
+pub(crate) struct Draft<P> {
+    /// What has ended.
+    ended: Ended<P>,
     /// The process or feed that goes on.
     current: Current<P>,
 }
@@ -152,6 +156,139 @@ fn outside(word: &[u8]) -> Cause
     }
 }
 
+/// Reads a message of a feed.
+#[tactic(auto, unfolding(crate::specs::Reading::message_onto))]
+fn message_line(
+    alloc: Global,
+    feed: &mut Feed,
+    word: MessageWord,
+    texts: &[&[u8]],
+) -> Result<(), ReadError>
+    ensures { Gives (λ _. feed_view feed.new) result (message_onto (feed_view feed.old) word (texts_of texts.now)) }
+{
+    let message = message_at(alloc, word, texts)?;
+    if feed.messages.len() >= MOST_MESSAGES {
+        return Err(ReadError::Fault(Cause::TooMany));
+    }
+    feed.messages.push(message)?;
+    Ok(())
+}
+
+/// Reads a line of a feed, by its word.
+fn feed_word(alloc: Global, feed: &mut Feed, word: &[u8], texts: &[&[u8]]) -> Result<(), ReadError>
+    ensures { Gives (λ _. feed_view feed.new) result (fed_onto (feed_view feed.old) word.now (texts_of texts.now)) }
+{
+    match from_keyword(word) {
+        Some(word) => message_line(alloc, feed, word, texts),
+        None => Err(ReadError::Fault(outside(word))),
+    }
+}
+
+impl<M: PlayModule> Ended<BoxedModule<M>>
+where
+    M::Kind: ReadKind,
+{
+    /// Reads a call of a process, in the line of this number.
+    #[tactic(auto, unfolding(crate::specs::Reading::call_onto))]
+    fn call_line(
+        &mut self,
+        alloc: Global,
+        number: u64,
+        process: &mut ProcessDecl<BoxedModule<M>>,
+        verb: Verb,
+        texts: &[&[u8]],
+    ) -> Result<(), ReadError>
+        requires few { length self.old.streams.map.entries ≤ MOST_STREAMS }
+        requires modules { self.old.modules < 2 ^ 63 }
+        ensures { Continues (λ d process. call_onto M.Kind.words number d process verb)
+            texts.now self.old process.old self.new process.new result }
+    {
+        let (texts, replies) = cut_replies(texts);
+        let Declared { map, last } = &mut self.streams;
+        let call = call_at(alloc, map, last, self.modules + 1, verb, texts, replies)?;
+        let many = process.calls.len();
+        if many >= MOST_CALLS {
+            return Err(ReadError::Fault(Cause::TooMany));
+        }
+        add_expected(alloc, &mut process.expected, number, many, replies)?;
+        process.calls.push(alloc, call)?;
+        self.modules = modules_after(verb, self.modules);
+        Ok(())
+    }
+
+    /// Reads the NAME of a line or a wire, whose feed the next call of a process awaits. Takes memory only if
+    /// nothing is wrong.
+    #[tactic(auto, unfolding(crate::specs::Reading::await_onto))]
+    fn await_line(
+        &self,
+        process: &mut ProcessDecl<BoxedModule<M>>,
+        texts: &[&[u8]],
+    ) -> Result<(), ReadError>
+        requires { length self.now.streams.map.entries ≤ MOST_STREAMS }
+        ensures line { Continues await_onto texts.now self.now process.old self.now process.new result }
+        ensures memory { ContinuesMemoryLast await_onto texts.now self.now process.old result }
+    {
+        let [name] = texts else {
+            return Err(ReadError::Fault(Cause::Fields));
+        };
+        let Some((stream, driver)) = stream_at(&self.streams.map, &mut None, name) else {
+            return Err(ReadError::Fault(Cause::NoSuch));
+        };
+        if !driver.is_line() {
+            return Err(ReadError::Fault(Cause::OutOfPlace));
+        }
+        if process.awaits.len() >= MOST_AWAITS {
+            return Err(ReadError::Fault(Cause::TooMany));
+        }
+        let call = process.calls.len();
+        process.awaits.push(Await { call, stream })?;
+        Ok(())
+    }
+
+    /// Reads the NAME of a link and the COUNT of carries on it, each of which is a take of a process. Takes
+    /// memory only if nothing is wrong.
+    #[tactic(auto, unfolding(crate::specs::Reading::carry_onto))]
+    fn carry_line(
+        &mut self,
+        alloc: Global,
+        process: &mut ProcessDecl<BoxedModule<M>>,
+        texts: &[&[u8]],
+    ) -> Result<(), ReadError>
+        requires { length self.old.processes.items ≤ MOST_PROCESSES }
+        ensures line { Continues carry_onto texts.now self.old process.old self.new process.new result }
+        ensures memory { ContinuesMemoryLast carry_onto texts.now self.old process.old result }
+    {
+        let by = self.processes.len() as u32;
+        let carries = carry_at(&self.links, by, process.calls.len(), texts)?;
+        push_takes(alloc, &mut process.calls, carries.from, carries.many)?;
+        set_carrier(&mut self.links, carries.link, by);
+        Ok(())
+    }
+
+    /// Reads a line of a process, by its word.
+    fn process_word(
+        &mut self,
+        alloc: Global,
+        number: u64,
+        process: &mut ProcessDecl<BoxedModule<M>>,
+        word: &[u8],
+        texts: &[&[u8]],
+    ) -> Result<(), ReadError>
+        requires few { length self.old.streams.map.entries ≤ MOST_STREAMS }
+        requires processes { length self.old.processes.items ≤ MOST_PROCESSES }
+        requires modules { self.old.modules < 2 ^ 63 }
+        ensures { Continues (λ d process. process_line_onto M.Kind.words number d process word.now)
+            texts.now self.old process.old self.new process.new result }
+    {
+        match from_keyword(word) {
+            Some(verb) => self.call_line(alloc, number, process, verb, texts),
+            None if is_await(word) => self.await_line(process, texts),
+            None if is_carry(word) => self.carry_line(alloc, process, texts),
+            None => Err(ReadError::Fault(outside(word))),
+        }
+    }
+}
+
 impl<M: PlayModule> Draft<BoxedModule<M>>
 where
     M::Kind: ReadKind,
@@ -161,14 +298,16 @@ where
         ensures { draft_view result ≡ reading.nothing_yet }
     {
         Draft {
-            streams: Declared {
-                map: IndexMap::new(alloc),
-                last: None,
+            ended: Ended {
+                streams: Declared {
+                    map: IndexMap::new(alloc),
+                    last: None,
+                },
+                processes: Vec::new(alloc),
+                feeds: Vec::new(alloc),
+                links: Vec::new(alloc),
+                modules: 0,
             },
-            processes: Vec::new(alloc),
-            feeds: Vec::new(alloc),
-            links: Vec::new(alloc),
-            modules: 0,
             current: Current::Nowhere,
         }
     }
@@ -179,8 +318,8 @@ where
     {
         match mem::replace(&mut self.current, Current::Nowhere) {
             Current::Nowhere => Ok(()),
-            Current::Process(process) => Ok(self.processes.push(Box::into_inner(process))?),
-            Current::Feed(feed) => Ok(self.feeds.push(feed)?),
+            Current::Process(process) => Ok(self.ended.processes.push(process)?),
+            Current::Feed(feed) => Ok(self.ended.feeds.push(feed)?),
         }
     }
 
@@ -189,13 +328,13 @@ where
         ensures line { Reads (λ d. setup_onto d driver name.now) texts.now self.old self.new result }
         ensures memory { TakesMemoryLast (λ d. setup_onto d driver name.now) texts.now self.old result }
     {
-        let chosen = stream_name(&self.streams.map, name)?;
+        let chosen = stream_name(&self.ended.streams.map, name)?;
         let setup = setup_at(driver, texts)?;
-        if !has_room(&self.streams.map) {
+        if !has_room(&self.ended.streams.map) {
             return Err(ReadError::Fault(Cause::TooMany));
         }
-        self.streams.last = None;
-        add_stream(&mut self.streams.map, chosen, setup)
+        self.ended.streams.last = None;
+        add_stream(&mut self.ended.streams.map, chosen, setup)
     }
 
     /// Reads NAME DRIVER H D, and RING for a line or a wire. The driver is checked before the number of
@@ -215,29 +354,25 @@ where
         self.add_setup(driver, name, texts)
     }
 
-    /// Reads the NAME of a process, which goes on from here. Takes memory only if nothing is wrong.
+    /// Reads the NAME of a process, which goes on from here. Takes no memory.
     #[tactic(auto, unfolding(crate::specs::Reading::process_onto))]
     fn process_line(&mut self, alloc: Global, texts: &[&[u8]]) -> Result<(), ReadError>
         ensures line { Reads process_onto texts.now self.old self.new result }
-        ensures memory { TakesMemoryLast process_onto texts.now self.old result }
+        ensures memory { IsErrOf result ReadError.Memory → ⊥ }
     {
         let [name] = texts else {
             return Err(ReadError::Fault(Cause::Fields));
         };
-        let name = process_name(&self.processes, name)?;
-        if self.processes.len() >= MOST_PROCESSES {
+        let name = process_name(&self.ended.processes, name)?;
+        if self.ended.processes.len() >= MOST_PROCESSES {
             return Err(ReadError::Fault(Cause::TooMany));
         }
-        let process = ProcessDecl {
+        self.current = Current::Process(ProcessDecl {
             name,
             calls: Script::new(alloc),
             expected: Vec::new(alloc),
             awaits: Vec::new(alloc),
-        };
-        match Box::new(alloc, process) {
-            Ok(process) => self.current = Current::Process(process),
-            Err(_) => return Err(ReadError::Memory),
-        }
+        });
         Ok(())
     }
 
@@ -245,17 +380,20 @@ where
     /// no memory.
     #[tactic(auto, unfolding(crate::specs::Reading::feed_onto))]
     fn feed_line(&mut self, alloc: Global, texts: &[&[u8]]) -> Result<(), ReadError>
-        requires { length self.old.streams.map.entries ≤ MOST_STREAMS }
+        requires { length self.old.ended.streams.map.entries ≤ MOST_STREAMS }
         ensures line { Reads feed_onto texts.now self.old self.new result }
         ensures memory { IsErrOf result ReadError.Memory → ⊥ }
     {
         let [name] = texts else {
             return Err(ReadError::Fault(Cause::Fields));
         };
-        let Some((stream, driver)) = stream_at(&self.streams.map, &mut None, name) else {
+        let Some((stream, driver)) = stream_at(&self.ended.streams.map, &mut None, name) else {
             return Err(ReadError::Fault(Cause::NoSuch));
         };
-        if !driver.is_line() || has_feed(&self.feeds, stream) || leads_to(&self.links, stream) {
+        if !driver.is_line()
+            || has_feed(&self.ended.feeds, stream)
+            || leads_to(&self.ended.links, stream)
+        {
             return Err(ReadError::Fault(Cause::OutOfPlace));
         }
         let messages = Vec::new(alloc);
@@ -266,230 +404,20 @@ where
     /// Reads NAME, FROM and TO of a link, and its rule. Takes memory only if nothing is wrong.
     #[tactic(auto, unfolding(crate::specs::Reading::link_onto))]
     fn link_line(&mut self, texts: &[&[u8]]) -> Result<(), ReadError>
-        requires { length self.old.streams.map.entries ≤ MOST_STREAMS }
+        requires { length self.old.ended.streams.map.entries ≤ MOST_STREAMS }
         ensures line { Reads link_onto texts.now self.old self.new result }
         ensures memory { TakesMemoryLast link_onto texts.now self.old result }
     {
-        let streams = &self.streams;
-        let link = link_at(&streams.map, &self.feeds, &self.links, texts)?;
-        if self.links.len() >= MOST_LINKS {
+        let streams = &self.ended.streams;
+        let link = link_at(&streams.map, &self.ended.feeds, &self.ended.links, texts)?;
+        if self.ended.links.len() >= MOST_LINKS {
             return Err(ReadError::Fault(Cause::TooMany));
         }
-        self.links.push(link)?;
+        self.ended.links.push(link)?;
         Ok(())
     }
 
-    /// Reads a call of the process that goes on, in the line of this number.
-    #[tactic(auto, unfolding(crate::specs::Reading::call_onto))]
-    fn call_line(
-        &mut self,
-        alloc: Global,
-        number: u64,
-        mut process: Box<ProcessDecl<BoxedModule<M>>>,
-        verb: Verb,
-        texts: &[&[u8]],
-    ) -> Result<(), ReadError>
-        requires few { length self.old.streams.map.entries ≤ MOST_STREAMS }
-        requires modules { self.old.modules < 2 ^ 63 }
-        ensures { Reads (λ d. call_onto M.Kind.words number d (process_view process.value) verb)
-            texts.now self.old self.new result }
-    {
-        let (texts, replies) = cut_replies(texts);
-        let Declared { map, last } = &mut self.streams;
-        let call = call_at(alloc, map, last, self.modules + 1, verb, texts, replies)?;
-        let many = process.calls.len();
-        if many >= MOST_CALLS {
-            return Err(ReadError::Fault(Cause::TooMany));
-        }
-        add_expected(alloc, &mut process.expected, number, many, replies)?;
-        process.calls.push(alloc, call)?;
-        self.modules = modules_after(verb, self.modules);
-        self.current = Current::Process(process);
-        Ok(())
-    }
-
-    /// Reads the NAME of a line or a wire, whose feed the next call of the process that goes on awaits. Takes
-    /// memory only if nothing is wrong.
-    #[tactic(auto, unfolding(crate::specs::Reading::await_onto))]
-    fn await_line(
-        &mut self,
-        mut process: Box<ProcessDecl<BoxedModule<M>>>,
-        texts: &[&[u8]],
-    ) -> Result<(), ReadError>
-        requires { length self.old.streams.map.entries ≤ MOST_STREAMS }
-        ensures line { Reads (λ d. await_onto d (process_view process.value))
-            texts.now self.old self.new result }
-        ensures memory { TakesMemoryLast (λ d. await_onto d (process_view process.value))
-            texts.now self.old result }
-    {
-        let [name] = texts else {
-            return Err(ReadError::Fault(Cause::Fields));
-        };
-        let Some((stream, driver)) = stream_at(&self.streams.map, &mut None, name) else {
-            return Err(ReadError::Fault(Cause::NoSuch));
-        };
-        if !driver.is_line() {
-            return Err(ReadError::Fault(Cause::OutOfPlace));
-        }
-        if process.awaits.len() >= MOST_AWAITS {
-            return Err(ReadError::Fault(Cause::TooMany));
-        }
-        let call = process.calls.len();
-        process.awaits.push(Await { call, stream })?;
-        self.current = Current::Process(process);
-        Ok(())
-    }
-
-    /// Reads the NAME of a link and the COUNT of carries on it, each of which is a take of the process that goes
-    /// on. Takes memory only if nothing is wrong.
-    #[tactic(auto, unfolding(crate::specs::Reading::carry_onto))]
-    fn carry_line(
-        &mut self,
-        alloc: Global,
-        mut process: Box<ProcessDecl<BoxedModule<M>>>,
-        texts: &[&[u8]],
-    ) -> Result<(), ReadError>
-        requires { length self.old.processes.items ≤ MOST_PROCESSES }
-        ensures line { Reads (λ d. carry_onto d (process_view process.value))
-            texts.now self.old self.new result }
-        ensures memory { TakesMemoryLast (λ d. carry_onto d (process_view process.value))
-            texts.now self.old result }
-    {
-        let by = self.processes.len() as u32;
-        let carries = carry_at(&self.links, by, process.calls.len(), texts)?;
-        push_takes(alloc, &mut process.calls, carries.from, carries.many)?;
-        set_carrier(&mut self.links, carries.link, by);
-        self.current = Current::Process(process);
-        Ok(())
-    }
-
-    /// Reads a message of the feed that goes on.
-    #[tactic(auto, unfolding(crate::specs::Reading::message_onto))]
-    fn message_line(
-        &mut self,
-        alloc: Global,
-        mut feed: Feed,
-        word: MessageWord,
-        texts: &[&[u8]],
-    ) -> Result<(), ReadError>
-        ensures { Reads (λ d. message_onto d (feed_view feed) word) texts.now self.old self.new result }
-    {
-        let message = message_at(alloc, word, texts)?;
-        if feed.messages.len() >= MOST_MESSAGES {
-            return Err(ReadError::Fault(Cause::TooMany));
-        }
-        feed.messages.push(message)?;
-        self.current = Current::Feed(feed);
-        Ok(())
-    }
-
-    /// Reads a link line behind a process, which ends.
-    fn link_behind_process(
-        &mut self,
-        process: Box<ProcessDecl<BoxedModule<M>>>,
-        texts: &[&[u8]],
-    ) -> Result<(), ReadError>
-        requires { length self.old.streams.map.entries ≤ MOST_STREAMS }
-        ensures { Reads (λ d. link_onto (ended_at d (process_place process.value)))
-            texts.now self.old self.new result }
-    {
-        self.current = Current::Process(process);
-        self.close()?;
-        self.link_line(texts)
-    }
-
-    /// Reads a line of a process, by its word, which is no verb.
-    fn process_other(
-        &mut self,
-        alloc: Global,
-        number: u64,
-        process: Box<ProcessDecl<BoxedModule<M>>>,
-        word: &[u8],
-        texts: &[&[u8]],
-    ) -> Result<(), ReadError>
-        requires few { length self.old.streams.map.entries ≤ MOST_STREAMS }
-        requires processes { length self.old.processes.items ≤ MOST_PROCESSES }
-        requires none { verb_named word.now ≡ None }
-        ensures { Reads (λ d. other_onto M.Kind.words number d (process_place process.value) word.now)
-            texts.now self.old self.new result }
-    {
-        if is_link(word) {
-            return self.link_behind_process(process, texts);
-        }
-        if is_await(word) {
-            return self.await_line(process, texts);
-        }
-        if is_carry(word) {
-            return self.carry_line(alloc, process, texts);
-        }
-        Err(ReadError::Fault(outside(word)))
-    }
-
-    /// Reads a line of a process, by its word.
-    fn process_word(
-        &mut self,
-        alloc: Global,
-        number: u64,
-        process: Box<ProcessDecl<BoxedModule<M>>>,
-        word: &[u8],
-        texts: &[&[u8]],
-    ) -> Result<(), ReadError>
-        requires few { length self.old.streams.map.entries ≤ MOST_STREAMS }
-        requires processes { length self.old.processes.items ≤ MOST_PROCESSES }
-        requires modules { self.old.modules < 2 ^ 63 }
-        ensures { Reads (λ d. other_onto M.Kind.words number d (process_place process.value) word.now)
-            texts.now self.old self.new result }
-    {
-        match from_keyword(word) {
-            Some(verb) => self.call_line(alloc, number, process, verb, texts),
-            None => self.process_other(alloc, number, process, word, texts),
-        }
-    }
-
-    /// Reads a link line behind a feed, which ends.
-    fn link_behind_feed(&mut self, feed: Feed, texts: &[&[u8]]) -> Result<(), ReadError>
-        requires { length self.old.streams.map.entries ≤ MOST_STREAMS }
-        ensures { Reads (λ d. link_onto (ended_at d (feed_place feed))) texts.now self.old self.new result }
-    {
-        self.current = Current::Feed(feed);
-        self.close()?;
-        self.link_line(texts)
-    }
-
-    /// Reads a line of a feed, by its word.
-    fn feed_word(
-        &mut self,
-        alloc: Global,
-        feed: Feed,
-        word: &[u8],
-        texts: &[&[u8]],
-    ) -> Result<(), ReadError>
-        requires { length self.old.streams.map.entries ≤ MOST_STREAMS }
-        ensures { Reads (λ d. other_onto M.Kind.words 0 d (feed_place feed) word.now)
-            texts.now self.old self.new result }
-    {
-        match from_keyword(word) {
-            Some(word) => self.message_line(alloc, feed, word, texts),
-            None if is_link(word) => self.link_behind_feed(feed, texts),
-            None => Err(ReadError::Fault(outside(word))),
-        }
-    }
-
-    /// Reads a line where nothing goes on, by its word: a link, or one that is out of place.
-    fn lone_word(&mut self, word: &[u8], texts: &[&[u8]]) -> Result<(), ReadError>
-        requires { length self.old.streams.map.entries ≤ MOST_STREAMS }
-        ensures { Reads (λ d. other_onto M.Kind.words 0 d no_place word.now)
-            texts.now self.old self.new result }
-    {
-        if is_link(word) {
-            self.current = Current::Nowhere;
-            return self.link_line(texts);
-        }
-        Err(ReadError::Fault(outside(word)))
-    }
-
-    /// Reads a link line, or one of the process or feed that goes on, by its word.
-    #[tactic(auto, unfolding(crate::specs::Reading::await_onto, crate::specs::Reading::call_onto, crate::specs::Reading::carry_onto, crate::specs::Reading::message_onto))]
+    /// Reads a line of the process or feed that goes on, by its word.
     fn inner_line(
         &mut self,
         alloc: Global,
@@ -497,16 +425,18 @@ where
         word: &[u8],
         texts: &[&[u8]],
     ) -> Result<(), ReadError>
-        requires few { length self.old.streams.map.entries ≤ MOST_STREAMS }
-        requires processes { length self.old.processes.items ≤ MOST_PROCESSES }
-        requires modules { self.old.modules < 2 ^ 63 }
-        ensures { Reads (λ d. other_onto M.Kind.words number d d.place word.now)
+        requires few { length self.old.ended.streams.map.entries ≤ MOST_STREAMS }
+        requires processes { length self.old.ended.processes.items ≤ MOST_PROCESSES }
+        requires modules { self.old.ended.modules < 2 ^ 63 }
+        ensures { Reads (λ d. inner_onto M.Kind.words number d d.place word.now)
             texts.now self.old self.new result }
     {
-        match mem::replace(&mut self.current, Current::Nowhere) {
-            Current::Nowhere => self.lone_word(word, texts),
-            Current::Process(process) => self.process_word(alloc, number, process, word, texts),
-            Current::Feed(feed) => self.feed_word(alloc, feed, word, texts),
+        match &mut self.current {
+            Current::Nowhere => Err(ReadError::Fault(outside(word))),
+            Current::Process(process) => {
+                self.ended.process_word(alloc, number, process, word, texts)
+            }
+            Current::Feed(feed) => feed_word(alloc, feed, word, texts),
         }
     }
 
@@ -519,9 +449,9 @@ where
         word: &[u8],
         texts: &[&[u8]],
     ) -> Result<(), ReadError>
-        requires few { length self.old.streams.map.entries ≤ MOST_STREAMS }
-        requires processes { length self.old.processes.items ≤ MOST_PROCESSES }
-        requires modules { self.old.modules < 2 ^ 63 }
+        requires few { length self.old.ended.streams.map.entries ≤ MOST_STREAMS }
+        requires processes { length self.old.ended.processes.items ≤ MOST_PROCESSES }
+        requires modules { self.old.ended.modules < 2 ^ 63 }
         ensures { Reads (λ d. word_onto M.Kind.words number d word.now) texts.now self.old self.new result }
     {
         if word == b"stream".as_slice() {
@@ -536,14 +466,18 @@ where
             self.close()?;
             return self.feed_line(alloc, texts);
         }
+        if is_link(word) {
+            self.close()?;
+            return self.link_line(texts);
+        }
         self.inner_line(alloc, number, word, texts)
     }
 
     /// Reads the line of this number, by its fields. A line without fields adds nothing.
     fn fields_line(&mut self, alloc: Global, number: u64, texts: &[&[u8]]) -> Result<(), ReadError>
-        requires few { length self.old.streams.map.entries ≤ MOST_STREAMS }
-        requires processes { length self.old.processes.items ≤ MOST_PROCESSES }
-        requires modules { self.old.modules < 2 ^ 63 }
+        requires few { length self.old.ended.streams.map.entries ≤ MOST_STREAMS }
+        requires processes { length self.old.ended.processes.items ≤ MOST_PROCESSES }
+        requires modules { self.old.ended.modules < 2 ^ 63 }
         ensures { Reads (fields_onto M.Kind.words number) texts.now self.old self.new result }
     {
         match texts {
@@ -562,9 +496,9 @@ where
         line: &'a [u8],
         texts: &mut Vec<&'a [u8]>,
     ) -> Result<(), ReadError>
-        requires few { length self.old.streams.map.entries ≤ MOST_STREAMS }
-        requires processes { length self.old.processes.items ≤ MOST_PROCESSES }
-        requires modules { self.old.modules < 2 ^ 63 }
+        requires few { length self.old.ended.streams.map.entries ≤ MOST_STREAMS }
+        requires processes { length self.old.ended.processes.items ≤ MOST_PROCESSES }
+        requires modules { self.old.ended.modules < 2 ^ 63 }
         ensures line { Becomes (λ d. line_onto M.Kind.words number d line.now) self.old self.new result }
         ensures length { IsTooLong line.now → IsErrOf result (ReadError.Fault Cause.TooLong) }
     {
@@ -596,7 +530,7 @@ where
     pub(crate) fn streams(&self) -> &IndexMap<Name, Setup>
         ensures { streams_of result.now ≡ (draft_view self.now).streams }
     {
-        &self.streams.map
+        &self.ended.streams.map
     }
 
     /// The plan that the lines make. Fails only when memory runs out.
@@ -604,14 +538,13 @@ where
         ensures { Gives plan_view result (Ok (reading.plan_of (draft_view self))) }
     {
         self.close()?;
-        let Draft {
+        let Ended {
             streams,
             processes,
             feeds,
             links,
             modules: _,
-            current: _,
-        } = self;
+        } = self.ended;
         let Declared { map, last: _ } = streams;
         Ok(Plan {
             streams: map,

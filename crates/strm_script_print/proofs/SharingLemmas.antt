@@ -1,14 +1,16 @@
 -- The lines of streams, each by itself, and all of them.
-use Rattle.std.proofs.Common.{◌≡◌, ℕ, suc, ◌<◌, List, [], ◌∷◌, ◌++◌, length, map, get_or, slice_get, Vec, IfOk, OnOk, Ok, Err, refl, sym, ap, subst, ◌∙◌, arith}
+use Rattle.std.proofs.Common.{◌≡◌, ℕ, suc, ◌<◌, Option, List, [], ◌∷◌, ◌++◌, length, map, get_or, slice_get, Vec, IfOk, OnOk, Ok, Err, refl, sym, ap, subst, ◌∙◌, arith}
 use Rattle.std.proofs.lemmas.List.{length-map}
 use Rattle.std.proofs.Math.ListN.{get_or-map}
 use Rattle.std.specs.Global.{Global}
+use Rattle.std.specs.Io.KnownBytes.{Appends}
 use Rattle.std.specs.declared.result.Result.{Result}
 use Rattle.strm_msg.specs.declared.memory.NoMem.{NoMem}
 use Rattle.strm_shared_entry.specs.declared.transcript.StreamLog.{StreamLog}
+use Rattle.strm_script_text.proofs.WriteLemmas.{appends_then}
 use Rattle.strm_script_parse.specs.Plan.{NamesValue, Streams}
 use Rattle.strm_script_print.specs.Fields.{KindSpelling}
-use Rattle.strm_script_print.specs.Lines.{found_text, numbered_text, stream_text, streams_text, transcript_text}
+use Rattle.strm_script_print.specs.Lines.{found_text, numbered_text, stream_text, streams_text}
 use Rattle.strm_script_print.specs.Sharing.{AreLines, AreLinesOf, AreNumbered, joined}
 
 -- what stands second in each pair, where it is that of the other list at each place
@@ -82,8 +84,13 @@ printed spelling processes (stream ∷ streams) (log ∷ logs) (one ∷ all) man
     ap (λ (text : List ℕ). text ++ joined all) (each 0 one log (omega arith)) ∙ ap (λ (text : List ℕ). stream_text spelling processes stream.0 stream.1 log ++ text) rest
 
 -- the lines of all streams, one after another, are those of the transcript
-pub all_printed : {K : Type 0} (spelling : KindSpelling K) (names : NamesValue) (logs : List (StreamLog K)) (all : List (Vec ℕ Global)) → AreLines spelling names logs all → joined all ≡ transcript_text spelling names logs
+pub all_printed : {K : Type 0} (spelling : KindSpelling K) (names : NamesValue) (logs : List (StreamLog K)) (all : List (Vec ℕ Global)) → AreLines spelling names logs all → joined all ≡ streams_text spelling names.processes names.streams logs
 all_printed spelling names logs all are = printed spelling names.processes names.streams logs all are.many are.each
+
+-- a text is written, and another one behind it
+pub then_written : {T E : Type 0} (r : Result T E) (before between after : Option (List ℕ)) (first second : List ℕ) → Appends before between first → OnOk r (Appends between after second) → OnOk r (Appends before after (first ++ second))
+then_written (Ok x) before between after first second one other = appends_then before between after first second one other
+then_written (Err error) before between after first second one other = tt
 
 -- what holds at any rate holds where there is a value
 pub anyway : {T E : Type 0} (r : Result T E) (P : Type 0) → P → OnOk r P

@@ -23,6 +23,7 @@ use Rattle.strm_script_words.specs.Table.{word_of, asked_of}
 use Rattle.strm_script_parse.specs.Plan.{Streams, NamesValue}
 use Rattle.strm_script_print.specs.Fields.{KindSpelling, spaced, verb_of, fields_of, message_fields}
 use Rattle.strm_script_print.specs.Replies.{answer_fields, name_fields}
+use Rattle.strm_script_print.specs.Links.{links_text}
 
 abbrev pub end_word : End → List ℕ
 end_word A = codes "a"
@@ -113,6 +114,8 @@ streams_text spelling processes [] logs = []
 streams_text spelling processes (stream ∷ streams) [] = []
 streams_text spelling processes (stream ∷ streams) (log ∷ logs) = stream_text spelling processes stream.0 stream.1 log ++ streams_text spelling processes streams logs
 
--- the text of a transcript, by the names of its streams and processes
+-- the text of a transcript, by the names of its streams, processes and links: the streams, and behind them the
+-- links
 abbrev pub transcript_text : {K : Type 0} → KindSpelling K → NamesValue → List (StreamLog K) → List ℕ
-transcript_text spelling names logs = streams_text spelling names.processes names.streams logs
+transcript_text spelling names logs =
+    streams_text spelling names.processes names.streams logs ++ links_text names.streams logs names.links

@@ -5,6 +5,7 @@
 mod entry;
 mod field;
 mod line_buffer;
+mod link;
 mod message;
 mod module;
 mod polled;

@@ -7,6 +7,7 @@ ghost use Rattle.strm_script_parse.specs.Plan.{names_view};
 ghost use Rattle.strm_script_print.specs.Lines.{transcript_text};
 ghost use Rattle.strm_script_print.specs.Sharing.{AreLines, AreLinesOf, AreNumbered, joined};
 
+use crate::link::put_links;
 use crate::module::PrintKind;
 use crate::printing::{print, put_numbered};
 use std::alloc::Global;
@@ -114,6 +115,21 @@ fn put_texts<W: Write>(w: &mut W, texts: &[Vec<u8>]) -> io::Result<()>
     Ok(())
 }
 
+/// Writes the lines of all streams, which were made before, and behind them those of the links.
+#[tactic(auto, using(strm_script_text::proofs::WriteLemmas::appends_then, crate::proofs::SharingLemmas::all_printed))]
+fn put_all<W: Write, K: PrintKind>(
+    w: &mut W,
+    names: &Names,
+    texts: &[Vec<u8>],
+    logs: &[StreamLog<K>],
+) -> io::Result<()>
+    requires { AreLines K.spelling (names_view names.now) logs.now texts.now }
+    ensures { Writes W.contents w.old w.new result (transcript_text K.spelling (names_view names.now) logs.now) }
+{
+    put_texts(w, texts)?;
+    put_links(w, &names.streams, logs, names.links.as_slice())
+}
+
 /// The error of a printing for which memory runs out.
 fn no_memory() -> io::Error
     ensures { error_kind result ≡ OutOfMemory }
@@ -153,5 +169,5 @@ pub fn print_parallel<R: Threads + Sync, W: Write, K: PrintKind + Drop + Send + 
         return Err(no_memory());
     };
     transcript.streams = logs;
-    put_texts(w, texts.as_slice())
+    put_all(w, names, texts.as_slice(), transcript.streams.as_slice())
 }

@@ -4,3 +4,5 @@ pub mod Entry
 pub mod Receipt
 pub mod Called
 pub mod Own
+pub mod Taken
+pub mod Logs

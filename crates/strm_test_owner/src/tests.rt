@@ -1,3 +1,0 @@
-mod editor;
-mod owners;
-mod terminal;

@@ -1,0 +1,6 @@
+mod editor;
+mod ends;
+mod links;
+mod owners;
+mod terminal;
+mod windows;

@@ -1,9 +1,9 @@
 -- The purpose of a line discipline (termio(7)).
-use Rattle.std.specs.Prelude.{◌≡◌, ℕ, ◌+◌, ◌<◌, ◌≤◌, nat_le, Bool, true, false, not, List, [], ◌∷◌, ◌++◌, length, map}
-use Rattle.std.specs.List.{list_all, concat}
+use Rattle.std.specs.Prelude.{◌≡◌, ℕ, ◌||◌, ◌&&◌, if◌then◌else◌, ◌+◌, ◌<◌, ◌≤◌, nat_le, nat_lt, Bool, true, false, not, List, [], ◌∷◌, ◌++◌, length, map}
+use Rattle.std.specs.List.{list_all, concat, flat_map}
 use Rattle.port_termio.specs.declared.modes.Modes.{Modes}
 use Rattle.port_termio.specs.declared.editor.TheConstants.{MAX_CANON}
-use Rattle.port_termio.specs.Edit.{meant, is_nl, is_end, is_erase, is_kill, is_text, shown_line, Typed, and_then, typed}
+use Rattle.port_termio.specs.Edit.{meant, is_nl, is_eof, is_end, is_erase, is_kill, is_text, shown_line, edited, Typed, and_then, typed}
 use Rattle.port_termio.specs.Screen.{Row, after_bytes, Shows}
 
 -- whether all keys are meant as text
@@ -64,6 +64,31 @@ abbrev pub RawIsRead : Type 0
 RawIsRead =
     (modes : Modes) (line keys : List ℕ) → modes.icanon ≡ false → let all = typed modes line keys in
     (concat all.lines ≡ map (meant modes) keys) × (all.line ≡ line)
+
+-- whether no key is meant to take keys back
+abbrev pub take_nothing_back : Modes → List ℕ → Bool
+take_nothing_back modes keys = list_all (λ key. not (is_erase (meant modes key) || is_kill (meant modes key))) keys
+
+-- whether each key of text finds room in its line
+abbrev pub find_room : Modes → List ℕ → List ℕ → Bool
+find_room modes line [] = true
+find_room modes line (key ∷ keys) =
+    (is_end (meant modes key) || nat_lt (length line) MAX_CANON) && find_room modes (edited line (meant modes key)).line keys
+
+-- the byte that a key makes; none for EOF
+abbrev pub byte_typed : ℕ → List ℕ
+byte_typed key = if is_eof key then [] else key ∷ []
+
+abbrev pub bytes_typed : Modes → List ℕ → List ℕ
+bytes_typed modes keys = flat_map (λ key. byte_typed (meant modes key)) keys
+
+-- while there is room, and nothing is taken back, nothing that is typed is lost: the lines that went up and the
+-- line that is being typed are the line before and the keys, in order
+abbrev pub NothingTypedIsLost : Type 0
+NothingTypedIsLost =
+    (modes : Modes) (line keys : List ℕ) → modes.icanon ≡ true → take_nothing_back modes keys ≡ true →
+    find_room modes line keys ≡ true → let all = typed modes line keys in
+    concat all.lines ++ all.line ≡ line ++ bytes_typed modes keys
 
 -- messages may cut the keys anywhere: the second goes on from the line that the first one leaves
 abbrev pub PiecesAreOneTyping : Type 0

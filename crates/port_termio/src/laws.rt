@@ -1,12 +1,13 @@
 //! The promises of a line discipline, as laws of its definitions.
 ghost use Rattle.port_termio.specs.Typing.{MessageIsTyped, RawMessageIsTyped};
-ghost use Rattle.port_termio.specs.EditLaws.{PlainLineIsRead, PlainLineIsShown, EraseTakesBack, KillTakesBackAll, ScreenShowsLine, NothingShownWithoutEcho, RawIsRead, PiecesAreOneTyping, LinesAreShort};
+ghost use Rattle.port_termio.specs.EditLaws.{PlainLineIsRead, PlainLineIsShown, EraseTakesBack, KillTakesBackAll, ScreenShowsLine, NothingShownWithoutEcho, RawIsRead, NothingTypedIsLost, PiecesAreOneTyping, LinesAreShort};
 
 /// States laws, and does nothing: keys go up as they were meant. With ICANON they go up in lines of at most
-/// `LONGEST_LINE` bytes, and without it one by one.
+/// `LONGEST_LINE` bytes, and without it one by one. While a line has room, none of its keys is lost.
 pub fn keys_make_lines()
     ensures plain { PlainLineIsRead }
     ensures raw { RawIsRead }
+    ensures lossless { NothingTypedIsLost }
     ensures short { LinesAreShort }
 {}
 

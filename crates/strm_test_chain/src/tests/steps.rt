@@ -2,7 +2,7 @@
 use super::{Call, Sample, TOP_A, Way, are_same, boxed_message, is_taken, message};
 use std::process::Abort;
 use strm_chain::{Chain, ChainFault, Driver, Place, Record, Spot};
-use strm_module::ModuleOf;
+use strm_module::{BoxedModule, ModuleOf};
 use strm_msg::{Class, End, Errno, Prot, ReadMode};
 
 /// Hands a message in, and returns whether the answer is this one.
@@ -115,12 +115,18 @@ fn undoes<M: ModuleOf>(chain: &mut Chain<M>) -> bool {
     is_unanswered
 }
 
-/// Takes the topmost module out.
-fn removes<M: ModuleOf>(chain: &mut Chain<M>) -> Option<u64> {
-    match chain.remove(End::A) {
+/// The serial of a module that was taken out.
+fn serial_of<M: ModuleOf>(taken: &Option<BoxedModule<M>>) -> Option<u64> {
+    match taken {
         Some(instance) => Some(instance.shape().serial),
         None => None,
     }
+}
+
+/// Takes the topmost module out.
+fn removes<M: ModuleOf>(chain: &mut Chain<M>) -> Option<u64> {
+    let taken = chain.remove(End::A);
+    serial_of(&taken)
 }
 
 fn breaks_off<M: ModuleOf>(chain: &mut Chain<M>) -> bool {

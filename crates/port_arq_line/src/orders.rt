@@ -13,8 +13,8 @@ use strm_script_orders::DrawnOrder;
 /// The number of orders.
 const ORDERS: u64 = 1_000;
 
-/// How often each process makes the calls of its round. Some 60 rounds are the most that the messages took to
-/// arrive in any of the orders.
+/// How often each process makes the calls of its round. In each of the orders the messages have arrived after
+/// half of the rounds.
 const ROUNDS: usize = 150;
 
 /// Two hosts with a wire each, and a link each way. Of 256 frames a link loses 64, doubles 32 and holds 64
